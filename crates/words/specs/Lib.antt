@@ -1,0 +1,3 @@
+pub mod Choice
+pub mod Lists
+pub mod Text

@@ -1,0 +1,1 @@
+// The words that all definitions share. There is no code here.
