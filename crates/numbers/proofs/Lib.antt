@@ -1,0 +1,9 @@
+pub mod Digits
+pub mod Reading
+pub mod Run
+pub mod Number
+pub mod Signed
+pub mod Back
+pub mod Bytes
+pub mod Bounds
+pub mod Put

@@ -1,0 +1,4 @@
+pub mod Decimal
+pub mod Reading
+pub mod Writing
+pub mod Signed
