@@ -1,0 +1,148 @@
+-- Document 01's table of functions, its marks and its buffer families agree with each other, for every number. Assumes nothing.
+use mathlib.Core.Path.{_≡_, refl, ap, sym, _∙_}
+use mathlib.Core.Bool.{Bool, true, false, _&&_, _||_, false≢true}
+use mathlib.Core.List.{List, [], _∷_}
+use Prim.Native.Nat.{ℕ, zero, suc, _+_, _-_, _<_}
+use native.Mathlib.Omega.{arith}
+use native.Mathlib.Nat.{add-zero}
+use lib.Dec.{leb, ltb, eqb}
+use borrow.Author.Tests.{leb-true, eqb-true, eq-eqb}
+use Rattle.words.specs.Choice.{one}
+use Rattle.words.specs.Lists.{any, count}
+use Rattle.facts.specs.Table.{lists, first-function, last-function, is-function, Row, table, fact-of, is-allowed-pending, is-allowed-critical, in-pair, families, family, is-critical}
+use Rattle.facts.specs.Letters.{no-family}
+use Rattle.facts.specs.declared.Place.{Place}
+use Rattle.facts.specs.declared.Place.the-variants as Place
+use Rattle.facts.specs.declared.Result.{Result}
+use Rattle.facts.specs.declared.Result.the-variants as Result
+use Rattle.facts.proofs.Outside.{both-true, how-many, gets, releases, no-fact-outside, no-row-outside, not-pending-outside, not-critical-outside, no-family-outside, no-pair-outside, no-getter-outside, no-releaser-outside}
+
+-- ---- a test computed once over the functions holds for each
+
+-- each of n numbers from lo on passes the test
+abbrev each : (ℕ → Bool) → ℕ → ℕ → Bool
+each t zero lo = true
+each t (suc n) lo = t lo && each t n (suc lo)
+
+each-at : (t : ℕ → Bool) (n lo i : ℕ) → each t n lo ≡ true → i < n → t (lo + i) ≡ true
+each-at t zero lo i h l = absurd (omega arith)
+each-at t (suc n) lo zero h l = ap t (add-zero lo) ∙ both-true (t lo) (each t n (suc lo)) h .0
+each-at t (suc n) lo (suc i) h l =
+    let e : suc lo + i ≡ lo + suc i = omega arith in
+    ap t (sym e) ∙ each-at t n (suc lo) i (both-true (t lo) (each t n (suc lo)) h .1) (omega arith)
+
+-- the functions, and outside of them
+by-functions : (t : ℕ → Bool) → each t how-many first-function ≡ true → ((f : ℕ) → is-function f ≡ false → t f ≡ true) → (f : ℕ) → t f ≡ true
+by-functions t h out f = go (is-function f) refl
+  where
+    go : (u : Bool) → is-function f ≡ u → t f ≡ true
+    go true e =
+        let p = both-true (leb first-function f) (leb f last-function) e in
+        let lo = leb-true first-function f (p .0) in
+        let hi = leb-true f last-function (p .1) in
+        let k : first-function + (f - first-function) ≡ f = omega arith in
+        ap t (sym k) ∙ each-at t how-many first-function (f - first-function) h (omega arith)
+    go false e = out f e
+
+-- two numbers that a computed test finds equal at each function, and that are known outside
+same-numbers : (a b : ℕ → ℕ) → each (λ f. eqb (a f) (b f)) how-many first-function ≡ true → ((f : ℕ) → is-function f ≡ false → a f ≡ b f) → (f : ℕ) → a f ≡ b f
+same-numbers a b h out f = eqb-true (a f) (b f) (by-functions (λ f. eqb (a f) (b f)) h (λ f e. eq-eqb (a f) (b f) (out f e)) f)
+
+same-tests : (a b : ℕ → Bool) → each (λ f. eqb (one (a f)) (one (b f))) how-many first-function ≡ true → ((f : ℕ) → is-function f ≡ false → a f ≡ b f) → (f : ℕ) → a f ≡ b f
+same-tests a b h out f = ones (a f) (b f) (same-numbers (λ f. one (a f)) (λ f. one (b f)) h (λ f e. ap one (out f e)) f)
+  where
+    ones : (t u : Bool) → one t ≡ one u → t ≡ u
+    ones true true e = refl
+    ones true false e = absurd (omega arith)
+    ones false true e = absurd (omega arith)
+    ones false false e = refl
+
+-- ---- rows
+
+abbrev pub rows-with : ℕ → ℕ
+rows-with f = count (λ (r : Row). lists (r .numbers) f) table
+
+-- each of 4 to 232 stands in one row of the table, and no other number in any
+pub one-row-each : (f : ℕ) → rows-with f ≡ one (is-function f)
+unfolding table
+one-row-each = same-numbers rows-with (λ f. one (is-function f)) refl (λ f e. no-row-outside f e ∙ sym (ap one e))
+
+-- ---- marks
+
+abbrev numbers : ℕ → ℕ → List ℕ
+numbers zero lo = []
+numbers (suc n) lo = lo ∷ numbers n (suc lo)
+
+-- 4 to 232
+abbrev pub functions : List ℕ
+functions = numbers how-many first-function
+
+-- 22 functions are allowed with an exception pending, and no other number is
+pub pending-count : count is-allowed-pending functions ≡ 22
+unfolding is-allowed-pending
+pending-count = refl
+
+pub pending-are-functions : (f : ℕ) → is-allowed-pending f ≡ true → is-function f ≡ true
+pending-are-functions f h = go (is-function f) refl
+  where
+    go : (t : Bool) → is-function f ≡ t → t ≡ true
+    go true e = refl
+    go false e = absurd (false≢true (sym (not-pending-outside f e) ∙ h))
+
+-- ---- buffers
+
+abbrev pub is-buffer-result : Result → Bool
+is-buffer-result Result.Local = false
+is-buffer-result Result.Global = false
+is-buffer-result Result.Weak = false
+is-buffer-result Result.Identity = false
+is-buffer-result Result.Buffer = true
+is-buffer-result Result.Status = false
+is-buffer-result Result.Nothing = false
+
+abbrev pub is-buffer-place : Place → Bool
+is-buffer-place Place.Handle = false
+is-buffer-place Place.HandleOrNull = false
+is-buffer-place Place.LocalOrNull = false
+is-buffer-place Place.GlobalOrNull = false
+is-buffer-place Place.WeakOrNull = false
+is-buffer-place Place.Identity = false
+is-buffer-place Place.Buffer = true
+is-buffer-place Place.Unused = false
+
+-- a buffer is got by the first function of a pair
+pub buffers-got : (f : ℕ) → is-buffer-result (fact-of f .result) ≡ any (gets f) families
+unfolding table fact-of
+buffers-got =
+    same-tests (λ f. is-buffer-result (fact-of f .result)) (λ f. any (gets f) families) refl
+    (λ f e. ap (λ x. is-buffer-result (x .result)) (no-fact-outside f e) ∙ sym (no-getter-outside f e))
+
+-- and released, at place b, by the second
+pub buffers-released : (f : ℕ) → is-buffer-place (fact-of f .b) ≡ any (releases f) families
+unfolding table fact-of
+buffers-released =
+    same-tests (λ f. is-buffer-place (fact-of f .b)) (λ f. any (releases f) families) refl
+    (λ f e. ap (λ x. is-buffer-place (x .b)) (no-fact-outside f e) ∙ sym (no-releaser-outside f e))
+
+-- no place but b is a buffer's
+pub buffers-at-b : (f : ℕ) → (is-buffer-place (fact-of f .a) || is-buffer-place (fact-of f .c)) ≡ false
+unfolding table fact-of
+buffers-at-b =
+    same-tests (λ f. is-buffer-place (fact-of f .a) || is-buffer-place (fact-of f .c)) (λ f. false) refl
+    (λ f e. ap (λ x. is-buffer-place (x .a) || is-buffer-place (x .c)) (no-fact-outside f e))
+
+-- ---- families
+
+-- a function stands in one pair at most, and in one exactly where it has a family
+pub one-family-each : (f : ℕ) → count (in-pair f) families ≡ one (ltb (family f) no-family)
+unfolding family
+one-family-each =
+    same-numbers (λ f. count (in-pair f) families) (λ f. one (ltb (family f) no-family)) refl
+    (λ f e. no-pair-outside f e ∙ sym (ap (λ k. one (ltb k no-family)) (no-family-outside f e)))
+
+-- the critical families are those of 222 to 225
+pub critical-families : (f : ℕ) → is-critical (family f) ≡ is-allowed-critical f
+unfolding family is-critical is-allowed-critical
+critical-families =
+    same-tests (λ f. is-critical (family f)) is-allowed-critical refl
+    (λ f e. ap is-critical (no-family-outside f e) ∙ sym (not-critical-outside f e))

@@ -1,0 +1,3 @@
+pub mod Outside
+pub mod Letters
+pub mod FactsAgree
