@@ -1,0 +1,101 @@
+-- Lines worked out from the definitions alone. Assumes nothing.
+use mathlib.Core.Path.{_≡_, refl}
+use mathlib.Core.List.{List, [], _∷_, _++_, map}
+use Prim.Native.Nat.{ℕ}
+use Prim.Native.String.{String}
+use lib.IntN.{pos, negsuc}
+use lib.ListN.{length, replicate}
+use Rattle.words.specs.Text.{bytes, with-tabs}
+use Rattle.numbers.specs.Decimal.{read-on, digits, digits-in}
+use Rattle.facts.specs.Table.{table, fact-of}
+use Rattle.lines.specs.Line.{N, X, C, R, Z}
+use Rattle.lines.specs.Reading.{Read, says, refused, fields, numbers, enter-of, leave-of, call-of, return-of, end-of, line-of, of-fields, read}
+use Rattle.lines.specs.Writing.{tabbed, written}
+
+-- a line with its tabs shown as spaces, and what it says
+pub record Worked : Type 0 where
+  pub line : String
+  pub reading : Read
+
+infix 80 _reads_
+abbrev pub _reads_ : String → Read → Worked
+s reads r = record { line = s; reading = r }
+
+abbrev pub worked : List Worked
+worked =
+    "N 1 100 5\n" reads says (N 1 100 (5 ∷ []))
+    ∷ "C 1 100 169 5 0 0 0\n" reads says (C 1 100 169 5 0 0 (pos 0))
+    ∷ "R 1 169 8000 0\n" reads says (R 1 169 (pos 8000) 0)
+    ∷ "X 1 5\n" reads says (X 1 5)
+    ∷ "Z\n" reads says Z
+    -- ranges
+    ∷ "X 16 4294967295\n" reads says (X 16 4294967295)
+    ∷ "X 16 4294967296\n" reads refused 3
+    ∷ "X 17 5\n" reads refused 3
+    ∷ "X 0 5\n" reads refused 3
+    ∷ "X 1 -1\n" reads refused 3
+    ∷ "X 1 999999999999999999999999999999\n" reads refused 3
+    ∷ "N 1 0\n" reads refused 3
+    ∷ "N 1 100 0\n" reads refused 3
+    ∷ "N 1 100 6\n" reads refused 3
+    ∷ "N 1 100 1 5 9 13 17 21 25 29\n" reads says (N 1 100 (1 ∷ 5 ∷ 9 ∷ 13 ∷ 17 ∷ 21 ∷ 25 ∷ 29 ∷ []))
+    ∷ "C 1 100 3 0 0 0 0\n" reads refused 3
+    ∷ "C 1 100 233 0 0 0 0\n" reads refused 3
+    ∷ "C 1 0 4 0 0 0 0\n" reads refused 3
+    ∷ "C 1 100 31 5 1 0 0\n" reads refused 3
+    ∷ "C 1 100 31 5 0 0 1\n" reads refused 3
+    ∷ "C 1 100 19 0 0 0 -5\n" reads says (C 1 100 19 0 0 0 (negsuc 4))
+    ∷ "R 1 19 -2147483648 0\n" reads says (R 1 19 (negsuc 2147483647) 0)
+    ∷ "R 1 19 -2147483649 0\n" reads refused 3
+    ∷ "R 1 19 2147483647 0\n" reads says (R 1 19 (pos 2147483647) 0)
+    ∷ "R 1 19 2147483648 0\n" reads refused 3
+    ∷ "R 1 31 9 1\n" reads says (R 1 31 (pos 9) 1)
+    ∷ "R 1 31 10 1\n" reads refused 3
+    ∷ "R 1 31 9 2\n" reads refused 3
+    ∷ "R 1 31 -9 1\n" reads refused 3
+    ∷ "R 1 4 1 0\n" reads refused 3
+    -- letter, field count and number form, before any range
+    ∷ "X 01 5\n" reads refused 2
+    ∷ "N 17 01\n" reads refused 2
+    ∷ "X 1 -0\n" reads refused 2
+    ∷ "X 1 -\n" reads refused 2
+    ∷ "X 1 +1\n" reads refused 2
+    ∷ "X 1\n" reads refused 2
+    ∷ "X 1 5 5\n" reads refused 2
+    ∷ "N 1 100 1 5 9 13 17 21 25 29 33\n" reads refused 2
+    ∷ "X 1 5 \n" reads refused 2
+    ∷ "X  5\n" reads refused 2
+    ∷ "X 1 5\r\n" reads refused 2
+    ∷ "X 1 5\n\n" reads refused 2
+    ∷ "Y 1 5\n" reads refused 2
+    ∷ "XX 1 5\n" reads refused 2
+    ∷ "\n" reads refused 2
+    -- no LF
+    ∷ "" reads refused 1
+    ∷ "X 1 5" reads refused 1
+    ∷ "X 1 5\nX" reads refused 1
+    ∷ []
+
+pub worked-lines : map (λ (w : Worked). read (with-tabs (bytes (w .line)))) worked ≡ map (λ (w : Worked). w .reading) worked
+unfolding read of-fields fields numbers line-of enter-of leave-of call-of return-of end-of read-on fact-of table
+worked-lines = refl
+
+-- 128 and 129 bytes before the LF
+abbrev pub digits-then-line-feed : ℕ → List ℕ
+digits-then-line-feed n = with-tabs (bytes "X 1 ") ++ replicate n 57 ++ bytes "\n"
+
+pub longest-line : (length (digits-then-line-feed 124) ≡ 129) × (read (digits-then-line-feed 124) ≡ refused 3)
+unfolding read of-fields fields numbers line-of enter-of leave-of call-of return-of end-of read-on fact-of table
+longest-line = (refl, refl)
+
+pub too-long : (length (digits-then-line-feed 125) ≡ 130) × (read (digits-then-line-feed 125) ≡ refused 1)
+unfolding read of-fields fields numbers line-of enter-of leave-of call-of return-of end-of read-on fact-of table
+too-long = (refl, refl)
+
+pub written-lines : (written (N 1 100 (5 ∷ [])) ≡ with-tabs (bytes "N 1 100 5\n"))
+    × (written (C 1 100 19 0 0 0 (negsuc 4)) ≡ with-tabs (bytes "C 1 100 19 0 0 0 -5\n"))
+    × (written (R 1 19 (negsuc 2147483647) 0) ≡ with-tabs (bytes "R 1 19 -2147483648 0\n"))
+    × (written (X 16 4294967295) ≡ with-tabs (bytes "X 16 4294967295\n"))
+    × (written Z ≡ with-tabs (bytes "Z\n"))
+unfolding written tabbed digits digits-in
+written-lines = (refl, refl, refl, refl, refl)

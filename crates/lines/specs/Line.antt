@@ -1,0 +1,164 @@
+-- A line of a trace, and which lines document 01 allows by themselves. Assumes nothing.
+use Prim.Native.Nat.{ℕ, suc, _%_}
+use mathlib.Core.Bool.{Bool, true, false, not, _&&_, _||_}
+use mathlib.Core.List.{List, [], _∷_}
+use lib.Dec.{eqb, leb}
+use lib.IntN.{ℤ, pos, negsuc}
+use lib.ListN.{length}
+use Rattle.words.specs.Choice.{if_then_else_, within}
+use Rattle.words.specs.Lists.{any}
+use Rattle.facts.specs.Table.{fact-of, is-function}
+use Rattle.facts.specs.Named.{PushLocalFrame, EnsureLocalCapacity}
+use Rattle.facts.specs.declared.Place.{Place}
+use Rattle.facts.specs.declared.Place.the-variants as Place
+use Rattle.facts.specs.declared.Result.{Result}
+use Rattle.facts.specs.declared.Result.the-variants as Result
+
+pub data Line : Type 0 where
+  -- Java enters native: thread env, then 0 to 8 handles
+  N : ℕ → ℕ → List ℕ → Line
+  -- native returns to Java: thread result
+  X : ℕ → ℕ → Line
+  -- C calls a JNI function: thread env function a b c n
+  C : ℕ → ℕ → ℕ → ℕ → ℕ → ℕ → ℤ → Line
+  -- the function returns: thread function result pending
+  R : ℕ → ℕ → ℤ → ℕ → Line
+  -- end of the run
+  Z : Line
+
+-- ---- by the kind of line: what `f` says of its fields, else `d`
+
+module _ {ℓ} {A : Type ℓ} where
+  infixr 1 if-N_then_else_
+  abbrev pub if-N_then_else_ : Line → (ℕ → ℕ → List ℕ → A) → A → A
+  if-N N t env hs then f else d = f t env hs
+  if-N X t r then f else d = d
+  if-N C t env g a b c n then f else d = d
+  if-N R t g r p then f else d = d
+  if-N Z then f else d = d
+
+  infixr 1 if-X_then_else_
+  abbrev pub if-X_then_else_ : Line → (ℕ → ℕ → A) → A → A
+  if-X N t env hs then f else d = d
+  if-X X t r then f else d = f t r
+  if-X C t env g a b c n then f else d = d
+  if-X R t g r p then f else d = d
+  if-X Z then f else d = d
+
+  infixr 1 if-C_then_else_
+  abbrev pub if-C_then_else_ : Line → (ℕ → ℕ → ℕ → ℕ → ℕ → ℕ → ℤ → A) → A → A
+  if-C N t env hs then f else d = d
+  if-C X t r then f else d = d
+  if-C C t env g a b c n then f else d = f t env g a b c n
+  if-C R t g r p then f else d = d
+  if-C Z then f else d = d
+
+  infixr 1 if-R_then_else_
+  abbrev pub if-R_then_else_ : Line → (ℕ → ℕ → ℤ → ℕ → A) → A → A
+  if-R N t env hs then f else d = d
+  if-R X t r then f else d = d
+  if-R C t env g a b c n then f else d = d
+  if-R R t g r p then f else d = f t g r p
+  if-R Z then f else d = d
+
+  infixr 1 if-Z_then_else_
+  abbrev pub if-Z_then_else_ : Line → A → A → A
+  if-Z N t env hs then f else d = d
+  if-Z X t r then f else d = d
+  if-Z C t env g a b c n then f else d = d
+  if-Z R t g r p then f else d = d
+  if-Z Z then f else d = f
+
+-- ---- ranges
+
+-- handles, identities, buffers and envs go up to here
+abbrev pub largest : ℕ
+largest = 4294967295
+
+abbrev pub largest-i32 : ℕ
+largest-i32 = 2147483647
+
+abbrev pub threads : ℕ
+threads = 16
+
+abbrev pub most-handles : ℕ
+most-handles = 8
+
+-- a line has at most 128 bytes before LF
+abbrev pub longest : ℕ
+longest = 128
+
+-- the kind of a handle: 1 local, 2 global, 3 weak; identities have 0
+abbrev pub kind : ℕ → ℕ
+kind h = h % 4
+
+abbrev pub is-thread : ℕ → Bool
+is-thread t = within 1 threads t
+
+abbrev pub is-env : ℕ → Bool
+is-env e = within 1 largest e
+
+-- from 0 to `largest`
+abbrev pub is-value : ℕ → Bool
+is-value v = leb v largest
+
+-- N handles are local kind; null arguments are left out
+abbrev pub is-argument : ℕ → Bool
+is-argument h = eqb (kind h) 1 && is-value h
+
+-- a signed 32-bit number
+abbrev pub is-i32 : ℤ → Bool
+is-i32 (pos n) = leb n largest-i32
+is-i32 (negsuc n) = leb n largest-i32
+
+abbrev pub is-zero : ℤ → Bool
+is-zero (pos n) = eqb n 0
+is-zero (negsuc n) = false
+
+-- an unused place is written 0
+abbrev pub place-allows : Place → ℕ → Bool
+place-allows Place.Unused v = eqb v 0
+place-allows Place.Handle v = is-value v
+place-allows Place.HandleOrNull v = is-value v
+place-allows Place.LocalOrNull v = is-value v
+place-allows Place.GlobalOrNull v = is-value v
+place-allows Place.WeakOrNull v = is-value v
+place-allows Place.Identity v = is-value v
+place-allows Place.Buffer v = is-value v
+
+-- capacity n is used by 19 and 26 only, else 0
+abbrev pub capacity-allows : ℕ → ℤ → Bool
+capacity-allows f n = if eqb f PushLocalFrame || eqb f EnsureLocalCapacity then is-i32 n else is-zero n
+
+-- a value of which a test holds
+abbrev pub value-allows : (ℕ → Bool) → ℤ → Bool
+value-allows test (pos v) = is-value v && test v
+value-allows test (negsuc v) = false
+
+-- handle of that kind or 0
+abbrev pub is-made : ℕ → ℕ → Bool
+is-made k v = eqb v 0 || eqb (kind v) k
+
+abbrev pub result-allows : Result → ℤ → Bool
+result-allows Result.Local = value-allows (is-made 1)
+result-allows Result.Global = value-allows (is-made 2)
+result-allows Result.Weak = value-allows (is-made 3)
+result-allows Result.Identity = value-allows (is-made 0)
+result-allows Result.Buffer = value-allows (λ v. true)
+result-allows Result.Status = is-i32
+result-allows Result.Nothing = is-zero
+
+-- every field is in range and as its function has it
+abbrev pub is-allowed : Line → Bool
+is-allowed (N t env hs) = is-thread t && is-env env && leb (length hs) most-handles && not (any (λ (h : ℕ). not (is-argument h)) hs)
+is-allowed (X t r) = is-thread t && is-value r
+is-allowed (C t env f a b c n) =
+    is-thread t
+    && is-env env
+    && is-function f
+    && place-allows (fact-of f .a) a
+    && place-allows (fact-of f .b) b
+    && place-allows (fact-of f .c) c
+    && capacity-allows f n
+is-allowed (R t f r p) = is-thread t && is-function f && result-allows (fact-of f .result) r && leb p 1
+is-allowed Z = true
