@@ -1,0 +1,122 @@
+// The writer of lines for C: one function for each kind of line, on numbers and a lent byte slice.
+use lines::Event;
+use lines::Wrote;
+ghost use mathlib.Core.Path.{_≡_};
+ghost use Rattle.lines.specs.declared.Event.the-variants.{Enter, Leave, Call, Return, End};
+ghost use Rattle.lines.specs.Events.{meant, wrote, left};
+ghost use Rattle.recorder.specs.Told.{told, no-handles};
+
+// Writes the line of an event at the start of d and tells how many bytes it has, or, below zero, the number given instead.
+fn tell(d: &mut [u8], e: Event, handles: &[u32; 8]) -> i32
+    ensures { λ r. ⌜ r ≡ told (wrote (meant e (now (handles .entry))) (now (d .entry))) ⌝ }
+    ensures { λ _. ⌜ now (d .exit) ≡ left (meant e (now (handles .entry))) (now (d .entry)) ⌝ }
+{
+    match writer::write_line(d, e, handles) {
+        Wrote::Bytes(n) => n as i32,
+        Wrote::Refused(k) => 0 - (k as i32),
+    }
+}
+
+// N: Java enters native. The first `count` of the eight slots are its handles, and the others are 0.
+#[no_mangle]
+pub extern "C" fn weir_enter(
+    d: &mut [u8],
+    thread: u32,
+    env: u32,
+    count: u32,
+    handles: &[u32; 8],
+) -> i32
+    ensures { λ r. ⌜ r ≡ told (wrote (meant (Enter thread env count) (now (handles .entry))) (now (d .entry))) ⌝ }
+    ensures { λ _. ⌜ now (d .exit) ≡ left (meant (Enter thread env count) (now (handles .entry))) (now (d .entry)) ⌝ }
+{
+    tell(
+        d,
+        Event::Enter {
+            thread: thread,
+            env: env,
+            count: count,
+        },
+        handles,
+    )
+}
+
+// X: native returns to Java. The result is 0 where no object is returned.
+#[no_mangle]
+pub extern "C" fn weir_leave(d: &mut [u8], thread: u32, result: u32) -> i32
+    ensures { λ r. ⌜ r ≡ told (wrote (meant (Leave thread result) no-handles) (now (d .entry))) ⌝ }
+    ensures { λ _. ⌜ now (d .exit) ≡ left (meant (Leave thread result) no-handles) (now (d .entry)) ⌝ }
+{
+    tell(
+        d,
+        Event::Leave {
+            thread: thread,
+            result: result,
+        },
+        &[0; 8],
+    )
+}
+
+// C: C calls a JNI function. A place that the function does not use is 0, and so is n but for 19 and 26.
+#[no_mangle]
+pub extern "C" fn weir_call(
+    d: &mut [u8],
+    thread: u32,
+    env: u32,
+    function: u32,
+    a: u32,
+    b: u32,
+    c: u32,
+    n: i32,
+) -> i32
+    ensures { λ r. ⌜ r ≡ told (wrote (meant (Call thread env function a b c n) no-handles) (now (d .entry))) ⌝ }
+    ensures { λ _. ⌜ now (d .exit) ≡ left (meant (Call thread env function a b c n) no-handles) (now (d .entry)) ⌝ }
+{
+    tell(
+        d,
+        Event::Call {
+            thread: thread,
+            env: env,
+            function: function,
+            a: a,
+            b: b,
+            c: c,
+            n: n,
+        },
+        &[0; 8],
+    )
+}
+
+// R: the function returns. What it gives is its status, or its result where it has no status; the other is 0.
+#[no_mangle]
+pub extern "C" fn weir_return(
+    d: &mut [u8],
+    thread: u32,
+    function: u32,
+    result: u32,
+    status: i32,
+    pending: u32,
+) -> i32
+    ensures { λ r. ⌜ r ≡ told (wrote (meant (Return thread function result status pending) no-handles) (now (d .entry))) ⌝ }
+    ensures { λ _. ⌜ now (d .exit) ≡ left (meant (Return thread function result status pending) no-handles) (now (d .entry)) ⌝ }
+{
+    tell(
+        d,
+        Event::Return {
+            thread: thread,
+            function: function,
+            result: result,
+            status: status,
+            pending: pending,
+        },
+        &[0; 8],
+    )
+}
+
+// Z: the end of the run.
+#[no_mangle]
+pub extern "C" fn weir_end(d: &mut [u8]) -> i32
+    ensures { λ r. ⌜ r ≡ told (wrote (meant End no-handles) (now (d .entry))) ⌝ }
+    ensures { λ _. ⌜ now (d .exit) ≡ left (meant End no-handles) (now (d .entry)) ⌝ }
+{
+    tell(d, Event::End, &[0; 8])
+}
