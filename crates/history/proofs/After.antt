@@ -1,0 +1,82 @@
+-- How many handles alive, and how many buffers outstanding, pass a test after a line. Assumes nothing.
+use Prim.Native.Nat.{ℕ, zero, suc, _+_}
+use mathlib.Core.Path.{_≡_, refl, ap, _∙_, fun-ext}
+use mathlib.Core.Bool.{Bool, true, false, not, _&&_}
+use mathlib.Core.List.{List, [], _∷_, List·Memᴰ}
+use native.Mathlib.Omega.{arith}
+use lib.Dec.{ltb}
+use lib.IntN.{ℤ}
+use Rattle.words.specs.Choice.{one}
+use Rattle.words.specs.Lists.{count, keep, but-first}
+use Rattle.facts.specs.Table.{fact-of}
+use Rattle.lines.specs.Line.{Line, C, Z}
+use Rattle.history.specs.Past.{History, thread-of}
+use Rattle.history.specs.Frames.{depth}
+use Rattle.history.specs.Handles.{Alive, local, shared, makes, deletes, ends, living}
+use Rattle.history.specs.Buffers.{Pin, pin, same-pin, is-buffer-place, gets, releases, outstanding}
+use Rattle.history.proofs.Tests.{true-not-false}
+use Rattle.history.proofs.Counts.{count-append, count-keep, count-but-first, keep-all, some-member}
+use Rattle.history.proofs.Threads.{other-depth}
+use Rattle.history.proofs.Living.{frame-stands}
+use Rattle.history.proofs.Buffers.{same-pin-is}
+
+none-first : {A : Type 0} (l : List A) → but-first (λ (x : A). false) l ≡ l
+none-first [] = refl
+none-first {A} (x ∷ l) = ap (λ (m : List A). x ∷ m) (none-first l)
+
+-- those made, and those of before that did not end
+pub living-after : (test : Alive → Bool) (e : Line) (past : History)
+    → count test (living (e ∷ past)) ≡ count test (makes e (depth (thread-of e) past)) + count (λ x. not (ends e past x) && test x) (living past)
+unfolding living
+living-after test e past =
+    omega (
+      arith,
+      count-append test (makes e (depth (thread-of e) past)) (keep (λ (x : Alive). not (ends e past x)) (living past)),
+      count-keep test (λ (x : Alive). not (ends e past x)) (living past),
+    )
+
+-- those got, and those of before without the first that is released
+pub outstanding-after : (test : Pin → Bool) (e : Line) (past : History)
+    → count test (outstanding (e ∷ past)) ≡ count test (gets e) + count test (but-first (releases e) (outstanding past))
+unfolding outstanding
+outstanding-after test e past = count-append test (gets e) (but-first (releases e) (outstanding past))
+
+-- ---- a C that releases, and one that does not
+
+module _ (t env f a b c : ℕ) (n : ℤ) where
+  pub releasing : (q : Bool) → is-buffer-place (fact-of f .b) ≡ q → releases (C t env f a b c n) ≡ (λ x. q && same-pin (pin t f b) x)
+  unfolding releases
+  releasing q is = fun-ext λ x. ap (λ (u : Bool). u && same-pin (pin t f b) x) is
+
+  -- a release takes the buffer that it names, if that is outstanding
+  pub released-after : (test : Pin → Bool) (l : List Pin) → is-buffer-place (fact-of f .b) ≡ true
+      → count test (but-first (releases (C t env f a b c n)) l) + one (ltb 0 (count (same-pin (pin t f b)) l) && test (pin t f b)) ≡ count test l
+  released-after test l is = rw (releasing true is) (count-but-first test (same-pin (pin t f b)) (pin t f b) (λ x. same-pin-is (pin t f b) x) l)
+
+  -- another C takes nothing
+  pub nothing-released : (l : List Pin) → is-buffer-place (fact-of f .b) ≡ false → but-first (releases (C t env f a b c n)) l ≡ l
+  nothing-released l is = rw (releasing false is) (none-first l)
+
+-- ---- Z, which ends nothing
+
+not-ended : (past : History) (x : Alive) → List·Memᴰ x (living past) → ends Z past x ≡ false
+unfolding ends deletes
+not-ended past (local t d h) m = ap (λ (n : ℕ). ltb n d) (other-depth t Z past refl) ∙ frame-stands past (local t d h) m
+not-ended past (shared h) m = refl
+
+none-ended : (past : History) → count (ends Z past) (living past) ≡ 0
+none-ended past = go (count (ends Z past) (living past)) refl
+  where
+    go : (n : ℕ) → count (ends Z past) (living past) ≡ n → count (ends Z past) (living past) ≡ 0
+    go zero e = e
+    go (suc n) e =
+        let (x, m, h) = some-member (ends Z past) (living past) (omega (arith, e)) in
+        true-not-false (ends Z past x) h (not-ended past x m)
+
+pub end-living : (past : History) → living (Z ∷ past) ≡ living past
+unfolding living makes
+end-living past = keep-all (ends Z past) (living past) (none-ended past)
+
+pub end-outstanding : (past : History) → outstanding (Z ∷ past) ≡ outstanding past
+unfolding outstanding gets releases
+end-outstanding past = none-first (outstanding past)

@@ -1,0 +1,41 @@
+pub mod Sentences
+pub mod Tests
+pub mod Counts
+pub mod Order
+pub mod Threads
+pub mod Acts
+pub mod Living
+pub mod OneMore
+pub mod Buffers
+pub mod Families
+pub mod After
+pub mod Places
+pub mod Breaches
+pub mod Findings
+pub mod Most
+pub mod Others
+pub mod Capacities
+pub mod Calls
+pub mod Kept
+pub mod Accepting
+pub mod Stacks
+pub mod Once
+pub mod Turns
+pub mod Refusals
+pub mod Envs
+pub mod Rooms
+pub mod Reading
+pub mod Replies
+pub mod Report
+pub mod ShutOut
+pub mod Worked
+mod Cases
+mod ShutOutCases
+mod StepCases
+mod CallCases
+mod ReturnCases
+mod JudgedCases
+mod RefusedCases
+mod LineCases
+mod LimitCases
+mod AgainCases

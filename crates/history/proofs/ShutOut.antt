@@ -1,0 +1,72 @@
+-- Judges that are shut out: one that refuses always, one with one reply, one whose step does nothing, one that works on the first line only. Assumes nothing.
+use mathlib.Core.Path.{_≡_, refl}
+use mathlib.Core.List.{[], _∷_}
+use native.Mathlib.Omega.{arith}
+use lib.Dec.{leb·zero}
+use lib.IntN.{pos}
+use Rattle.numbers.specs.Decimal.{read-on}
+use Rattle.facts.specs.Table.{table, fact-of, is-allowed-pending, is-allowed-critical}
+use Rattle.lines.specs.Line.{N, X, C, R, Z}
+use Rattle.lines.specs.Reading.{fields, numbers, enter-of, leave-of, call-of, return-of, end-of, line-of, of-fields, read}
+use Rattle.history.specs.Past.{History, through, closed}
+use Rattle.history.specs.Items.{items}
+use Rattle.history.specs.Frames.{frames, depth}
+use Rattle.history.specs.Handles.{makes, deletes, ends, living, alive-in}
+use Rattle.history.specs.Capacities.{capacities}
+use Rattle.history.specs.Buffers.{pin, gets, releases, outstanding}
+use Rattle.history.specs.Thread.{pending, monitors, env-of}
+use Rattle.history.specs.Seen.{seen}
+use Rattle.history.specs.Acceptance.{Room, in-step, env-right, made-by, makes-anew, has-room, refusal}
+use Rattle.history.specs.Breaches.{handle-rule, kind-rule, place-rule, rule-at, in-critical, overflows, call-rule, end-rule, line-rule, breach}
+use Rattle.history.specs.Findings.{of-line}
+use Rattle.history.specs.Replies.{verdict, accepted, not-accepted, reply, heard}
+use Rattle.history.specs.Accepted.{Accepted, at-start, and-line}
+use Rattle.history.specs.Runs.{line, program-room}
+
+-- what a worked case computes with: the reader and the table
+reads : Unit {0}
+unfolding read of-fields fields numbers read-on line-of enter-of leave-of call-of return-of end-of fact-of table is-allowed-pending is-allowed-critical
+reads = tt
+
+-- the history
+tells : Unit {0}
+unfolding items frames through depth makes deletes ends living alive-in capacities pin gets releases outstanding pending monitors env-of closed seen
+tells = tt
+
+-- acceptance, breaches and replies
+judges : Unit {0}
+unfolding in-step env-right made-by makes-anew has-room refusal handle-rule kind-rule place-rule rule-at in-critical overflows call-rule end-rule line-rule breach of-line verdict reply heard
+judges = tt
+
+module _ (room : Room) where
+  -- a Z is accepted at the start: a judge that refuses always is shut out
+  pub not-always-refused : reply room [] (line "Z") ≡ accepted []
+  unfolding reads tells judges
+  not-always-refused = rw (leb·zero (room .references), leb·zero (room .pins))
+
+  -- after it a Z is refused: a judge with one reply is shut out, and a step that does nothing
+  pub not-one-reply : reply room (heard room (line "Z" ∷ [])) (line "Z") ≡ not-accepted 4
+  unfolding reads tells judges
+  not-one-reply = rw (leb·zero (room .references), leb·zero (room .pins))
+
+  -- a line of each letter is accepted
+  pub each-letter : Accepted room (Z ∷ X 1 0 ∷ R 1 6 (pos 0) 0 ∷ C 1 100 6 0 0 0 (pos 0) ∷ N 1 100 [] ∷ [])
+  unfolding reads tells judges
+  each-letter =
+      let n : History = N 1 100 [] ∷ [] in
+      let c : History = C 1 100 6 0 0 0 (pos 0) ∷ n in
+      let r : History = R 1 6 (pos 0) 0 ∷ c in
+      let x : History = X 1 0 ∷ r in
+      and-line Z x (omega arith) refl (rw (leb·zero (room .references), leb·zero (room .pins)))
+      (and-line (X 1 0) r (omega arith) refl (rw (leb·zero (room .references), leb·zero (room .pins)))
+      (and-line (R 1 6 (pos 0) 0) c (omega arith) refl (rw (leb·zero (room .references), leb·zero (room .pins)))
+      (and-line (C 1 100 6 0 0 0 (pos 0)) n (omega arith) refl (rw (leb·zero (room .references), leb·zero (room .pins)))
+      (and-line (N 1 100 []) [] (omega arith) refl (rw (leb·zero (room .references), leb·zero (room .pins))) at-start))))
+
+-- after the same first line the reply to the same later bytes differs, by what came between: a judge that works on the first line only is shut out
+pub not-first-only : (reply program-room (heard program-room (line "R 1 4 0 0" ∷ line "C 1 100 4 0 0 0 0" ∷ line "N 1 100 5" ∷ [])) (line "C 1 100 31 5 0 0 0")
+    ≡ accepted [])
+    × (reply program-room (heard program-room (line "R 1 23 0 0" ∷ line "C 1 100 23 5 0 0 0" ∷ line "N 1 100 5" ∷ [])) (line "C 1 100 31 5 0 0 0")
+    ≡ accepted (record { line = 4; rule = 11; place = 1; thing = 5 } ∷ []))
+unfolding reads tells judges
+not-first-only = (refl, refl)

@@ -1,0 +1,143 @@
+-- The breaches of a line, by rule and place. Everything is judged before the line acts, except overflow and Z. Assumes nothing.
+use Prim.Native.Nat.{ℕ, suc}
+use mathlib.Core.Bool.{Bool, true, false, not, _&&_}
+use mathlib.Core.List.{List, [], _∷_}
+use mathlib.Core.Option.{Option, none, some}
+use lib.Dec.{eqb, ltb}
+use lib.ListN.{length}
+use Rattle.words.specs.Choice.{if_then_else_}
+use Rattle.words.specs.Lists.{sum}
+use Rattle.facts.specs.Table.{fact-of, is-allowed-pending, is-allowed-critical}
+use Rattle.facts.specs.Named.{PopLocalFrame, MonitorExit}
+use Rattle.facts.specs.declared.Place.{Place}
+use Rattle.facts.specs.declared.Place.the-variants as Place
+use Rattle.facts.specs.declared.Result.{Result}
+use Rattle.facts.specs.declared.Result.the-variants as Result
+use Rattle.lines.specs.Line.{Line, if-X_then_else_, if-C_then_else_, if-R_then_else_, if-Z_then_else_, kind}
+use Rattle.lines.specs.Reading.{size}
+use Rattle.history.specs.Past.{thread-of}
+use Rattle.history.specs.Frames.{top-pushed}
+use Rattle.history.specs.Handles.{is-local, is-shared, in-frame, global-or-weak}
+use Rattle.history.specs.Buffers.{pin, same-pin, critical-of}
+use Rattle.history.specs.Thread.{all-threads}
+use Rattle.history.specs.Seen.{Seen, is-alive, is-outstanding}
+use Rattle.history.specs.Acceptance.{everything}
+
+abbrev pub when : Bool → ℕ → Option ℕ
+when true n = some n
+when false n = none
+
+-- ---- the places a b c: the rule that a value breaks, the first that fits
+
+-- wrong kind: 4; local not alive in this thread: 11; global or weak not alive: 10
+unfoldable pub handle-rule : ℕ → ℕ → Seen → Option ℕ
+handle-rule t h v =
+    if eqb (kind h) 0 then some 4
+    else if eqb (kind h) 1 then when (not (is-alive (is-local t h) v)) 11
+    else when (not (is-alive (is-shared h) v)) 10
+
+-- another kind under l g w: 4
+unfoldable pub kind-rule : ℕ → ℕ → ℕ → Seen → Option ℕ
+kind-rule k t h v = if eqb h 0 then none else if eqb (kind h) k then handle-rule t h v else some 4
+
+-- null where r, i or b stands: 7; buffer not outstanding in its family (and thread, if critical): 8
+unfoldable pub place-rule : Place → ℕ → ℕ → ℕ → Seen → Option ℕ
+place-rule Place.Unused t f h v = none
+place-rule Place.Handle t f h v = if eqb h 0 then some 7 else handle-rule t h v
+place-rule Place.HandleOrNull t f h v = if eqb h 0 then none else handle-rule t h v
+place-rule Place.LocalOrNull t f h v = kind-rule 1 t h v
+place-rule Place.GlobalOrNull t f h v = kind-rule 2 t h v
+place-rule Place.WeakOrNull t f h v = kind-rule 3 t h v
+place-rule Place.Identity t f h v = if eqb h 0 then some 7 else when (not (eqb (kind h) 0)) 4
+place-rule Place.Buffer t f h v = if eqb h 0 then some 7 else when (not (is-outstanding (same-pin (pin t f h)) v)) 8
+
+-- places 1 to 3 are a b c; X's result is place 1 of kind `o`
+abbrev pub place-at : Line → ℕ → Place
+place-at e p =
+    if-X e then (λ t r. if eqb p 1 then Place.HandleOrNull else Place.Unused)
+    else if-C e then
+    (λ t env f a b c n.
+    if eqb p 1 then fact-of f .a
+    else if eqb p 2 then fact-of f .b
+    else if eqb p 3 then fact-of f .c
+    else Place.Unused)
+    else Place.Unused
+
+abbrev pub value-at : Line → ℕ → ℕ
+value-at e p =
+    if-X e then (λ t r. r)
+    else if-C e then (λ t env f a b c n. if eqb p 1 then a else if eqb p 2 then b else c)
+    else 0
+
+abbrev pub function-of : Line → ℕ
+function-of e = if-C e then (λ t env f a b c n. f) else 0
+
+unfoldable pub rule-at : Line → Seen → ℕ → Option ℕ
+rule-at e v p = place-rule (place-at e p) (thread-of e) (function-of e) (value-at e p) v
+
+-- ---- place 0: the whole line breaks the rule, with what thing
+
+unfoldable pub in-critical : ℕ → Seen → Bool
+in-critical t v = is-outstanding (critical-of t) v
+
+abbrev pub is-local-result : Result → Bool
+is-local-result Result.Local = true
+is-local-result Result.Global = false
+is-local-result Result.Weak = false
+is-local-result Result.Identity = false
+is-local-result Result.Buffer = false
+is-local-result Result.Status = false
+is-local-result Result.Nothing = false
+
+-- more than the top frame's capacity
+abbrev pub exceeds : List ℕ → ℕ → Bool
+exceeds [] k = false
+exceeds (c ∷ cs) k = ltb c k
+
+-- the local made leaves more alive in its frame than the capacity
+unfoldable pub overflows : ℕ → ℕ → ℕ → Seen → Bool
+overflows t f h v =
+    is-local-result (fact-of f .result)
+    && not (eqb h 0)
+    && exceeds (v .capacities t) (suc (v .handles (in-frame t (length (v .frames t)))))
+
+-- 1 when env is not the thread's; 2 when pending and not allowed; 3 when the thread has a critical buffer outstanding and the function is not 222-225;
+-- 9 for 218 with no monitors; 11 for 20 when the top frame was not pushed
+unfoldable pub call-rule : ℕ → ℕ → ℕ → Seen → ℕ → Option ℕ
+call-rule t env f v rule =
+    if eqb rule 1 then when (not (eqb env (v .env t))) env
+    else if eqb rule 2 then when (eqb (v .pending t) 1 && not (is-allowed-pending f)) 0
+    else if eqb rule 3 then when (in-critical t v && not (is-allowed-critical f)) 0
+    else if eqb rule 9 then when (eqb f MonitorExit && eqb (v .monitors t) 0) 0
+    else if eqb rule 11 then when (eqb f PopLocalFrame && not (top-pushed (v .frames t))) 0
+    else none
+
+-- a count, if above zero
+abbrev pub some-of : ℕ → Option ℕ
+some-of k = when (ltb 0 k) k
+
+-- On Z: 8 buffers outstanding, 9 monitors of all threads, 10 globals and weaks alive
+unfoldable pub end-rule : Seen → ℕ → Option ℕ
+end-rule v rule =
+    if eqb rule 8 then some-of (v .buffers everything)
+    else if eqb rule 9 then some-of (sum (v .monitors) all-threads)
+    else if eqb rule 10 then some-of (v .handles global-or-weak)
+    else none
+
+-- On X: 3 with a critical buffer of that thread outstanding. On R: 11 for overflow
+unfoldable pub line-rule : Line → Seen → ℕ → Option ℕ
+line-rule e v rule =
+    if-C e then (λ t env f a b c n. call-rule t env f v rule)
+    else if-X e then (λ t r. when (eqb rule 3 && in-critical t v) 0)
+    else if-R e then (λ t f r p. when (eqb rule 11 && overflows t f (size r) v) (size r))
+    else if-Z e then end-rule v rule
+    else none
+
+-- ---- the thing of a breach of this rule at this place
+
+abbrev pub is-rule : ℕ → Option ℕ → Bool
+is-rule rule none = false
+is-rule rule (some r) = eqb rule r
+
+unfoldable pub breach : Line → Seen → ℕ → ℕ → Option ℕ
+breach e v rule place = if eqb place 0 then line-rule e v rule else when (is-rule rule (rule-at e v place)) (value-at e place)

@@ -1,0 +1,42 @@
+-- The capacity of each frame of a thread, top first. Assumes nothing.
+use Prim.Native.Nat.{ℕ, _+_, _-_, max}
+use mathlib.Core.Bool.{Bool, true, false, not}
+use mathlib.Core.List.{List, [], _∷_}
+use lib.Dec.{eqb}
+use lib.ListN.{drop}
+use Rattle.words.specs.Choice.{if_then_else_}
+use Rattle.facts.specs.Named.{PushLocalFrame, EnsureLocalCapacity}
+use Rattle.lines.specs.Line.{Line, if-N_then_else_, if-R_then_else_, is-zero}
+use Rattle.history.specs.Past.{History, is-of}
+use Rattle.history.specs.Items.{items, top-of, asked}
+use Rattle.history.specs.Frames.{depth}
+use Rattle.history.specs.Handles.{alive-in}
+
+-- N opens a frame of capacity 16
+abbrev pub native-capacity : ℕ
+native-capacity = 16
+
+-- the top capacity, k at least
+abbrev pub raised : ℕ → List ℕ → List ℕ
+raised k [] = []
+raised k (c ∷ cs) = max c k ∷ cs
+
+-- With status 0: 19 pushes a frame of capacity max(n,0), 26 raises the top frame's to max(old, locals alive in it + max(n,0)); n is that of the matching C.
+-- A line after which `gone` frames fewer stand takes their capacities with it; `held` locals are alive in the top frame.
+abbrev pub capacities-after : Line → ℕ → ℕ → ℕ → List ℕ → List ℕ
+capacities-after e gone held n cs =
+    if-N e then (λ t env hs. native-capacity ∷ cs)
+    else if-R e then
+    (λ t f r p.
+    if not (is-zero r) then cs
+    else if eqb f PushLocalFrame then n ∷ cs
+    else if eqb f EnsureLocalCapacity then raised (held + n) cs
+    else cs)
+    else drop gone cs
+
+unfoldable pub capacities : ℕ → History → List ℕ
+capacities t [] = []
+capacities t (e ∷ past) =
+    if is-of t e then
+    capacities-after e (depth t past - depth t (e ∷ past)) (alive-in t (depth t past) past) (asked (top-of (items t past))) (capacities t past)
+    else capacities t past

@@ -1,0 +1,191 @@
+-- What is proved of the definitions, subject by subject: each field is a theorem. Assumes nothing.
+use Prim.Native.Nat.{ℕ, suc, pred, _+_, _≤_, _<_, max}
+use mathlib.Core.Path.{_≡_}
+use mathlib.Core.Logic.{_⊎_, _≢_, _↔_}
+use mathlib.Core.Bool.{true, false}
+use mathlib.Core.List.{List, [], _∷_, _++_, List·Memᴰ}
+use mathlib.Core.Option.{some}
+use lib.Dec.{eqb}
+use lib.IntN.{ℤ, pos}
+use lib.ListN.{length}
+use Rattle.words.specs.Lists.{any, count}
+use Rattle.words.specs.Text.{bytes, line-feed}
+use Rattle.facts.specs.Table.{_/_, fact-of, is-function, families, family, is-critical}
+use Rattle.facts.specs.Named.{PushLocalFrame, PopLocalFrame, DeleteGlobalRef, DeleteLocalRef, EnsureLocalCapacity, MonitorEnter, MonitorExit, DeleteWeakGlobalRef}
+use Rattle.lines.specs.Line.{Line, N, X, C, R, Z, kind, is-zero}
+use Rattle.lines.specs.Reading.{Read, says, refused, read, size}
+use Rattle.history.specs.Past.{History, is-of}
+use Rattle.history.specs.Items.{in-call, items, top-of, asked}
+use Rattle.history.specs.Frames.{Frame, entered, pushed, frames, depth}
+use Rattle.history.specs.Handles.{Alive, local, shared, is-local, is-shared, same-handle, living, alive-in}
+use Rattle.history.specs.Capacities.{capacities}
+use Rattle.history.specs.Buffers.{Pin, critical, pin, same-pin, is-buffer-result, is-buffer-place, gets, releases, outstanding}
+use Rattle.history.specs.Thread.{pending, monitors, env-of}
+use Rattle.history.specs.Seen.{Seen, seen, is-alive}
+use Rattle.history.specs.Acceptance.{Room, refusal}
+use Rattle.history.specs.Breaches.{breach}
+use Rattle.history.specs.Findings.{of-line, findings}
+use Rattle.history.specs.Replies.{verdict, accepted, not-accepted, reply, heard}
+use Rattle.history.specs.Report.{Run, last-field, end-word, run, shown}
+use Rattle.history.specs.declared.Finding.{Finding}
+use Rattle.history.specs.Lives.{Lives, Local-lives}
+use Rattle.history.specs.Paper.{Broken}
+use Rattle.history.specs.Order.{Breached, Ordered, most-findings}
+use Rattle.history.specs.Accepted.{Accepted}
+use Rattle.history.specs.Whole.{Whole}
+use Rattle.history.specs.Refusals.{Exceeds, Given}
+use Rattle.history.specs.Times.{Gets, Releases, got, released}
+use Rattle.history.specs.Same.{Same-for}
+use Rattle.history.specs.Verdicts.{Weighs}
+use Rattle.history.specs.Runs.{told, Runs, Roomier, program-room, line}
+use Rattle.history.specs.Families.{is-get, is-release}
+use Rattle.history.specs.Bounds.{Bounded}
+
+pub record On-breaches : Type 0 where
+  -- what is computed of a line is what document 01 says of it, and nothing besides, after every history
+  pub breaches-are : (past : History) (e : Line) (rule place thing : ℕ) → (breach e (seen past) rule place ≡ some thing) ↔ Broken past e rule place thing
+  -- the findings are all the breaches of the accepted lines, and nothing besides
+  pub findings-are : (past : History) (f : Finding) → List·Memᴰ f (findings past) ↔ Breached f past
+  -- in order of line, rule and place
+  pub findings-ordered : (past : History) → Ordered (findings past)
+  -- each once
+  pub found-once : (past : History) (before : List Finding) (f : Finding) (after : List Finding) → findings past ≡ before ++ (f ∷ after) → ¬ List·Memᴰ f after
+  -- a used place gives at most one finding
+  pub one-a-place : (past : History) (e : Line) (place r s v w : ℕ) → 1 ≤ place → Broken past e r place v → Broken past e s place w → (r ≡ s) × (v ≡ w)
+  -- and a line at most six
+  pub at-most : (e : Line) (v : Seen) → length (of-line e v) ≤ most-findings e
+
+pub record On-handles : Type 0 where
+  -- alive: an earlier line made it and no line since has ended it
+  pub living-are : (past : History) (x : Alive) → List·Memᴰ x (living past) ↔ Lives x past
+  -- a local, by its thread
+  pub local-alive : (past : History) (t h : ℕ) → (is-alive (is-local t h) (seen past) ≡ true) ↔ Local-lives t h past
+  -- a global, a weak
+  pub shared-alive : (past : History) (h : ℕ) → (is-alive (is-shared h) (seen past) ≡ true) ↔ Lives (shared h) past
+  -- a handle is alive once at most
+  pub alive-once : (room : Room) (past : History) → Accepted room past → (x : Alive) → count (same-handle x) (living past) ≤ 1
+  -- every local alive is of local kind and stands in a frame that is there
+  pub local-placed : (room : Room) (past : History) → Accepted room past → (t d h : ℕ) → Lives (local t d h) past → (1 ≤ d) × (d ≤ depth t past) × (kind h ≡ 1)
+  -- every other handle alive is global or weak by its kind
+  pub shared-kind : (room : Room) (past : History) → Accepted room past → (h : ℕ) → Lives (shared h) past → (kind h ≡ 2) ⊎ (kind h ≡ 3)
+
+pub record On-buffers : Type 0 where
+  -- R makes its result, if that is nonzero: B an outstanding buffer
+  pub gets-are : (e : Line) (x : Pin) → List·Memᴰ x (gets e) ↔ Gets e x
+  -- a release ends, at its C, one outstanding buffer of its family equal to b (for critical ones, of this thread)
+  pub releases-are : (e : Line) (x : Pin) → (releases e x ≡ true) ↔ Releases e x
+  -- got so many times, released so many: the rest is outstanding
+  pub got-and-released : (x : Pin) (past : History) → count (same-pin x) (outstanding past) + released x past ≡ got x past
+  -- a buffer is a result of the gets and a place of the releases, and of no other function
+  pub families-agree : (f : ℕ) → is-function f ≡ true
+      → (is-buffer-result (fact-of f .result) ≡ any (is-get f) families) × (is-buffer-place (fact-of f .b) ≡ any (is-release f) families)
+  pub paired : (get release : ℕ) → List·Memᴰ (get / release) families → family get ≡ family release
+  -- the last two are critical and belong to the getting thread; the others belong to no thread
+  pub of-its-thread : (t f b : ℕ) → is-critical (family f) ≡ true → pin t f b ≡ critical t (family f) b
+  pub of-no-thread : (t s f b : ℕ) → is-critical (family f) ≡ false → pin t f b ≡ pin s f b
+
+-- what lines do
+pub record On-lines : Type 0 where
+  -- the functions that do more than take places and give a result, by their numbers
+  pub named : (PushLocalFrame ≡ 19) × (PopLocalFrame ≡ 20) × (DeleteGlobalRef ≡ 22) × (DeleteLocalRef ≡ 23) × (EnsureLocalCapacity ≡ 26)
+      × (MonitorEnter ≡ 217) × (MonitorExit ≡ 218) × (DeleteWeakGlobalRef ≡ 227)
+  -- N opens a frame of capacity 16
+  pub enter-frames : (t env : ℕ) (hs : List ℕ) (past : History) → frames t (N t env hs ∷ past) ≡ entered ∷ frames t past
+  pub enter-capacities : (t env : ℕ) (hs : List ℕ) (past : History) → capacities t (N t env hs ∷ past) ≡ 16 ∷ capacities t past
+  -- pending becomes 0
+  pub enter-pending : (t env : ℕ) (hs : List ℕ) (past : History) → pending t (N t env hs ∷ past) ≡ 0
+  -- C of 20 ends the top frame, if that frame was pushed
+  pub pop-frames : (t env a b c : ℕ) (n : ℤ) (past : History) (below : List Frame) → frames t past ≡ pushed ∷ below
+      → frames t (C t env PopLocalFrame a b c n ∷ past) ≡ below
+  pub pop-nothing : (t env a b c : ℕ) (n : ℤ) (past : History) (below : List Frame) → frames t past ≡ entered ∷ below
+      → frames t (C t env PopLocalFrame a b c n ∷ past) ≡ entered ∷ below
+  -- R sets pending, and no call clears it by itself
+  pub return-pending : (t f p : ℕ) (r : ℤ) (past : History) → pending t (R t f r p ∷ past) ≡ p
+  pub call-pending : (t env f a b c : ℕ) (n : ℤ) (past : History) → pending t (C t env f a b c n ∷ past) ≡ pending t past
+  -- with status 0: 19 pushes a frame of capacity max(n,0), n being that of the matching C however much was nested between
+  pub push-frames : (t p : ℕ) (past : History) → frames t (R t PushLocalFrame (pos 0) p ∷ past) ≡ pushed ∷ frames t past
+  pub matching-push : (t env a b c p : ℕ) (n : ℤ) (inside past : History) → Whole t inside
+      → capacities t (R t PushLocalFrame (pos 0) p ∷ (inside ++ (C t env PushLocalFrame a b c n ∷ past)))
+      ≡ size n ∷ capacities t (inside ++ (C t env PushLocalFrame a b c n ∷ past))
+  -- 26 raises the top frame's capacity to max(old, locals alive in it + max(n,0))
+  pub ensure-capacities : (t p : ℕ) (past : History) (old : ℕ) (lower : List ℕ) → capacities t past ≡ old ∷ lower
+      → capacities t (R t EnsureLocalCapacity (pos 0) p ∷ past) ≡ max old (alive-in t (depth t past) past + asked (top-of (items t past))) ∷ lower
+  -- 217 adds one to the thread's monitors; 218 takes one if there is any
+  pub enter-monitors : (t p : ℕ) (past : History) → monitors t (R t MonitorEnter (pos 0) p ∷ past) ≡ suc (monitors t past)
+  pub exit-monitors : (t p : ℕ) (past : History) → monitors t (R t MonitorExit (pos 0) p ∷ past) ≡ pred (monitors t past)
+  -- another status does nothing
+  pub other-status-frames : (t f p : ℕ) (r : ℤ) (past : History) → is-zero r ≡ false → frames t (R t f r p ∷ past) ≡ frames t past
+  pub other-status-capacities : (t f p : ℕ) (r : ℤ) (past : History) → is-zero r ≡ false → capacities t (R t f r p ∷ past) ≡ capacities t past
+  pub other-status-monitors : (t f p : ℕ) (r : ℤ) (past : History) → is-zero r ≡ false → monitors t (R t f r p ∷ past) ≡ monitors t past
+  -- there is a capacity for each frame
+  pub capacities-fit : (past : History) (t : ℕ) → length (capacities t past) ≡ depth t past
+  -- the open call at an R is its matching C
+  pub matching-call : (t env f a b c : ℕ) (n : ℤ) (inside past : History) → Whole t inside
+      → items t (inside ++ (C t env f a b c n ∷ past)) ≡ in-call f (size n) ∷ items t past
+  -- X ends all locals and frames of that native, pushed frames included, and closes it
+  pub native-closes : (t r env : ℕ) (hs : List ℕ) (inside past : History) → Whole t inside
+      → (frames t (X t r ∷ (inside ++ (N t env hs ∷ past))) ≡ frames t past) × (items t (X t r ∷ (inside ++ (N t env hs ∷ past))) ≡ items t past)
+  pub capacities-close : (t r env : ℕ) (hs : List ℕ) (inside past : History) → Whole t inside
+      → capacities t (X t r ∷ (inside ++ (N t env hs ∷ past))) ≡ capacities t past
+  pub nothing-of-it-lives : (t r env d h : ℕ) (hs : List ℕ) (inside past : History) → Whole t inside → 1 ≤ d
+      → Lives (local t d h) (X t r ∷ (inside ++ (N t env hs ∷ past))) → Lives (local t d h) past
+  -- the lines of other threads change nothing of a thread
+  pub other-threads : (t : ℕ) (e : Line) (past : History) → is-of t e ≡ false → Same-for t past (e ∷ past)
+  -- a thread's env is that of its first N
+  pub env-of-first : (t env : ℕ) (hs : List ℕ) (newer older : History) → env ≢ 0 → ((v : ℕ) (gs : List ℕ) → ¬ List·Memᴰ (N t v gs) older)
+      → env-of t (newer ++ (N t env hs ∷ older)) ≡ env
+  -- no two threads share one
+  pub envs-apart : (room : Room) (past : History) → Accepted room past → (s t : ℕ) → s ≢ t → env-of s past ≢ 0 → env-of s past ≢ env-of t past
+
+pub record On-refusals : Type 0 where
+  -- a line after accepted lines is given exactly the number that document 01 says, or none
+  pub refusal-is : (room : Room) (e : Line) (past : History) → Accepted room past → (n : ℕ) → (refusal room e past ≡ n) ↔ Given room past e n
+  -- 7 exactly when 4, 5 and 6 are not given and the history with the line exceeds room: handles that have ended never count
+  pub seven-is-room : (room : Room) (e : Line) (past : History) → Accepted room past
+      → (refusal room e past ≡ 7) ↔ ((refusal room e past ≢ 4) × (refusal room e past ≢ 5) × (refusal room e past ≢ 6) × Exceeds room (e ∷ past))
+  pub within-room : (room : Room) (past : History) → Accepted room past → ¬ Exceeds room past
+  -- from a start refusal 8 never comes
+  pub never-eight : (room : Room) (past : History) → Accepted room past → (t : ℕ) → Bounded t past
+  -- an accepted trace's earlier part is accepted
+  pub accepted-before : (room : Room) (newer past : History) → Accepted room (newer ++ past) → Accepted room past
+  -- more room, and no 7 from the smaller: equal runs
+  pub run-more : (a b : Room) → Roomier a b → (lines : List (List ℕ)) (past : History) → run a past lines .refusal ≢ 7 → run b past lines ≡ run a past lines
+
+pub record On-replies : Type 0 where
+  -- a lent line after accepted lines is what document 01 says, in its order: line 1,000,001 is 1 whatever it holds; 1, 2 and 3 come before 4
+  pub verdict-is : (room : Room) (past : History) (bs : List ℕ) → Accepted room past → (x : Read) → (verdict room past bs ≡ x) ↔ Weighs room past bs x
+  -- after Z everything that reads is 4
+  pub after-Z : (room : Room) (past : History) (bs : List ℕ) (e : Line) → Accepted room past → List·Memᴰ Z past → length past < 1000000 → read bs ≡ says e
+      → verdict room past bs ≡ refused 4
+  -- whatever is called, the lines heard are accepted lines
+  pub heard-accepted : (room : Room) (calls : List (List ℕ)) → Accepted room (heard room calls)
+  -- a refused line changes nothing
+  pub refusal-changes-nothing : (room : Room) (before : List (List ℕ)) (bs : List ℕ) (k : ℕ) → reply room (heard room before) bs ≡ not-accepted k
+      → heard room (bs ∷ before) ≡ heard room before
+  pub refused-number : (room : Room) (calls : List (List ℕ)) (bs : List ℕ) (k : ℕ) → reply room (heard room calls) bs ≡ not-accepted k → (1 ≤ k) × (k ≤ 7)
+  -- the findings replied to all calls are those of the lines heard
+  pub told-all : (room : Room) (calls : List (List ℕ)) → told room calls ≡ findings (heard room calls)
+  -- a whole run is what the replies to its lines make of it
+  pub whole-run : (room : Room) (lines : List (List ℕ)) → Runs room [] lines (run room [] lines)
+  pub run-told : (room : Room) (calls lines : List (List ℕ)) (r : Run) → Runs room calls lines r
+      → (all : List (List ℕ)) × (r .accepted ≡ heard room all) × (findings (r .accepted) ≡ told room all)
+  -- what is printed ends with a number, and as many lines were printed before it
+  pub end-counts : (r : Run) → (printed : List ℕ) × (n : ℕ) × (shown r ≡ printed ++ last-field n) × (count (λ b. eqb b line-feed) printed ≡ n)
+  -- `refused` whenever a line was refused, after Z too
+  pub refused-word : (r : Run) → r .refusal ≢ 0 → end-word r ≡ bytes "refused"
+  pub closed-word : (r : Run) → r .refusal ≡ 0 → List·Memᴰ Z (r .accepted) → end-word r ≡ bytes "closed"
+  pub open-word : (r : Run) → r .refusal ≡ 0 → ¬ List·Memᴰ Z (r .accepted) → end-word r ≡ bytes "open"
+
+-- judges that are shut out
+pub record Shut-out : Type 0 where
+  -- one that refuses always
+  pub not-always-refused : (room : Room) → reply room [] (line "Z") ≡ accepted []
+  -- one with one reply, and a step that does nothing
+  pub not-one-reply : (room : Room) → reply room (heard room (line "Z" ∷ [])) (line "Z") ≡ not-accepted 4
+  -- a line of each letter is accepted
+  pub each-letter : (room : Room) → Accepted room (Z ∷ X 1 0 ∷ R 1 6 (pos 0) 0 ∷ C 1 100 6 0 0 0 (pos 0) ∷ N 1 100 [] ∷ [])
+  -- one that works on the first line only: after the same first line the reply to the same later bytes differs
+  pub not-first-only : (reply program-room (heard program-room (line "R 1 4 0 0" ∷ line "C 1 100 4 0 0 0 0" ∷ line "N 1 100 5" ∷ [])) (line "C 1 100 31 5 0 0 0")
+      ≡ accepted [])
+      × (reply program-room (heard program-room (line "R 1 23 0 0" ∷ line "C 1 100 23 5 0 0 0" ∷ line "N 1 100 5" ∷ [])) (line "C 1 100 31 5 0 0 0")
+      ≡ accepted (record { line = 4; rule = 11; place = 1; thing = 5 } ∷ []))

@@ -1,0 +1,9 @@
+// What the judge's code shares with the definitions of the history.
+
+// A breach that was found: the accepted line's number, the rule, the place and the thing.
+pub struct Finding {
+    pub line: u32,
+    pub rule: u32,
+    pub place: u32,
+    pub thing: u32,
+}
