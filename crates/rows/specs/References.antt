@@ -1,0 +1,40 @@
+-- Reference rows: thread (0 for global and weak), handle, frame from 1 (0 likewise). Assumes nothing.
+use mathlib.Core.Path.{refl}
+use mathlib.Core.Bool.{Bool, _&&_}
+use mathlib.Core.List.{[], _∷_}
+use Prim.Native.Nat.{ℕ}
+use lib.ListN.{getD}
+use lib.Dec.{eqb, leb}
+use Rattle.rows.specs.declared.references.Reference.{Reference}
+use Rattle.rows.specs.Table.{Layout}
+
+-- three numbers to a row
+abbrev pub references : Layout Reference
+references =
+    record {
+      stride = 3;
+      numbers = λ x. x .thread ∷ x .handle ∷ x .frame ∷ [];
+      row-of = λ vs. record { thread = getD vs 0 0; handle = getD vs 1 0; frame = getD vs 2 0 };
+      whole = λ x. refl;
+      back = λ x. refl;
+    }
+
+-- the row is of thread t
+abbrev pub of-thread : ℕ → Reference → Bool
+of-thread t x = eqb (x .thread) t
+
+-- the row has handle h, of whatever thread
+abbrev pub has-handle : ℕ → Reference → Bool
+has-handle h x = eqb (x .handle) h
+
+-- the row is that of handle h in thread t
+abbrev pub is-handle : ℕ → ℕ → Reference → Bool
+is-handle t h x = has-handle h x && of-thread t x
+
+-- the row is of thread t and frame f
+abbrev pub in-frame : ℕ → ℕ → Reference → Bool
+in-frame t f x = eqb (x .frame) f && of-thread t x
+
+-- the row is of thread t and frame f or above
+abbrev pub from-frame : ℕ → ℕ → Reference → Bool
+from-frame t f x = leb f (x .frame) && of-thread t x

@@ -1,0 +1,40 @@
+// Rows of numbers and a mark for each, in slices that the caller lends: reference rows and pin rows.
+mod marks;
+pub mod pins;
+pub mod references;
+
+// What rows are made of.
+pub type Number = u32;
+
+ghost use mathlib.Core.Path.{_≡_};
+ghost use lib.ListN.{length, replicate};
+ghost use Rattle.rows.specs.Table.{table, cleared};
+
+// All numbers 0, of rows and of marks.
+fn clear_rows(a: &mut [Number])
+    ensures { λ _. ⌜ now (a .exit) ≡ replicate (length (now (a .entry))) 0 ⌝ }
+{
+    let mut i = 0;
+    while i < a.len() {
+        a[i] = 0;
+        i += 1;
+    }
+}
+
+fn clear_marks(a: &mut [u64])
+    ensures { λ _. ⌜ now (a .exit) ≡ replicate (length (now (a .entry))) 0 ⌝ }
+{
+    let mut i = 0;
+    while i < a.len() {
+        a[i] = 0;
+        i += 1;
+    }
+}
+
+// Clears all rows and marks of a table, of either sort.
+pub fn clear(rows: &mut [Number], marks: &mut [u64])
+    ensures { λ _. ⌜ table (now (rows .exit)) (now (marks .exit)) ≡ cleared (table (now (rows .entry)) (now (marks .entry))) ⌝ }
+{
+    clear_rows(rows);
+    clear_marks(marks);
+}

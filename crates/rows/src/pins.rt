@@ -1,0 +1,272 @@
+// Pin rows: thread, family and buffer of each buffer that is outstanding.
+use super::Number;
+use super::marks::WORD;
+use super::marks::clear_mark;
+use super::marks::free_below;
+use super::marks::is_used;
+use super::marks::one;
+use super::marks::room_of;
+use super::marks::set_mark;
+use super::marks::used_below;
+ghost use mathlib.Core.Path.{_≡_};
+ghost use Prim.Native.Nat.{_+_, _*_, _/_, _<_, _≤_};
+ghost use lib.ListN.{length};
+ghost use Rattle.rows.specs.Scan.{how-many, lowest};
+ghost use Rattle.rows.specs.Marks.{word, in-word};
+ghost use Rattle.rows.specs.Table.{table, put-row, room, row-at, matches, passes, free-row, alive, found, some-row, stored, taken, ended};
+ghost use Rattle.rows.specs.Pins.{pins, of-thread, is-buffer};
+
+// Numbers to a row.
+const STRIDE: usize = 3;
+
+// A row: thread is 0 unless the family is critical.
+pub struct Pin {
+    pub thread: Number,
+    pub family: Number,
+    pub buffer: Number,
+}
+
+// The lesser of rows and marks, at most 65,536.
+pub fn room(rows: &[Number], marks: &[u64]) -> usize
+    ensures { λ r. ⌜ r ≡ room pins (table (now (rows .entry)) (now (marks .entry))) ⌝ }
+{
+    room_of(rows.len() / STRIDE, marks.len())
+}
+
+// The lowest free row, or the room.
+pub fn lowest_free(rows: &[Number], marks: &[u64]) -> usize
+    ensures { λ r. ⌜ r ≡ free-row pins (table (now (rows .entry)) (now (marks .entry))) ⌝ }
+{
+    free_below(marks, room(rows, marks))
+}
+
+// How many rows are alive: the buffers outstanding.
+pub fn alive(rows: &[Number], marks: &[u64]) -> usize
+    ensures { λ r. ⌜ r ≡ alive pins (table (now (rows .entry)) (now (marks .entry))) ⌝ }
+{
+    used_below(marks, room(rows, marks))
+}
+
+// What stands in row r, used or not.
+fn read(rows: &[Number], r: usize) -> Pin
+    requires { ⌜ r < length (now rows) / pins .stride ⌝ }
+    ensures { λ x. ⌜ x ≡ row-at pins (now (rows .entry)) r ⌝ }
+{
+    let at = r * STRIDE;
+    Pin {
+        thread: rows[at],
+        family: rows[at + 1],
+        buffer: rows[at + 2],
+    }
+}
+
+// Puts a row's numbers into row r.
+fn write(rows: &mut [Number], r: usize, row: Pin)
+    requires { ⌜ r < length (now rows) / pins .stride ⌝ }
+    ensures { λ _. ⌜ now (rows .exit) ≡ put-row (pins .stride) (now (rows .entry)) r (pins .numbers row) ⌝ }
+{
+    let at = r * STRIDE;
+    rows[at] = row.thread;
+    rows[at + 1] = row.family;
+    rows[at + 2] = row.buffer;
+}
+
+// Row r holds this and is marked; nothing where there is no row r.
+pub fn store(rows: &mut [Number], marks: &mut [u64], r: usize, row: Pin)
+    ensures { λ _. ⌜ table (now (rows .exit)) (now (marks .exit)) ≡ stored pins (table (now (rows .entry)) (now (marks .entry))) r row ⌝ }
+{
+    if r < room(rows, marks) {
+        write(rows, r, row);
+        set_mark(marks, r);
+    }
+}
+
+// Takes the lowest free row, and answers it, or the room where all are used.
+pub fn take(rows: &mut [Number], marks: &mut [u64], row: Pin) -> usize
+    ensures answer { λ r. ⌜ r ≡ free-row pins (table (now (rows .entry)) (now (marks .entry))) ⌝ }
+    ensures left { λ _. ⌜ table (now (rows .exit)) (now (marks .exit)) ≡ taken pins (table (now (rows .entry)) (now (marks .entry))) row ⌝ }
+{
+    let r = lowest_free(rows, marks);
+    store(rows, marks, r, row);
+    r
+}
+
+// Ends row r; nothing where there is no row r.
+pub fn end(rows: &mut [Number], marks: &mut [u64], r: usize)
+    ensures { λ _. ⌜ table (now (rows .exit)) (now (marks .exit)) ≡ ended pins (table (now (rows .entry)) (now (marks .entry))) r ⌝ }
+{
+    if r < room(rows, marks) {
+        let row = Pin {
+            thread: 0,
+            family: 0,
+            buffer: 0,
+        };
+        write(rows, r, row);
+        clear_mark(marks, r);
+    }
+}
+
+// The row is of thread t.
+fn of_thread(row: Pin, t: Number) -> bool
+    ensures { λ b. ⌜ b ≡ of-thread t row ⌝ }
+{
+    row.thread == t
+}
+
+// The row is that of buffer b of family f, of thread t.
+fn is_buffer(row: Pin, t: Number, f: Number, b: Number) -> bool
+    ensures { λ y. ⌜ y ≡ is-buffer t f b row ⌝ }
+{
+    (row.buffer == b) & (row.family == f) & (row.thread == t)
+}
+
+// How many rows of word w are such, used or not. No branch, so it is compiled to vectors.
+fn buffers(rows: &[Number], w: usize, t: Number, f: Number, b: Number) -> Number
+    requires { ⌜ w * word + word ≤ length (now rows) / pins .stride ⌝ }
+    ensures { λ k. ⌜ k ≡ how-many (in-word (matches pins (is-buffer t f b) (now (rows .entry))) w) word ⌝ }
+{
+    let mut sum: Number = 0;
+    let mut i = 0;
+    while i < WORD {
+        sum += one(is_buffer(read(rows, w * WORD + i), t, f, b));
+        i += 1;
+    }
+    sum
+}
+
+// Row r is used and is that of buffer b of family f, of thread t.
+fn holds(rows: &[Number], marks: &[u64], r: usize, t: Number, f: Number, b: Number) -> bool
+    requires { ⌜ r < room pins (table (now rows) (now marks)) ⌝ }
+    ensures { λ y. ⌜ y ≡ passes pins (is-buffer t f b) (table (now (rows .entry)) (now (marks .entry))) r ⌝ }
+{
+    if is_buffer(read(rows, r), t, f, b) {
+        is_used(marks, r)
+    } else {
+        false
+    }
+}
+
+// The lowest such row among the first m of word w, or m.
+fn find_first(
+    rows: &[Number],
+    marks: &[u64],
+    w: usize,
+    m: usize,
+    t: Number,
+    f: Number,
+    b: Number,
+) -> usize
+    requires { ⌜ w * word + m ≤ room pins (table (now rows) (now marks)) ⌝ }
+    ensures { λ i. ⌜ (i ≡ lowest (in-word (passes pins (is-buffer t f b) (table (now (rows .entry)) (now (marks .entry)))) w) m) × (i ≤ m) ⌝ }
+{
+    let mut i = 0;
+    while i < m {
+        if holds(rows, marks, w * WORD + i, t, f, b) {
+            return i;
+        }
+        i += 1;
+    }
+    m
+}
+
+// The lowest such row of word w, or 64. A word of which no row is used is passed over at once.
+fn find_in(rows: &[Number], marks: &[u64], w: usize, t: Number, f: Number, b: Number) -> usize
+    requires { ⌜ w * word + word ≤ room pins (table (now rows) (now marks)) ⌝ }
+    ensures { λ i. ⌜ i ≡ lowest (in-word (passes pins (is-buffer t f b) (table (now (rows .entry)) (now (marks .entry)))) w) word ⌝ }
+{
+    if marks[w] == 0 {
+        return WORD;
+    }
+    if buffers(rows, w, t, f, b) == 0 {
+        return WORD;
+    }
+    find_first(rows, marks, w, WORD, t, f, b)
+}
+
+// The lowest used row of buffer b of family f, of thread t, or the room.
+pub fn find(rows: &[Number], marks: &[u64], t: Number, f: Number, b: Number) -> usize
+    ensures { λ r. ⌜ r ≡ found pins (is-buffer t f b) (table (now (rows .entry)) (now (marks .entry))) ⌝ }
+{
+    let n = room(rows, marks);
+    let full = n / WORD;
+    let mut w = 0;
+    while w < full {
+        let i = find_in(rows, marks, w, t, f, b);
+        if i < WORD {
+            return w * WORD + i;
+        }
+        w += 1;
+    }
+    full * WORD + find_first(rows, marks, full, n % WORD, t, f, b)
+}
+
+// How many rows of word w are of thread t, used or not.
+fn threads(rows: &[Number], w: usize, t: Number) -> Number
+    requires { ⌜ w * word + word ≤ length (now rows) / pins .stride ⌝ }
+    ensures { λ k. ⌜ k ≡ how-many (in-word (matches pins (of-thread t) (now (rows .entry))) w) word ⌝ }
+{
+    let mut sum: Number = 0;
+    let mut i = 0;
+    while i < WORD {
+        sum += one(of_thread(read(rows, w * WORD + i), t));
+        i += 1;
+    }
+    sum
+}
+
+// Row r is used and is of thread t.
+fn is_of(rows: &[Number], marks: &[u64], r: usize, t: Number) -> bool
+    requires { ⌜ r < room pins (table (now rows) (now marks)) ⌝ }
+    ensures { λ b. ⌜ b ≡ passes pins (of-thread t) (table (now (rows .entry)) (now (marks .entry))) r ⌝ }
+{
+    if of_thread(read(rows, r), t) {
+        is_used(marks, r)
+    } else {
+        false
+    }
+}
+
+// The lowest such row among the first m of word w, or m.
+fn of_first(rows: &[Number], marks: &[u64], w: usize, m: usize, t: Number) -> usize
+    requires { ⌜ w * word + m ≤ room pins (table (now rows) (now marks)) ⌝ }
+    ensures { λ i. ⌜ i ≡ lowest (in-word (passes pins (of-thread t) (table (now (rows .entry)) (now (marks .entry)))) w) m ⌝ }
+{
+    let mut i = 0;
+    while i < m {
+        if is_of(rows, marks, w * WORD + i, t) {
+            return i;
+        }
+        i += 1;
+    }
+    m
+}
+
+// The lowest such row of word w, or 64.
+fn of_in(rows: &[Number], marks: &[u64], w: usize, t: Number) -> usize
+    requires { ⌜ w * word + word ≤ room pins (table (now rows) (now marks)) ⌝ }
+    ensures { λ i. ⌜ i ≡ lowest (in-word (passes pins (of-thread t) (table (now (rows .entry)) (now (marks .entry)))) w) word ⌝ }
+{
+    if marks[w] == 0 {
+        return WORD;
+    }
+    if threads(rows, w, t) == 0 {
+        return WORD;
+    }
+    of_first(rows, marks, w, WORD, t)
+}
+
+// Whether a buffer of thread t is outstanding: of a thread from 1 that is a critical one.
+pub fn outstanding(rows: &[Number], marks: &[u64], t: Number) -> bool
+    ensures { λ b. ⌜ b ≡ some-row pins (of-thread t) (table (now (rows .entry)) (now (marks .entry))) ⌝ }
+{
+    let n = room(rows, marks);
+    let full = n / WORD;
+    let mut w = 0;
+    while w < full {
+        if of_in(rows, marks, w, t) < WORD {
+            return true;
+        }
+        w += 1;
+    }
+    of_first(rows, marks, full, n % WORD, t) < n % WORD
+}

@@ -1,0 +1,374 @@
+// Reference rows: thread, handle and frame of each handle that is alive.
+use super::Number;
+use super::marks::WORD;
+use super::marks::clear_mark;
+use super::marks::free_below;
+use super::marks::is_used;
+use super::marks::one;
+use super::marks::room_of;
+use super::marks::set_mark;
+use super::marks::size;
+use super::marks::used_below;
+ghost use mathlib.Core.Path.{_≡_};
+ghost use Prim.Native.Nat.{_+_, _*_, _/_, _<_, _≤_};
+ghost use lib.ListN.{length};
+ghost use Rattle.rows.specs.Scan.{how-many, lowest};
+ghost use Rattle.rows.specs.Marks.{word, in-word};
+ghost use Rattle.rows.specs.Table.{table, put-row, room, row-at, matches, passes, free-row, alive, found, counted, stored, taken, ended, ended-if, ended-from, ended-all};
+ghost use Rattle.rows.specs.References.{references, of-thread, has-handle, is-handle, in-frame, from-frame};
+
+// Numbers to a row.
+const STRIDE: usize = 3;
+
+// A row: thread and frame are 0 for global and weak handles, else from 1.
+pub struct Reference {
+    pub thread: Number,
+    pub handle: Number,
+    pub frame: Number,
+}
+
+// The lesser of rows and marks, at most 65,536.
+pub fn room(rows: &[Number], marks: &[u64]) -> usize
+    ensures { λ r. ⌜ r ≡ room references (table (now (rows .entry)) (now (marks .entry))) ⌝ }
+{
+    room_of(rows.len() / STRIDE, marks.len())
+}
+
+// The lowest free row, or the room.
+pub fn lowest_free(rows: &[Number], marks: &[u64]) -> usize
+    ensures { λ r. ⌜ r ≡ free-row references (table (now (rows .entry)) (now (marks .entry))) ⌝ }
+{
+    free_below(marks, room(rows, marks))
+}
+
+// How many rows are alive.
+pub fn alive(rows: &[Number], marks: &[u64]) -> usize
+    ensures { λ r. ⌜ r ≡ alive references (table (now (rows .entry)) (now (marks .entry))) ⌝ }
+{
+    used_below(marks, room(rows, marks))
+}
+
+// What stands in row r, used or not.
+fn read(rows: &[Number], r: usize) -> Reference
+    requires { ⌜ r < length (now rows) / references .stride ⌝ }
+    ensures { λ x. ⌜ x ≡ row-at references (now (rows .entry)) r ⌝ }
+{
+    let at = r * STRIDE;
+    Reference {
+        thread: rows[at],
+        handle: rows[at + 1],
+        frame: rows[at + 2],
+    }
+}
+
+// Puts a row's numbers into row r.
+fn write(rows: &mut [Number], r: usize, row: Reference)
+    requires { ⌜ r < length (now rows) / references .stride ⌝ }
+    ensures { λ _. ⌜ now (rows .exit) ≡ put-row (references .stride) (now (rows .entry)) r (references .numbers row) ⌝ }
+{
+    let at = r * STRIDE;
+    rows[at] = row.thread;
+    rows[at + 1] = row.handle;
+    rows[at + 2] = row.frame;
+}
+
+// Row r holds this and is marked; nothing where there is no row r.
+pub fn store(rows: &mut [Number], marks: &mut [u64], r: usize, row: Reference)
+    ensures { λ _. ⌜ table (now (rows .exit)) (now (marks .exit)) ≡ stored references (table (now (rows .entry)) (now (marks .entry))) r row ⌝ }
+{
+    if r < room(rows, marks) {
+        write(rows, r, row);
+        set_mark(marks, r);
+    }
+}
+
+// Takes the lowest free row, and answers it, or the room where all are used.
+pub fn take(rows: &mut [Number], marks: &mut [u64], row: Reference) -> usize
+    ensures answer { λ r. ⌜ r ≡ free-row references (table (now (rows .entry)) (now (marks .entry))) ⌝ }
+    ensures left { λ _. ⌜ table (now (rows .exit)) (now (marks .exit)) ≡ taken references (table (now (rows .entry)) (now (marks .entry))) row ⌝ }
+{
+    let r = lowest_free(rows, marks);
+    store(rows, marks, r, row);
+    r
+}
+
+// Ends row r; nothing where there is no row r.
+pub fn end(rows: &mut [Number], marks: &mut [u64], r: usize)
+    ensures { λ _. ⌜ table (now (rows .exit)) (now (marks .exit)) ≡ ended references (table (now (rows .entry)) (now (marks .entry))) r ⌝ }
+{
+    if r < room(rows, marks) {
+        let row = Reference {
+            thread: 0,
+            handle: 0,
+            frame: 0,
+        };
+        write(rows, r, row);
+        clear_mark(marks, r);
+    }
+}
+
+// The row is of thread t.
+fn of_thread(row: Reference, t: Number) -> bool
+    ensures { λ b. ⌜ b ≡ of-thread t row ⌝ }
+{
+    row.thread == t
+}
+
+// The row is that of handle h in thread t.
+fn is_handle(row: Reference, t: Number, h: Number) -> bool
+    ensures { λ b. ⌜ b ≡ is-handle t h row ⌝ }
+{
+    (row.handle == h) & (row.thread == t)
+}
+
+// The row is of thread t and frame f.
+fn in_frame(row: Reference, t: Number, f: Number) -> bool
+    ensures { λ b. ⌜ b ≡ in-frame t f row ⌝ }
+{
+    (row.frame == f) & (row.thread == t)
+}
+
+// The row is of thread t and frame f or above.
+fn from_frame(row: Reference, t: Number, f: Number) -> bool
+    ensures { λ b. ⌜ b ≡ from-frame t f row ⌝ }
+{
+    (f <= row.frame) & (row.thread == t)
+}
+
+// How many rows of word w have handle h, used or not. No branch, so it is compiled to vectors.
+fn handles(rows: &[Number], w: usize, h: Number) -> Number
+    requires { ⌜ w * word + word ≤ length (now rows) / references .stride ⌝ }
+    ensures { λ k. ⌜ k ≡ how-many (in-word (matches references (has-handle h) (now (rows .entry))) w) word ⌝ }
+{
+    let mut sum: Number = 0;
+    let mut i = 0;
+    while i < WORD {
+        let row = read(rows, w * WORD + i);
+        sum += one(row.handle == h);
+        i += 1;
+    }
+    sum
+}
+
+// Row r is used and is that of handle h in thread t.
+fn holds(rows: &[Number], marks: &[u64], r: usize, t: Number, h: Number) -> bool
+    requires { ⌜ r < room references (table (now rows) (now marks)) ⌝ }
+    ensures { λ b. ⌜ b ≡ passes references (is-handle t h) (table (now (rows .entry)) (now (marks .entry))) r ⌝ }
+{
+    if is_handle(read(rows, r), t, h) {
+        is_used(marks, r)
+    } else {
+        false
+    }
+}
+
+// The lowest such row among the first m of word w, or m.
+fn find_first(rows: &[Number], marks: &[u64], w: usize, m: usize, t: Number, h: Number) -> usize
+    requires { ⌜ w * word + m ≤ room references (table (now rows) (now marks)) ⌝ }
+    ensures { λ i. ⌜ (i ≡ lowest (in-word (passes references (is-handle t h) (table (now (rows .entry)) (now (marks .entry)))) w) m) × (i ≤ m) ⌝ }
+{
+    let mut i = 0;
+    while i < m {
+        if holds(rows, marks, w * WORD + i, t, h) {
+            return i;
+        }
+        i += 1;
+    }
+    m
+}
+
+// The lowest such row of word w, or 64; looked at row by row only where a handle is h.
+fn find_in(rows: &[Number], marks: &[u64], w: usize, t: Number, h: Number) -> usize
+    requires { ⌜ w * word + word ≤ room references (table (now rows) (now marks)) ⌝ }
+    ensures { λ i. ⌜ i ≡ lowest (in-word (passes references (is-handle t h) (table (now (rows .entry)) (now (marks .entry)))) w) word ⌝ }
+{
+    if handles(rows, w, h) == 0 {
+        return WORD;
+    }
+    find_first(rows, marks, w, WORD, t, h)
+}
+
+// The lowest used row of handle h in thread t, or the room.
+pub fn find(rows: &[Number], marks: &[u64], t: Number, h: Number) -> usize
+    ensures { λ r. ⌜ r ≡ found references (is-handle t h) (table (now (rows .entry)) (now (marks .entry))) ⌝ }
+{
+    let n = room(rows, marks);
+    let full = n / WORD;
+    let mut w = 0;
+    while w < full {
+        let i = find_in(rows, marks, w, t, h);
+        if i < WORD {
+            return w * WORD + i;
+        }
+        w += 1;
+    }
+    full * WORD + find_first(rows, marks, full, n % WORD, t, h)
+}
+
+// How many rows of word w are of thread t and frame f, used or not.
+fn frames(rows: &[Number], w: usize, t: Number, f: Number) -> Number
+    requires { ⌜ w * word + word ≤ length (now rows) / references .stride ⌝ }
+    ensures { λ k. ⌜ (k ≡ how-many (in-word (matches references (in-frame t f) (now (rows .entry))) w) word) × (k ≤ word) ⌝ }
+{
+    let mut sum: Number = 0;
+    let mut i = 0;
+    while i < WORD {
+        sum += one(in_frame(read(rows, w * WORD + i), t, f));
+        i += 1;
+    }
+    sum
+}
+
+// Row r is used and is of thread t and frame f.
+fn lies_in(rows: &[Number], marks: &[u64], r: usize, t: Number, f: Number) -> bool
+    requires { ⌜ r < room references (table (now rows) (now marks)) ⌝ }
+    ensures { λ b. ⌜ b ≡ passes references (in-frame t f) (table (now (rows .entry)) (now (marks .entry))) r ⌝ }
+{
+    if in_frame(read(rows, r), t, f) {
+        is_used(marks, r)
+    } else {
+        false
+    }
+}
+
+// How many of the first m rows of word w are such.
+fn count_first(rows: &[Number], marks: &[u64], w: usize, m: usize, t: Number, f: Number) -> Number
+    requires { ⌜ (w * word + m ≤ room references (table (now rows) (now marks))) × (m ≤ word) ⌝ }
+    ensures { λ k. ⌜ (k ≡ how-many (in-word (passes references (in-frame t f) (table (now (rows .entry)) (now (marks .entry)))) w) m) × (k ≤ word) ⌝ }
+{
+    let mut sum: Number = 0;
+    let mut i = 0;
+    while i < m {
+        sum += one(lies_in(rows, marks, w * WORD + i, t, f));
+        i += 1;
+    }
+    sum
+}
+
+// How many rows of word w are such. Where all rows of the word are used, those that match are those that count.
+fn count_in(rows: &[Number], marks: &[u64], w: usize, t: Number, f: Number) -> Number
+    requires { ⌜ w * word + word ≤ room references (table (now rows) (now marks)) ⌝ }
+    ensures { λ k. ⌜ (k ≡ how-many (in-word (passes references (in-frame t f) (table (now (rows .entry)) (now (marks .entry)))) w) word) × (k ≤ word) ⌝ }
+{
+    let k = frames(rows, w, t, f);
+    if k == 0 {
+        return 0;
+    }
+    if !marks[w] == 0 {
+        return k;
+    }
+    count_first(rows, marks, w, WORD, t, f)
+}
+
+// How many used rows are of thread t and frame f.
+pub fn count(rows: &[Number], marks: &[u64], t: Number, f: Number) -> usize
+    ensures { λ k. ⌜ k ≡ counted references (in-frame t f) (table (now (rows .entry)) (now (marks .entry))) ⌝ }
+{
+    let n = room(rows, marks);
+    let full = n / WORD;
+    let mut sum: Number = 0;
+    let mut w = 0;
+    while w < full {
+        sum += count_in(rows, marks, w, t, f);
+        w += 1;
+    }
+    size(sum + count_first(rows, marks, full, n % WORD, t, f))
+}
+
+// Row r is used and is of thread t.
+fn is_of(rows: &[Number], marks: &[u64], r: usize, t: Number) -> bool
+    requires { ⌜ r < room references (table (now rows) (now marks)) ⌝ }
+    ensures { λ b. ⌜ b ≡ passes references (of-thread t) (table (now (rows .entry)) (now (marks .entry))) r ⌝ }
+{
+    if of_thread(read(rows, r), t) {
+        is_used(marks, r)
+    } else {
+        false
+    }
+}
+
+// How many globals and weaks are alive: the used rows of thread 0. Row by row, since only the end of a trace asks.
+pub fn globals(rows: &[Number], marks: &[u64]) -> usize
+    ensures { λ k. ⌜ k ≡ counted references (of-thread 0) (table (now (rows .entry)) (now (marks .entry))) ⌝ }
+{
+    let n = room(rows, marks);
+    let mut sum: Number = 0;
+    let mut r = 0;
+    while r < n {
+        sum += one(is_of(rows, marks, r, 0));
+        r += 1;
+    }
+    size(sum)
+}
+
+// How many rows of word w are of thread t and frame f or above, used or not.
+fn above(rows: &[Number], w: usize, t: Number, f: Number) -> Number
+    requires { ⌜ w * word + word ≤ length (now rows) / references .stride ⌝ }
+    ensures { λ k. ⌜ k ≡ how-many (in-word (matches references (from-frame t f) (now (rows .entry))) w) word ⌝ }
+{
+    let mut sum: Number = 0;
+    let mut i = 0;
+    while i < WORD {
+        sum += one(from_frame(read(rows, w * WORD + i), t, f));
+        i += 1;
+    }
+    sum
+}
+
+// Row r is used and is of thread t and frame f or above.
+fn lies_above(rows: &[Number], marks: &[u64], r: usize, t: Number, f: Number) -> bool
+    requires { ⌜ r < room references (table (now rows) (now marks)) ⌝ }
+    ensures { λ b. ⌜ b ≡ passes references (from-frame t f) (table (now (rows .entry)) (now (marks .entry))) r ⌝ }
+{
+    if from_frame(read(rows, r), t, f) {
+        is_used(marks, r)
+    } else {
+        false
+    }
+}
+
+// Ends row r, if it is such.
+fn end_if(rows: &mut [Number], marks: &mut [u64], r: usize, t: Number, f: Number)
+    requires { ⌜ r < room references (table (now rows) (now marks)) ⌝ }
+    ensures { λ _. ⌜ table (now (rows .exit)) (now (marks .exit)) ≡ ended-if references (from-frame t f) (table (now (rows .entry)) (now (marks .entry))) r ⌝ }
+{
+    if lies_above(rows, marks, r, t, f) {
+        end(rows, marks, r);
+    }
+}
+
+// Ends such rows among the first m of word w.
+fn end_first(rows: &mut [Number], marks: &mut [u64], w: usize, m: usize, t: Number, f: Number)
+    requires { ⌜ w * word + m ≤ room references (table (now rows) (now marks)) ⌝ }
+    ensures { λ _. ⌜ table (now (rows .exit)) (now (marks .exit)) ≡ ended-from references (from-frame t f) (table (now (rows .entry)) (now (marks .entry))) (w * word) m ⌝ }
+{
+    let mut i = 0;
+    while i < m {
+        end_if(rows, marks, w * WORD + i, t, f);
+        i += 1;
+    }
+}
+
+// Ends such rows of word w.
+fn end_in(rows: &mut [Number], marks: &mut [u64], w: usize, t: Number, f: Number)
+    requires { ⌜ w * word + word ≤ room references (table (now rows) (now marks)) ⌝ }
+    ensures { λ _. ⌜ table (now (rows .exit)) (now (marks .exit)) ≡ ended-from references (from-frame t f) (table (now (rows .entry)) (now (marks .entry))) (w * word) word ⌝ }
+{
+    if above(rows, w, t, f) != 0 {
+        end_first(rows, marks, w, WORD, t, f);
+    }
+}
+
+// Ends the used rows of thread t and frame f or above.
+pub fn end_frames(rows: &mut [Number], marks: &mut [u64], t: Number, f: Number)
+    ensures { λ _. ⌜ table (now (rows .exit)) (now (marks .exit)) ≡ ended-all references (from-frame t f) (table (now (rows .entry)) (now (marks .entry))) ⌝ }
+{
+    let n = room(rows, marks);
+    let full = n / WORD;
+    let mut w = 0;
+    while w < full {
+        end_in(rows, marks, w, t, f);
+        w += 1;
+    }
+    end_first(rows, marks, full, n % WORD, t, f);
+}
