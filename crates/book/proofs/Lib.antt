@@ -1,0 +1,9 @@
+pub mod Rows
+pub mod Stacks
+pub mod Frames
+pub mod Items
+pub mod Changing
+pub mod AllThreads
+pub mod Tracing
+pub mod Fitness
+pub mod Steps

@@ -1,0 +1,10 @@
+-- `book::pending_of` meets its contract. Assumes nothing.
+use Rattle.book.specs.Threads.{thread-in, thread-of}
+use borrow.Author.Needs.{needs}
+use Rattle.book.proofs.pending_of.Statement.{statement}
+use Rattle.book.proofs.pending_of.Tie as tie
+
+pub pending-of-spec : {M : Type 1} → statement M
+pending-of-spec = tie.close (tie.spec
+    (λ c κs. search needs)
+    (λ c. unfold thread-in thread-of in search needs))

@@ -1,0 +1,5 @@
+pub mod Layout
+pub mod Threads
+pub mod Moves
+pub mod Unfit
+pub mod Changes

@@ -1,0 +1,434 @@
+// The lent thread book: a row of numbers for each thread, and row 0 for the trace itself. Every function takes any contents, any thread and a short book too.
+ghost use Prim.Native.Nat.{_-_, _<_, _≤_, min, max};
+ghost use mathlib.Core.Path.{_≡_};
+ghost use mathlib.Core.Option.{some};
+ghost use lib.ListN.{length};
+ghost use Rattle.words.specs.Choice.{one};
+ghost use Rattle.lines.specs.Line.{threads};
+ghost use Rattle.history.specs.Items.{is-native, top-of};
+ghost use Rattle.history.specs.Frames.{top-pushed, without-native};
+ghost use Rattle.history.specs.Acceptance.{deepest};
+ghost use Rattle.book.specs.Layout.{width, whole, cell, put};
+ghost use Rattle.book.specs.Threads.{thread-in, is-pushed, top-capacity, item-is, items-in, natives-of, top-is, lines-in, closed-in, env-elsewhere, all-monitors};
+ghost use Rattle.book.specs.Moves.{frame-pushed, native-left, frame-popped, capacity-raised, item-pushed, item-popped, env-set, pending-set, monitor-added, monitor-taken, line-counted, closed-set, cleared};
+ghost use Rattle.book.specs.Unfit.{overdone, overdone-in, unfit};
+
+// The top of a thread's open items. A call has its function, and max(n,0) of its C.
+pub enum Top {
+    Nothing,
+    Native,
+    Call(u32, u32),
+}
+
+// Numbers to a row, and to a book.
+const WIDTH: usize = 264;
+
+pub const WHOLE: usize = 4488;
+
+const THREADS: u32 = 16;
+
+// The most open items, and frames, of a thread.
+const DEEPEST: u64 = 64;
+
+// The most lines, and monitors.
+const MOST_LINES: u64 = 1000000;
+
+// The columns of a row. The first two are of row 0 alone, the last four of open items.
+const LINES: usize = 0;
+
+const CLOSED: usize = 1;
+
+const ENV: usize = 2;
+
+const PENDING: usize = 3;
+
+const MONITORS: usize = 4;
+
+const FRAMES: usize = 5;
+
+const CAPACITIES: usize = 6;
+
+const PUSHED: usize = 70;
+
+const ITEMS: usize = 134;
+
+const NATIVES: usize = 135;
+
+const FUNCTIONS: usize = 136;
+
+const ASKED: usize = 200;
+
+// An item's two numbers are read as u32.
+const WORD: u64 = 4294967296;
+
+// The function of a native, to push one.
+pub const NO_FUNCTION: u32 = 0;
+
+// ---- numbers
+
+// The number in row t and column j, 0 past the end.
+fn number(book: &[u64], t: u32, j: usize) -> u64
+    requires { ⌜ j < width ⌝ }
+    ensures { λ r. ⌜ r ≡ cell (now (book .entry)) t j ⌝ }
+{
+    let at = t as usize * WIDTH + j;
+    if book.len() <= at {
+        return 0;
+    }
+    book[at]
+}
+
+// Past the end nothing is written.
+fn store(book: &mut [u64], t: u32, j: usize, v: u64)
+    requires { ⌜ j < width ⌝ }
+    ensures { λ _. ⌜ now (book .exit) ≡ put (now (book .entry)) t j v ⌝ }
+{
+    let at = t as usize * WIDTH + j;
+    if book.len() <= at {
+        return;
+    }
+    book[at] = v;
+}
+
+fn lesser(a: u64, b: u64) -> u64
+    ensures { λ r. ⌜ r ≡ min a b ⌝ }
+{
+    if a < b { a } else { b }
+}
+
+fn greater(a: u64, b: u64) -> u64
+    ensures { λ r. ⌜ r ≡ max a b ⌝ }
+{
+    if a < b { b } else { a }
+}
+
+// What is left of a when b is taken.
+fn less(a: u64, b: u64) -> u64
+    ensures { λ r. ⌜ r ≡ a - b ⌝ }
+{
+    if a < b { 0 } else { a - b }
+}
+
+fn one_if(b: bool) -> u64
+    ensures { λ r. ⌜ (r ≡ one b) × (r ≤ 1) ⌝ }
+{
+    if b { 1 } else { 0 }
+}
+
+// ---- a thread's env, pending exception and monitors
+
+pub fn env_of(book: &[u64], t: u32) -> u64
+    ensures { λ r. ⌜ r ≡ thread-in (now (book .entry)) t .env ⌝ }
+{
+    number(book, t, ENV)
+}
+
+// Another thread than t has this env.
+pub fn env_elsewhere(book: &[u64], t: u32, env: u64) -> bool
+    ensures { λ r. ⌜ r ≡ env-elsewhere (now (book .entry)) t env ⌝ }
+{
+    let mut found = false;
+    let mut s = 1;
+    while s <= THREADS {
+        found = found | ((s != t) & (env_of(book, s) == env));
+        s += 1;
+    }
+    found
+}
+
+pub fn set_env(book: &mut [u64], t: u32, env: u64)
+    ensures { λ _. ⌜ now (book .exit) ≡ env-set (now (book .entry)) t env ⌝ }
+{
+    store(book, t, ENV, env);
+}
+
+pub fn pending_of(book: &[u64], t: u32) -> u64
+    ensures { λ r. ⌜ r ≡ thread-in (now (book .entry)) t .pending ⌝ }
+{
+    number(book, t, PENDING)
+}
+
+pub fn set_pending(book: &mut [u64], t: u32, pending: u64)
+    ensures { λ _. ⌜ now (book .exit) ≡ pending-set (now (book .entry)) t pending ⌝ }
+{
+    store(book, t, PENDING, pending);
+}
+
+pub fn monitors_of(book: &[u64], t: u32) -> u64
+    ensures { λ r. ⌜ r ≡ thread-in (now (book .entry)) t .monitors ⌝ }
+{
+    number(book, t, MONITORS)
+}
+
+// Monitors of all threads.
+pub fn all_monitors(book: &[u64]) -> u64
+    ensures { λ r. ⌜ r ≡ all-monitors (now (book .entry)) ⌝ }
+{
+    let mut sum = 0;
+    let mut t = 1;
+    while t <= THREADS {
+        sum += lesser(monitors_of(book, t), MOST_LINES);
+        t += 1;
+    }
+    sum
+}
+
+pub fn add_monitor(book: &mut [u64], t: u32)
+    ensures { λ _. ⌜ now (book .exit) ≡ monitor-added (now (book .entry)) t ⌝ }
+{
+    let m = lesser(monitors_of(book, t), MOST_LINES);
+    store(book, t, MONITORS, m + 1);
+}
+
+// One fewer, if there is any.
+pub fn take_monitor(book: &mut [u64], t: u32)
+    ensures { λ _. ⌜ now (book .exit) ≡ monitor-taken (now (book .entry)) t ⌝ }
+{
+    let m = less(monitors_of(book, t), 1);
+    store(book, t, MONITORS, m);
+}
+
+// ---- its frames
+
+pub fn frames_of(book: &[u64], t: u32) -> u32
+    ensures { λ r. ⌜ (r ≡ length (thread-in (now (book .entry)) t .frames)) × (r ≤ deepest) ⌝ }
+{
+    lesser(number(book, t, FRAMES), DEEPEST) as u32
+}
+
+pub fn top_capacity(book: &[u64], t: u32) -> u64
+    ensures { λ r. ⌜ r ≡ top-capacity (thread-in (now (book .entry)) t .capacities) ⌝ }
+{
+    let d = frames_of(book, t);
+    if d == 0 {
+        return 0;
+    }
+    number(book, t, CAPACITIES + (d - 1) as usize)
+}
+
+// Frame i was pushed; frames are counted from 0 here.
+fn frame_pushed(book: &[u64], t: u32, i: u32) -> bool
+    requires { ⌜ i < deepest ⌝ }
+    ensures { λ r. ⌜ r ≡ is-pushed (cell (now (book .entry)) t) i ⌝ }
+{
+    number(book, t, PUSHED + i as usize) != 0
+}
+
+pub fn top_pushed(book: &[u64], t: u32) -> bool
+    ensures { λ r. ⌜ r ≡ top-pushed (thread-in (now (book .entry)) t .frames) ⌝ }
+{
+    let d = frames_of(book, t);
+    if d == 0 {
+        return false;
+    }
+    frame_pushed(book, t, d - 1)
+}
+
+// How many frames X leaves.
+pub fn frames_left(book: &[u64], t: u32) -> u32
+    ensures { λ r. ⌜ (r ≡ length (without-native (thread-in (now (book .entry)) t .frames))) × (r ≤ deepest) ⌝ }
+{
+    let mut d = frames_of(book, t);
+    while 0 < d {
+        let e = d - 1;
+        if !frame_pushed(book, t, e) {
+            return e;
+        }
+        d = e;
+    }
+    0
+}
+
+// A frame more, if there is room.
+pub fn push_frame(book: &mut [u64], t: u32, capacity: u64, pushed: bool)
+    ensures { λ _. ⌜ now (book .exit) ≡ frame-pushed (now (book .entry)) t capacity pushed ⌝ }
+{
+    let d = frames_of(book, t);
+    if DEEPEST as u32 <= d {
+        return;
+    }
+    let mark = one_if(pushed);
+    store(book, t, CAPACITIES + d as usize, capacity);
+    store(book, t, PUSHED + d as usize, mark);
+    store(book, t, FRAMES, d as u64 + 1);
+}
+
+// X: the frames of the top native end.
+pub fn leave_native(book: &mut [u64], t: u32)
+    ensures { λ _. ⌜ now (book .exit) ≡ native-left (now (book .entry)) t ⌝ }
+{
+    let d = frames_left(book, t);
+    store(book, t, FRAMES, d as u64);
+}
+
+// C of 20: the top frame ends, if it was pushed.
+pub fn pop_frame(book: &mut [u64], t: u32)
+    ensures { λ _. ⌜ now (book .exit) ≡ frame-popped (now (book .entry)) t ⌝ }
+{
+    let d = frames_of(book, t);
+    let gone = one_if(top_pushed(book, t));
+    store(book, t, FRAMES, less(d as u64, gone));
+}
+
+// R of 26: the top frame's capacity is k at least.
+pub fn raise_capacity(book: &mut [u64], t: u32, k: u64)
+    ensures { λ _. ⌜ now (book .exit) ≡ capacity-raised (now (book .entry)) t k ⌝ }
+{
+    let d = frames_of(book, t);
+    if d == 0 {
+        return;
+    }
+    let c = greater(top_capacity(book, t), k);
+    store(book, t, CAPACITIES + (d - 1) as usize, c);
+}
+
+// ---- its open items: no other function touches their columns
+
+pub fn items_of(book: &[u64], t: u32) -> u32
+    ensures { λ r. ⌜ (r ≡ length (items-in (now (book .entry)) t)) × (r ≤ deepest) ⌝ }
+{
+    lesser(number(book, t, ITEMS), DEEPEST) as u32
+}
+
+fn natives_of(book: &[u64], t: u32) -> u64
+    ensures { λ r. ⌜ (r ≡ natives-of (cell (now (book .entry)) t)) × (r ≤ deepest) ⌝ }
+{
+    lesser(number(book, t, NATIVES), DEEPEST)
+}
+
+fn item_is(f: u64, n: u64) -> Top
+    ensures { λ r. ⌜ top-is r ≡ some (item-is f n) ⌝ }
+{
+    if f == NO_FUNCTION as u64 {
+        return Top::Native;
+    }
+    Top::Call((f % WORD) as u32, (n % WORD) as u32)
+}
+
+pub fn top_item(book: &[u64], t: u32) -> Top
+    ensures { λ r. ⌜ top-is r ≡ top-of (items-in (now (book .entry)) t) ⌝ }
+{
+    let d = items_of(book, t);
+    if d == 0 {
+        return Top::Nothing;
+    }
+    item_is(
+        number(book, t, FUNCTIONS + (d - 1) as usize),
+        number(book, t, ASKED + (d - 1) as usize),
+    )
+}
+
+// An item more, if there is room.
+pub fn push_item(book: &mut [u64], t: u32, f: u32, n: u32)
+    ensures { λ _. ⌜ now (book .exit) ≡ item-pushed (now (book .entry)) t f n ⌝ }
+{
+    let d = items_of(book, t);
+    if DEEPEST as u32 <= d {
+        return;
+    }
+    let k = natives_of(book, t) + one_if(f == NO_FUNCTION);
+    store(book, t, FUNCTIONS + d as usize, f as u64);
+    store(book, t, ASKED + d as usize, n as u64);
+    store(book, t, ITEMS, d as u64 + 1);
+    store(book, t, NATIVES, k);
+}
+
+fn one_if_native(top: Top) -> u64
+    ensures { λ r. ⌜ r ≡ one (is-native (top-is top)) ⌝ }
+{
+    match top {
+        Top::Nothing => 0,
+        Top::Native => 1,
+        Top::Call(f, n) => 0,
+    }
+}
+
+// The top item ends.
+pub fn pop_item(book: &mut [u64], t: u32)
+    ensures { λ _. ⌜ now (book .exit) ≡ item-popped (now (book .entry)) t ⌝ }
+{
+    let d = items_of(book, t);
+    let k = natives_of(book, t);
+    let gone = one_if_native(top_item(book, t));
+    store(book, t, ITEMS, less(d as u64, 1));
+    store(book, t, NATIVES, less(k, gone));
+}
+
+// ---- the trace and the whole book
+
+pub fn lines_of(book: &[u64]) -> u64
+    ensures { λ r. ⌜ r ≡ lines-in (now (book .entry)) ⌝ }
+{
+    number(book, 0, LINES)
+}
+
+pub fn count_line(book: &mut [u64])
+    ensures { λ _. ⌜ now (book .exit) ≡ line-counted (now (book .entry)) ⌝ }
+{
+    let n = lesser(lines_of(book), MOST_LINES);
+    store(book, 0, LINES, n + 1);
+}
+
+pub fn is_closed(book: &[u64]) -> bool
+    ensures { λ r. ⌜ r ≡ closed-in (now (book .entry)) ⌝ }
+{
+    number(book, 0, CLOSED) != 0
+}
+
+// Z closes the trace.
+pub fn set_closed(book: &mut [u64])
+    ensures { λ _. ⌜ now (book .exit) ≡ closed-set (now (book .entry)) ⌝ }
+{
+    store(book, 0, CLOSED, 1);
+}
+
+fn overdone(items: u64, frames: u64, natives: u64, monitors: u64) -> bool
+    ensures { λ r. ⌜ r ≡ overdone items frames natives monitors ⌝ }
+{
+    (DEEPEST < items)
+        | (DEEPEST < frames)
+        | (frames < natives)
+        | ((0 < items) & (frames == 0))
+        | (MOST_LINES < monitors)
+}
+
+// Thread t of a book that is not short.
+fn row_overdone(book: &[u64], t: u32) -> bool
+    requires { do ⌜ (t ≤ threads) × (whole ≤ (← ⟦book.len()⟧)) ⌝ }
+    ensures { λ r. ⌜ r ≡ overdone-in (now (book .entry)) t ⌝ }
+{
+    let row = t as usize * WIDTH;
+    overdone(
+        book[row + ITEMS],
+        book[row + FRAMES],
+        book[row + NATIVES],
+        book[row + MONITORS],
+    )
+}
+
+// Refusal 8. No thread's test ends it early: a fit book, which is the common one, has them all.
+pub fn unfit(book: &[u64]) -> bool
+    ensures { λ r. ⌜ r ≡ unfit (now (book .entry)) ⌝ }
+{
+    if book.len() < WHOLE {
+        return true;
+    }
+    let mut found = MOST_LINES < book[LINES];
+    let mut t = 1;
+    while t <= THREADS {
+        found = found | row_overdone(book, t);
+        t += 1;
+    }
+    found
+}
+
+// A start: all numbers are 0.
+pub fn clear(book: &mut [u64])
+    ensures { λ _. ⌜ now (book .exit) ≡ cleared (now (book .entry)) ⌝ }
+{
+    let mut i = 0;
+    while i < book.len() {
+        book[i] = 0;
+        i += 1;
+    }
+}
