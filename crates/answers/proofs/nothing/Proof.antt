@@ -1,0 +1,12 @@
+-- `answers::nothing` meets its contract. Assumes nothing.
+use mathlib.Core.Path.{_∙_}
+use borrow.Author.Tests.{le-leb, lt-leb}
+use Rattle.answers.specs.Answer.{answer-of, with-found, found-if}
+use borrow.Author.Needs.{needs}
+use Rattle.answers.proofs.nothing.Statement.{statement}
+use Rattle.answers.proofs.nothing.Tie as tie
+
+pub nothing-spec : {M : Type 1} → statement M
+nothing-spec = tie.close (tie.spec
+    (λ c κs. search needs)
+    (λ c. unfold answer-of in c .refused .ensures))
