@@ -1,0 +1,2 @@
+pub mod RowCounts
+pub mod Sights

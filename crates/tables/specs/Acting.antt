@@ -1,0 +1,114 @@
+-- What an accepted line leaves in the lent tables. Assumes nothing.
+use Prim.Native.Nat.{ℕ, suc, _+_}
+use mathlib.Core.Bool.{Bool, true, false, not, _&&_, _||_}
+use mathlib.Core.List.{List, [], _∷_, map}
+use lib.Dec.{eqb}
+use lib.ListN.{length}
+use Rattle.words.specs.Choice.{if_then_else_}
+use Rattle.facts.specs.Table.{fact-of, family, is-critical}
+use Rattle.facts.specs.Named.{PushLocalFrame, PopLocalFrame, DeleteGlobalRef, DeleteLocalRef, EnsureLocalCapacity, MonitorEnter, MonitorExit, DeleteWeakGlobalRef}
+use Rattle.lines.specs.Line.{Line, if-N_then_else_, if-X_then_else_, if-C_then_else_, if-R_then_else_, if-Z_then_else_, kind, is-zero}
+use Rattle.lines.specs.Reading.{size}
+use Rattle.rows.specs.Table.{Layout, Table, found, taken, ended, ended-all}
+use Rattle.rows.specs.References.{references, is-handle, from-frame}
+use Rattle.rows.specs.Pins.{pins, is-buffer}
+use Rattle.history.specs.Frames.{without-native, top-pushed}
+use Rattle.history.specs.Handles.{in-frame}
+use Rattle.history.specs.Capacities.{native-capacity}
+use Rattle.history.specs.Buffers.{is-buffer-place, gets}
+use Rattle.history.specs.Acceptance.{made-by}
+use Rattle.book.specs.Threads.{thread-in}
+use Rattle.book.specs.Moves.{frame-pushed, native-left, frame-popped, capacity-raised, item-pushed, item-popped, env-set, pending-set, monitor-added, monitor-taken, line-counted, closed-set}
+use Rattle.book.specs.Threads.{no-function}
+use Rattle.tables.specs.Tables.{Tables, seen-in, reference-of, pin-row-of, handles-in}
+
+-- ---- rows
+
+-- a row for each, in their order
+unfoldable pub all-taken : {A : Type 0} → Layout A → Table → List A → Table
+all-taken L T [] = T
+all-taken L T (x ∷ xs) = all-taken L (taken L T x) xs
+
+-- the lowest row that passes the test ended, if there is one
+unfoldable pub first-ended : {A : Type 0} → Layout A → (A → Bool) → Table → Table
+first-ended L test T = ended L T (found L test T)
+
+-- C of 23, 22, 227 where the handle is of that place's kind
+abbrev pub is-delete : ℕ → ℕ → Bool
+is-delete f a =
+    (eqb f DeleteLocalRef && eqb (kind a) 1)
+    || (eqb f DeleteGlobalRef && eqb (kind a) 2) || (eqb f DeleteWeakGlobalRef && eqb (kind a) 3)
+
+-- the thread in the row of what is deleted
+abbrev pub delete-owner : ℕ → ℕ → ℕ
+delete-owner f t = if eqb f DeleteLocalRef then t else 0
+
+-- the thread in the row of a buffer
+abbrev pub pin-owner : ℕ → ℕ → ℕ
+pin-owner f t = if is-critical (family f) then t else 0
+
+-- X ends the rows of its native's frames; 20 those of the top frame, if it was pushed
+unfoldable pub references-after : Line → Tables → Table
+references-after e T =
+    if-X e then (λ t r. ended-all references (from-frame t (suc (length (without-native (thread-in (T .book) t .frames))))) (T .references))
+    else if-C e then
+    (λ t env f a b c n.
+    if is-delete f a then first-ended references (is-handle (delete-owner f t) a) (T .references)
+    else if eqb f PopLocalFrame && top-pushed (thread-in (T .book) t .frames) then
+    ended-all references (from-frame t (length (thread-in (T .book) t .frames))) (T .references)
+    else T .references)
+    else all-taken references (T .references) (map reference-of (made-by e (seen-in T)))
+
+-- a release ends the lowest matching row
+unfoldable pub pins-after : Line → Tables → Table
+pins-after e T =
+    if-C e then
+    (λ t env f a b c n.
+    if is-buffer-place (fact-of f .b) then first-ended pins (is-buffer (pin-owner f t) (family f) b) (T .pins) else T .pins)
+    else all-taken pins (T .pins) (map pin-row-of (gets e))
+
+-- ---- the book
+
+-- an env once set stays
+abbrev pub env-kept : List ℕ → ℕ → ℕ → List ℕ
+env-kept b t env = if eqb (thread-in b t .env) 0 then env-set b t env else b
+
+-- what a status of 0 does: `held` locals are alive in the top frame, and `n` was asked of the open call
+abbrev pub status-acted : List ℕ → ℕ → ℕ → ℕ → ℕ → List ℕ
+status-acted b t f held n =
+    if eqb f PushLocalFrame then frame-pushed b t n true
+    else if eqb f EnsureLocalCapacity then capacity-raised b t (held + n)
+    else if eqb f MonitorEnter then monitor-added b t
+    else if eqb f MonitorExit then monitor-taken b t
+    else b
+
+unfoldable pub book-after : Line → ℕ → Tables → List ℕ
+book-after e n T =
+    if-N e then (λ t env hs. pending-set (env-kept (frame-pushed (T .book) t native-capacity false) t env) t 0)
+    else if-X e then (λ t r. native-left (T .book) t)
+    else if-C e then (λ t env f a b c m. if eqb f PopLocalFrame then frame-popped (T .book) t else T .book)
+    else if-R e then
+    (λ t f r p.
+    pending-set
+    (if is-zero r then
+    status-acted (T .book) t f (handles-in (T .references) (in-frame t (length (thread-in (T .book) t .frames)))) n
+    else T .book)
+    t
+    p)
+    else if-Z e then closed-set (T .book)
+    else T .book
+
+-- all but the open items; `n` was asked of the open call on top
+unfoldable pub acted : Line → ℕ → Tables → Tables
+acted e n T =
+    record { references = references-after e T; pins = pins-after e T; book = line-counted (book-after e n T) }
+
+-- ---- the open items
+
+unfoldable pub items-moved : Line → List ℕ → List ℕ
+items-moved e b =
+    if-N e then (λ t env hs. item-pushed b t no-function 0)
+    else if-X e then (λ t r. item-popped b t)
+    else if-C e then (λ t env f a b' c n. item-pushed b t f (size n))
+    else if-R e then (λ t f r p. item-popped b t)
+    else b

@@ -1,0 +1,4 @@
+pub mod Tables
+pub mod Weighing
+pub mod Acting
+pub mod Stepping

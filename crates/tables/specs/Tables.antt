@@ -1,0 +1,61 @@
+-- The lent tables as lists of numbers, and what a judgement sees in them, whatever they hold. Assumes nothing.
+use Prim.Native.Nat.{ℕ}
+use mathlib.Core.Bool.{Bool}
+use mathlib.Core.List.{List}
+use lib.Dec.{eqb}
+use Rattle.words.specs.Choice.{if_then_else_}
+use Rattle.rows.specs.Table.{Table, table, counted}
+use Rattle.rows.specs.References.{references}
+use Rattle.rows.specs.Pins.{pins}
+use Rattle.rows.specs.declared.references.Reference.{Reference}
+use Rattle.rows.specs.declared.pins.Pin.{Pin as PinRow}
+use Rattle.book.specs.Threads.{thread-in, lines-in, closed-in}
+use Rattle.history.specs.Handles.{Alive, local, shared}
+use Rattle.history.specs.Buffers.{Pin, ordinary, critical}
+use Rattle.history.specs.Seen.{Seen}
+
+pub record Tables : Type 0 where
+  pub references : Table
+  pub pins : Table
+  pub book : List ℕ
+
+abbrev pub tables : List ℕ → List ℕ → List ℕ → List ℕ → List ℕ → Tables
+tables rs ms ps ns b = record { references = table rs ms; pins = table ps ns; book = b }
+
+-- ---- a row and what it stands for: thread 0 is for a global or weak, and for a buffer of no thread
+
+abbrev pub alive-of : Reference → Alive
+alive-of x = if eqb (x .thread) 0 then shared (x .handle) else local (x .thread) (x .frame) (x .handle)
+
+abbrev pub reference-of : Alive → Reference
+reference-of (local t d h) = record { thread = t; handle = h; frame = d }
+reference-of (shared h) = record { thread = 0; handle = h; frame = 0 }
+
+abbrev pub pin-of : PinRow → Pin
+pin-of x = if eqb (x .thread) 0 then ordinary (x .family) (x .buffer) else critical (x .thread) (x .family) (x .buffer)
+
+abbrev pub pin-row-of : Pin → PinRow
+pin-row-of (ordinary k b) = record { thread = 0; family = k; buffer = b }
+pin-row-of (critical t k b) = record { thread = t; family = k; buffer = b }
+
+-- ---- what is seen
+
+unfoldable pub handles-in : Table → (Alive → Bool) → ℕ
+handles-in T test = counted references (λ x. test (alive-of x)) T
+
+unfoldable pub buffers-in : Table → (Pin → Bool) → ℕ
+buffers-in T test = counted pins (λ x. test (pin-of x)) T
+
+unfoldable pub seen-in : Tables → Seen
+seen-in T =
+    record {
+      frames = λ t. thread-in (T .book) t .frames;
+      capacities = λ t. thread-in (T .book) t .capacities;
+      pending = λ t. thread-in (T .book) t .pending;
+      monitors = λ t. thread-in (T .book) t .monitors;
+      env = λ t. thread-in (T .book) t .env;
+      handles = handles-in (T .references);
+      buffers = buffers-in (T .pins);
+      lines = lines-in (T .book);
+      closed = closed-in (T .book);
+    }
