@@ -1,0 +1,16 @@
+-- `weigh::give::over_capacity` meets its contract. Assumes nothing.
+use Rattle.weigh.proofs.GiveLaws.{capacity-left}
+use Rattle.facts.specs.declared.Result.the-variants as Result
+use mathlib.Core.Path.{refl, ap}
+use lib.Dec.{ltb}
+use borrow.Author.Needs.{needs}
+use Rattle.weigh.proofs.give.over_capacity.Statement.{statement}
+use Rattle.weigh.proofs.give.over_capacity.Tie as tie
+
+pub over-capacity-spec : {M : Type 1} → statement M
+over-capacity-spec =
+    tie.close (tie.spec
+    (λ c κs. search needs)
+    (λ c κs. search needs)
+    (λ c κs. search needs)
+    (λ c. capacity-left _ _ _ _ _ _ (c .before .before .frames-of .ensures .0) (c .before .alive-in .ensures) (c .top-capacity .ensures)))

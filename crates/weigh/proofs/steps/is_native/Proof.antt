@@ -1,0 +1,18 @@
+-- `weigh::steps::is_native` meets its contract. Assumes nothing.
+use mathlib.Core.Path.{sym, ap, ap₂}
+use mathlib.Core.Bool.{Bool, not, _&&_}
+use Rattle.history.specs.Items.{is-native, is-call-of}
+use Rattle.book.specs.Threads.{top-is}
+use Rattle.book.specs.declared.Top.{Top}
+use borrow.Author.Needs.{needs}
+use Rattle.weigh.proofs.steps.is_native.Statement.{statement}
+use Rattle.weigh.proofs.steps.is_native.Tie as tie
+
+pub is-native-spec : {M : Type 1} → statement M
+is-native-spec = tie.close (tie.spec
+    (λ c. search needs)
+    (λ c. search needs)
+    (λ c. search needs)
+    (λ c. unfold top-is in ap (λ (x : Top). is-native (top-is x)) (sym (c .enum-told .given .1)))
+    (λ c. unfold top-is in ap (λ (x : Top). is-native (top-is x)) (sym (c .enum-told2 .given .1)))
+    (λ c. unfold top-is in ap (λ (x : Top). is-native (top-is x)) (sym (c .enum-told3 .given .1))))
