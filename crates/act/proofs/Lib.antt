@@ -1,0 +1,7 @@
+pub mod Taking
+pub mod Choosing
+pub mod Owning
+pub mod Calling
+pub mod Counting
+pub mod Giving
+pub mod Whole

@@ -1,0 +1,69 @@
+-- What the code leaves in rows and book is what an accepted line leaves in the tables.
+use Prim.Native.Nat.{ℕ, suc, _+_}
+use mathlib.Core.Path.{_≡_, refl, sym, ap, _∙_}
+use mathlib.Core.Bool.{false}
+use mathlib.Core.List.{List, map}
+use native.Mathlib.Numerals.{add-one}
+use borrow.Author.Tests.{eq-eqb, ne-eqb}
+use lib.ListN.{length}
+use Rattle.rows.specs.Table.{table, ended-all}
+use Rattle.rows.specs.References.{references, from-frame}
+use Rattle.lines.specs.Line.{N, X, Z}
+use Rattle.history.specs.Frames.{without-native}
+use Rattle.history.specs.Handles.{local, makes}
+use Rattle.history.specs.Buffers.{gets}
+use Rattle.history.specs.Acceptance.{made-by}
+use Rattle.book.specs.Threads.{thread-in}
+use Rattle.book.specs.Moves.{frame-pushed, native-left, env-set, pending-set, line-counted, closed-set}
+use Rattle.tables.specs.Tables.{tables, reference-of, seen-in}
+use Rattle.tables.specs.Acting.{all-taken, references-after, pins-after, book-after, acted, env-kept}
+use Rattle.act.specs.Rows.{locals}
+use Rattle.act.specs.Books.{entered-book, left-book}
+use Rattle.act.proofs.Taking.{rows-of-locals}
+
+-- ---- the env
+
+pub env-new : (b c : List ℕ) (t env own : ℕ) → own ≡ thread-in b t .env → own ≡ 0 → c ≡ env-set b t env → c ≡ env-kept b t env
+env-new b c t env own e z k = rw (eq-eqb (thread-in b t .env) 0 (sym e ∙ z)) k
+
+pub env-old : (b : List ℕ) (t env own : ℕ) → own ≡ thread-in b t .env → (own ≡ 0 → ⊥) → b ≡ env-kept b t env
+env-old b t env own e z = rw (ne-eqb (thread-in b t .env) 0 (λ q. z (e ∙ q))) refl
+
+-- ---- the book, one move after another
+
+pub book-entered : (b b1 b2 b3 b4 : List ℕ) (t env : ℕ) → b1 ≡ frame-pushed b t 16 false → b2 ≡ env-kept b1 t env → b3 ≡ pending-set b2 t 0 → b4 ≡ line-counted b3
+    → b4 ≡ entered-book b t env
+unfolding entered-book
+book-entered b b1 b2 b3 b4 t env e1 e2 e3 e4 =
+    e4 ∙ ap line-counted (e3 ∙ ap (λ (x : List ℕ). pending-set x t 0) (e2 ∙ ap (λ (x : List ℕ). env-kept x t env) e1))
+
+pub book-left : (b b1 b2 : List ℕ) (t : ℕ) → b1 ≡ native-left b t → b2 ≡ line-counted b1 → b2 ≡ left-book b t
+unfolding left-book
+book-left b b1 b2 t e1 e2 = e2 ∙ ap line-counted e1
+
+-- ---- the tables
+
+module _ (rs ms ps ns b rs' ms' b' : List ℕ) (n : ℕ) where
+  pub entered : (t env d : ℕ) (hs : List ℕ) → d ≡ length (thread-in b t .frames) → table rs' ms' ≡ all-taken references (table rs ms) (locals t (d + 1) hs)
+      → b' ≡ entered-book b t env → tables rs' ms' ps ns b' ≡ acted (N t env hs) n (tables rs ms ps ns b)
+  unfolding acted references-after pins-after book-after made-by makes gets all-taken seen-in entered-book
+  entered t env d hs ed er eb =
+      let rows : table rs' ms' ≡ all-taken references (table rs ms) (map reference-of (map (local t (suc (length (thread-in b t .frames)))) hs)) =
+      er
+      ∙ ap (λ (k : ℕ). all-taken references (table rs ms) (locals t k hs)) (add-one d ∙ ap suc ed)
+      ∙ ap (all-taken references (table rs ms)) (rows-of-locals t (suc (length (thread-in b t .frames))) hs)
+      in
+      λ i. record { references = rows i; pins = table ps ns; book = eb i }
+
+  pub left : (t r d : ℕ) → d ≡ length (without-native (thread-in b t .frames)) → table rs' ms' ≡ ended-all references (from-frame t (d + 1)) (table rs ms)
+      → b' ≡ left-book b t → tables rs' ms' ps ns b' ≡ acted (X t r) n (tables rs ms ps ns b)
+  unfolding acted references-after pins-after book-after gets all-taken left-book
+  left t r d ed er eb =
+      let rows : table rs' ms' ≡ ended-all references (from-frame t (suc (length (without-native (thread-in b t .frames))))) (table rs ms) =
+      er ∙ ap (λ (k : ℕ). ended-all references (from-frame t k) (table rs ms)) (add-one d ∙ ap suc ed)
+      in
+      λ i. record { references = rows i; pins = table ps ns; book = eb i }
+
+pub closed : (rs ms ps ns b b1 b2 : List ℕ) (n : ℕ) → b1 ≡ closed-set b → b2 ≡ line-counted b1 → tables rs ms ps ns b2 ≡ acted Z n (tables rs ms ps ns b)
+unfolding acted references-after pins-after book-after made-by makes gets all-taken
+closed rs ms ps ns b b1 b2 n e1 e2 i = record { references = table rs ms; pins = table ps ns; book = (e2 ∙ ap line-counted e1) i }

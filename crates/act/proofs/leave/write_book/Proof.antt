@@ -1,0 +1,13 @@
+-- `act::leave::write_book` meets its contract. Assumes nothing.
+use Rattle.act.proofs.Whole.{book-left}
+use borrow.Author.Needs.{needs}
+use Rattle.act.proofs.leave.write_book.Statement.{statement}
+use Rattle.act.proofs.leave.write_book.Tie as tie
+
+pub write-book-spec : {M : Type 1} → statement M
+write-book-spec =
+    tie.close (tie.spec
+    (λ c κs. search needs)
+    (λ c κs. search needs)
+    (λ c. search needs)
+    (λ c. book-left _ _ _ _ (c .before .before .before .before .before .before .leave-native .ensures) (c .before .before .count-line .ensures)))

@@ -1,0 +1,4 @@
+pub mod Rows
+pub mod Books
+pub mod Calls
+pub mod Returns

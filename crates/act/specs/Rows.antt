@@ -1,0 +1,8 @@
+-- The rows that a line makes, as the code writes them. Assumes nothing.
+use Prim.Native.Nat.{ℕ}
+use mathlib.Core.List.{List, map}
+use Rattle.rows.specs.declared.references.Reference.{Reference}
+
+-- locals of thread t in its frame d
+abbrev pub locals : ℕ → ℕ → List ℕ → List Reference
+locals t d hs = map (λ (h : ℕ). record { thread = t; handle = h; frame = d }) hs

@@ -1,0 +1,60 @@
+// N opens a frame, makes its handles as locals in it, and clears pending.
+use rows::references::Reference;
+ghost use mathlib.Core.Path.{_≡_};
+ghost use mathlib.Core.Bool.{false};
+ghost use mathlib.Core.List.{List};
+ghost use Prim.Native.Nat.{ℕ};
+ghost use Rattle.rows.specs.Table.{table};
+ghost use Rattle.rows.specs.References.{references};
+ghost use Rattle.lines.specs.Line.{N};
+ghost use Rattle.tables.specs.Tables.{tables};
+ghost use Rattle.tables.specs.Acting.{all-taken, env-kept, acted};
+ghost use Rattle.act.specs.Rows.{locals};
+ghost use Rattle.act.specs.Books.{entered-book};
+
+const NATIVE_CAPACITY: u64 = 16;
+
+// A row for each handle, in their order.
+fn take_all(rows: &mut [u32], marks: &mut [u64], t: u32, d: u32, hs: &[u32])
+    ensures { λ _. ⌜ table (now (rows .exit)) (now (marks .exit)) ≡ all-taken references (table (now (rows .entry)) (now (marks .entry))) (locals t d (now (hs .entry))) ⌝ }
+{
+    let mut i = 0;
+    while i < hs.len() {
+        rows::references::take(
+            rows,
+            marks,
+            Reference {
+                thread: t,
+                handle: hs[i],
+                frame: d,
+            },
+        );
+        i += 1;
+    }
+}
+
+// A thread's env is that of its first N.
+fn keep_env(book: &mut [u64], t: u32, env: u32)
+    ensures { λ _. ⌜ now (book .exit) ≡ env-kept (now (book .entry)) t env ⌝ }
+{
+    if book::env_of(book, t) == 0 {
+        book::set_env(book, t, env as u64);
+    }
+}
+
+fn write_book(book: &mut [u64], t: u32, env: u32)
+    ensures { λ _. ⌜ now (book .exit) ≡ entered-book (now (book .entry)) t env ⌝ }
+{
+    book::push_frame(book, t, NATIVE_CAPACITY, false);
+    keep_env(book, t, env);
+    book::set_pending(book, t, 0);
+    book::count_line(book);
+}
+
+pub fn enter(rows: &mut [u32], marks: &mut [u64], book: &mut [u64], t: u32, env: u32, hs: &[u32])
+    ensures { λ _. ⌜ ((ps ns : List ℕ) (n : ℕ) → tables (now (rows .exit)) (now (marks .exit)) ps ns (now (book .exit)) ≡ acted (N t env (now (hs .entry))) n (tables (now (rows .entry)) (now (marks .entry)) ps ns (now (book .entry)))) ⌝ }
+{
+    let d = book::frames_of(book, t);
+    take_all(rows, marks, t, d + 1, hs);
+    write_book(book, t, env);
+}

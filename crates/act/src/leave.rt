@@ -1,0 +1,23 @@
+// X ends all locals and frames of its native, pushed frames included.
+ghost use mathlib.Core.Path.{_≡_};
+ghost use mathlib.Core.List.{List};
+ghost use Prim.Native.Nat.{ℕ};
+ghost use Rattle.lines.specs.Line.{X};
+ghost use Rattle.tables.specs.Tables.{tables};
+ghost use Rattle.tables.specs.Acting.{acted};
+ghost use Rattle.act.specs.Books.{left-book};
+
+fn write_book(book: &mut [u64], t: u32)
+    ensures { λ _. ⌜ now (book .exit) ≡ left-book (now (book .entry)) t ⌝ }
+{
+    book::leave_native(book, t);
+    book::count_line(book);
+}
+
+pub fn leave(rows: &mut [u32], marks: &mut [u64], book: &mut [u64], t: u32)
+    ensures { λ _. ⌜ ((ps ns : List ℕ) (n r : ℕ) → tables (now (rows .exit)) (now (marks .exit)) ps ns (now (book .exit)) ≡ acted (X t r) n (tables (now (rows .entry)) (now (marks .entry)) ps ns (now (book .entry)))) ⌝ }
+{
+    let d = book::frames_left(book, t);
+    rows::references::end_frames(rows, marks, t, d + 1);
+    write_book(book, t);
+}

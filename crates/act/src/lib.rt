@@ -1,0 +1,8 @@
+// What an accepted line does to the lent tables, all but the open items.
+pub mod call;
+pub mod end;
+pub mod enter;
+mod functions;
+pub mod give;
+pub mod leave;
+mod owner;
