@@ -1,0 +1,166 @@
+-- Rows and what they stand for: a lent table that is encoded slots, after each change of it. Assumes nothing.
+use Prim.Native.Nat.{ℕ, zero, suc}
+use mathlib.Core.Path.{_≡_, refl, sym, ap, _∙_}
+use mathlib.Core.Bool.{Bool, true, false, _&&_, and-comm, and-assoc, and-true, and-false}
+use mathlib.Core.List.{List, [], _∷_, map}
+use mathlib.Core.Option.{Option, none, some}
+use lib.Dec.{eqb, leb}
+use lib.ListN.{length, replicate}
+use borrow.Author.Tests.{eqb-true, eqb-false, eq-eqb, ne-eqb}
+use Rattle.words.specs.Choice.{if_then_else_}
+use Rattle.words.specs.Lists.{count}
+use Rattle.facts.specs.Table.{family, is-critical}
+use Rattle.rows.specs.Slots.{held, put, put-all, wipe, wipe-first}
+use Rattle.rows.specs.Table.{Layout, Table, room, alive, counted, taken, ended-all, cleared}
+use Rattle.rows.specs.View.{view}
+use Rattle.rows.specs.References.{is-handle, from-frame}
+use Rattle.rows.specs.Pins.{is-buffer}
+use Rattle.rows.proofs.ViewLaws.{length-view, alive-view, counted-view, view-taken, view-ended-found, view-ended-all, view-cleared}
+use Rattle.history.specs.Handles.{Alive, local, shared, is-local, is-shared}
+use Rattle.history.specs.Buffers.{Pin, ordinary, critical, pin, same-pin}
+use Rattle.tables.specs.Tables.{alive-of, reference-of, pin-of, pin-row-of}
+use Rattle.tables.specs.Acting.{all-taken, first-ended, pin-owner}
+use Rattle.demands.specs.PastRows.{padded}
+use Rattle.demands.specs.Tied.{encoded}
+
+-- ---- slots encoded
+
+module _ {A B : Type 0} (f : B → A) where
+  length-encoded : (s : List (Option B)) → length (encoded f s) ≡ length s
+  length-encoded [] = refl
+  length-encoded (none ∷ s) = ap suc (length-encoded s)
+  length-encoded (some x ∷ s) = ap suc (length-encoded s)
+
+  held-encoded : (s : List (Option B)) → length (held (encoded f s)) ≡ length (held s)
+  held-encoded [] = refl
+  held-encoded (none ∷ s) = held-encoded s
+  held-encoded (some x ∷ s) = ap suc (held-encoded s)
+
+  count-encoded : (p : A → Bool) (s : List (Option B)) → count p (held (encoded f s)) ≡ count (λ x. p (f x)) (held s)
+  count-encoded p [] = refl
+  count-encoded p (none ∷ s) = count-encoded p s
+  count-encoded p (some x ∷ s) = ap (λ (n : ℕ). if p (f x) then suc n else n) (count-encoded p s)
+
+  put-encoded : (x : B) (s : List (Option B)) → put (f x) (encoded f s) ≡ encoded f (put x s)
+  put-encoded x [] = refl
+  put-encoded x (none ∷ s) = refl
+  put-encoded x (some y ∷ s) = ap (λ (r : List (Option A)). some (f y) ∷ r) (put-encoded x s)
+
+  wipe-encoded : (p : A → Bool) (s : List (Option B)) → wipe p (encoded f s) ≡ encoded f (wipe (λ x. p (f x)) s)
+  wipe-encoded p [] = refl
+  wipe-encoded p (none ∷ s) = ap (λ (r : List (Option A)). none ∷ r) (wipe-encoded p s)
+  wipe-encoded p (some x ∷ s) = go (p (f x)) (wipe-encoded p s)
+    where
+      go : (b : Bool) → wipe p (encoded f s) ≡ encoded f (wipe (λ x. p (f x)) s)
+          → (if b then none else some (f x)) ∷ wipe p (encoded f s) ≡ encoded f ((if b then none else some x) ∷ wipe (λ x. p (f x)) s)
+      go true ih = ap (λ (r : List (Option A)). none ∷ r) ih
+      go false ih = ap (λ (r : List (Option A)). some (f x) ∷ r) ih
+
+  wipe-first-encoded : (p : A → Bool) (s : List (Option B)) → wipe-first p (encoded f s) ≡ encoded f (wipe-first (λ x. p (f x)) s)
+  wipe-first-encoded p [] = refl
+  wipe-first-encoded p (none ∷ s) = ap (λ (r : List (Option A)). none ∷ r) (wipe-first-encoded p s)
+  wipe-first-encoded p (some x ∷ s) = go (p (f x)) (wipe-first-encoded p s)
+    where
+      go : (b : Bool) → wipe-first p (encoded f s) ≡ encoded f (wipe-first (λ x. p (f x)) s)
+          → (if b then none ∷ encoded f s else some (f x) ∷ wipe-first p (encoded f s)) ≡ encoded f (if b then none ∷ s else some x ∷ wipe-first (λ x. p (f x)) s)
+      go true ih = refl
+      go false ih = ap (λ (r : List (Option A)). some (f x) ∷ r) ih
+
+  free-encoded : (n : ℕ) → replicate n none ≡ encoded f (padded n [])
+  free-encoded zero = refl
+  free-encoded (suc n) = ap (λ (r : List (Option A)). none ∷ r) (free-encoded n)
+
+-- ---- a lent table, of any layout
+
+module _ {A B : Type 0} (L : Layout A) (f : B → A) where
+  pub encoded-taken : (xs : List B) (T : Table) (s : List (Option B)) → view L T ≡ encoded f s → view L (all-taken L T (map f xs)) ≡ encoded f (put-all xs s)
+  unfolding all-taken
+  encoded-taken [] T s is = is
+  encoded-taken (x ∷ xs) T s is =
+      encoded-taken xs (taken L T (f x)) (put x s) (view-taken L T (f x) ∙ ap (put (f x)) is ∙ put-encoded f x s)
+
+  module _ (T : Table) (s : List (Option B)) (is : view L T ≡ encoded f s) where
+    pub encoded-ended : (p : A → Bool) → view L (ended-all L p T) ≡ encoded f (wipe (λ x. p (f x)) s)
+    encoded-ended p = view-ended-all L p T ∙ ap (wipe p) is ∙ wipe-encoded f p s
+
+    pub encoded-first-ended : (p : A → Bool) → view L (first-ended L p T) ≡ encoded f (wipe-first (λ x. p (f x)) s)
+    unfolding first-ended
+    encoded-first-ended p = view-ended-found L p T ∙ ap (wipe-first p) is ∙ wipe-first-encoded f p s
+
+    pub encoded-counted : (p : A → Bool) → counted L p T ≡ count (λ x. p (f x)) (held s)
+    encoded-counted p = counted-view L p T ∙ ap (λ (v : List (Option A)). count p (held v)) is ∙ count-encoded f p s
+
+    pub encoded-alive : alive L T ≡ length (held s)
+    encoded-alive = alive-view L T ∙ ap (λ (v : List (Option A)). length (held v)) is ∙ held-encoded f s
+
+    pub encoded-room : room L T ≡ length s
+    encoded-room = sym (length-view L T) ∙ ap length is ∙ length-encoded f s
+
+  pub encoded-cleared : (T : Table) → view L (cleared T) ≡ encoded f (padded (room L T) [])
+  encoded-cleared T = view-cleared L T ∙ free-encoded f (room L T)
+
+-- ---- references
+
+-- a local of thread 0: no accepted line makes one
+abbrev pub unplaced : Alive → Bool
+unplaced (local t d h) = eqb t 0
+unplaced (shared h) = false
+
+pub alive-of-reference : (x : Alive) → unplaced x ≡ false → alive-of (reference-of x) ≡ x
+alive-of-reference (local t d h) k = rw k
+alive-of-reference (shared h) k = refl
+
+no-thread : (t : ℕ) → eqb t 0 ≡ false → eqb 0 t ≡ false
+no-thread t n = ne-eqb 0 t (λ z. eqb-false t 0 n (sym z))
+
+pub handle-is-local : (t h : ℕ) → eqb t 0 ≡ false → (x : Alive) → is-handle t h (reference-of x) ≡ is-local t h x
+handle-is-local t h n (local s d g) = and-comm (eqb g h) (eqb s t)
+handle-is-local t h n (shared g) = rw (no-thread t n, and-false (eqb g h))
+
+pub handle-is-shared : (h : ℕ) (x : Alive) → unplaced x ≡ false → is-handle 0 h (reference-of x) ≡ is-shared h x
+handle-is-shared h (local s d g) k = rw (k, and-false (eqb g h))
+handle-is-shared h (shared g) k = and-true (eqb g h)
+
+-- a local of thread t in frame d or above
+abbrev pub is-from : ℕ → ℕ → Alive → Bool
+is-from t d (local s c h) = leb d c && eqb s t
+is-from t d (shared h) = false
+
+pub frame-is-from : (t d : ℕ) → eqb t 0 ≡ false → (x : Alive) → from-frame t d (reference-of x) ≡ is-from t d x
+frame-is-from t d n (local s c h) = refl
+frame-is-from t d n (shared h) = rw (no-thread t n, and-false (leb d 0))
+
+-- ---- pins
+
+-- a critical buffer of thread 0: no accepted line gets one
+abbrev pub unowned : Pin → Bool
+unowned (ordinary k b) = false
+unowned (critical t k b) = eqb t 0
+
+pub pin-of-row : (x : Pin) → unowned x ≡ false → pin-of (pin-row-of x) ≡ x
+pin-of-row (ordinary k b) h = refl
+pin-of-row (critical t k b) h = rw h
+
+eqb-sym : (a b : ℕ) → eqb a b ≡ eqb b a
+eqb-sym a b = go (eqb a b) refl
+  where
+    go : (q : Bool) → eqb a b ≡ q → q ≡ eqb b a
+    go true e = sym (eq-eqb b a (sym (eqb-true a b e)))
+    go false e = sym (ne-eqb b a (λ z. eqb-false a b e (sym z)))
+
+-- the row of the buffer which function f of thread t gets or releases
+pub buffer-is : (t f b : ℕ) → eqb t 0 ≡ false → (x : Pin) → unowned x ≡ false → is-buffer (pin-owner f t) (family f) b (pin-row-of x) ≡ same-pin (pin t f b) x
+unfolding pin
+buffer-is t f b n x k = go (is-critical (family f)) x k
+  where
+    turned : (j a : ℕ) → (eqb a b && eqb j (family f)) ≡ (eqb (family f) j && eqb b a)
+    turned j a = rw (eqb-sym (family f) j, eqb-sym b a) (and-comm (eqb a b) (eqb j (family f)))
+
+    go : (c : Bool) (x : Pin) → unowned x ≡ false
+        → is-buffer (if c then t else 0) (family f) b (pin-row-of x) ≡ same-pin (if c then critical t (family f) b else ordinary (family f) b) x
+    go true (ordinary j a) k = rw (no-thread t n, and-false (eqb a b && eqb j (family f)))
+    go true (critical s j a) k =
+        and-comm (eqb a b && eqb j (family f)) (eqb s t)
+        ∙ rw (turned j a, eqb-sym s t) (sym (and-assoc (eqb t s) (eqb (family f) j) (eqb b a)))
+    go false (ordinary j a) k = and-true (eqb a b && eqb j (family f)) ∙ turned j a
+    go false (critical s j a) k = rw (k, and-false (eqb a b && eqb j (family f)))

@@ -1,0 +1,108 @@
+-- Of tables that hold whatever they may: a refusal changes nothing, 8 is given exactly when the book is not fit, and a start forgets. Assumes nothing.
+use Prim.Native.Nat.{ℕ, _<_}
+use mathlib.Core.Path.{_≡_, refl}
+use mathlib.Core.Logic.{_↔_}
+use mathlib.Core.Bool.{Bool, true, false, _&&_}
+use mathlib.Core.List.{List}
+use mathlib.Core.Option.{Option}
+use native.Mathlib.Omega.{arith}
+use lib.Dec.{eqb, leb}
+use lib.ListN.{length}
+use Rattle.words.specs.Choice.{if_then_else_}
+use Rattle.lines.specs.Line.{Line}
+use Rattle.lines.specs.Reading.{Read, says, refused, read}
+use Rattle.rows.specs.Table.{cleared as rows-cleared}
+use Rattle.history.specs.Past.{thread-of}
+use Rattle.history.specs.Items.{Item, top-of, asked}
+use Rattle.history.specs.Acceptance.{in-step, env-right, makes-anew, has-item-room, first-refusal}
+use Rattle.history.specs.Findings.{of-line}
+use Rattle.history.specs.Replies.{accepted, not-accepted, most-lines}
+use Rattle.history.specs.declared.Finding.{Finding}
+use Rattle.history.proofs.Reading.{read-number}
+use Rattle.book.specs.Threads.{items-in, lines-in}
+use Rattle.book.specs.Moves.{cleared as book-cleared}
+use Rattle.book.specs.Unfit.{unfit}
+use Rattle.tables.specs.Tables.{Tables, seen-in}
+use Rattle.tables.specs.Weighing.{rows-left, refusal-in, weighed-in}
+use Rattle.tables.specs.Stepping.{Stepped, stepped, untouched, follow, on-line, on-read, step-of, start-of}
+use Rattle.demands.specs.Calls.{Alike}
+
+-- ---- a refusal changes nothing, and is less than 8 where the book is fit
+
+pub accepted-not : (fs : List Finding) (k : ℕ) → accepted fs ≡ not-accepted k → ⊥
+accepted-not fs k h = let z : _≡_ {A = ℕ} 0 1 = cc in omega arith
+
+same-number : (j k : ℕ) → not-accepted j ≡ not-accepted k → j ≡ k
+same-number j k h = cc
+
+-- if it is a refusal, all is untouched and its number is less than m
+record Sound (m : ℕ) (T : Tables) (s : Stepped) : Type 0 where
+  keeps : (k : ℕ) → s .reply ≡ not-accepted k → s .left ≡ T
+  below : (k : ℕ) → s .reply ≡ not-accepted k → k < m
+
+untouched-sound : (m k : ℕ) (T : Tables) → k < m → Sound m T (untouched k T)
+untouched-sound m k T l = record { keeps = λ j h. refl; below = λ j h. omega (arith, same-number k j h) }
+
+stepped-sound : (m : ℕ) (fs : List Finding) (S T : Tables) → Sound m T (stepped (accepted fs) S)
+stepped-sound m fs S T = record { keeps = λ j h. absurd (accepted-not fs j h); below = λ j h. absurd (accepted-not fs j h) }
+
+if-sound : (m : ℕ) (T : Tables) (b : Bool) (s u : Stepped) → Sound m T s → Sound m T u → Sound m T (if b then s else u)
+if-sound m T true s u x y = x
+if-sound m T false s u x y = y
+
+first-number : (a b c d : Bool) → first-refusal a b c d < 8
+first-number false b c d = omega arith
+first-number true false c d = omega arith
+first-number true true false d = omega arith
+first-number true true true false = omega arith
+first-number true true true true = omega arith
+
+refusal-number : (e : Line) (top : Option Item) (many : ℕ) (T : Tables) → refusal-in e top many T < 8
+unfolding refusal-in
+refusal-number e top many T =
+    first-number (in-step e top (seen-in T .closed)) (env-right e (seen-in T)) (makes-anew e (seen-in T)) (rows-left e T && has-item-room e many)
+
+line-sound : (T : Tables) (e : Line) (is : List Item) → Sound 8 T (on-line e is T)
+unfolding weighed-in
+line-sound T e is = go (eqb (refusal-in e (top-of is) (length is) T) 0)
+  where
+    fs : List Finding
+    fs = of-line e (seen-in T)
+
+    go : (q : Bool) → Sound 8 T (follow e (asked (top-of is)) (if q then accepted fs else not-accepted (refusal-in e (top-of is) (length is) T)) T)
+    go true = stepped-sound 8 fs _ T
+    go false = untouched-sound 8 (refusal-in e (top-of is) (length is) T) T (refusal-number e (top-of is) (length is) T)
+
+read-sound : (T : Tables) (bs : List ℕ) (r : Read) → read bs ≡ r → Sound 8 T (on-read r T)
+read-sound T bs (refused k) is = untouched-sound 8 k T (omega (arith, read-number bs k is))
+read-sound T bs (says e) is = line-sound T e (items-in (T .book) (thread-of e))
+
+-- past the test of the book
+abbrev fit-step : Tables → List ℕ → Stepped
+fit-step T bs = if leb most-lines (lines-in (T .book)) then untouched 1 T else on-read (read bs) T
+
+fit-sound : (T : Tables) (bs : List ℕ) → Sound 8 T (fit-step T bs)
+fit-sound T bs =
+    if-sound 8 T (leb most-lines (lines-in (T .book))) (untouched 1 T) (on-read (read bs) T) (untouched-sound 8 1 T (omega arith)) (read-sound T bs (read bs) refl)
+
+pub refusal-keeps : (T : Tables) (bs : List ℕ) (k : ℕ) → step-of T bs .reply ≡ not-accepted k → step-of T bs .left ≡ T
+unfolding step-of
+refusal-keeps T bs k = go (unfit (T .book))
+  where
+    go : (q : Bool) → (if q then untouched 8 T else fit-step T bs) .reply ≡ not-accepted k → (if q then untouched 8 T else fit-step T bs) .left ≡ T
+    go true h = refl
+    go false h = fit-sound T bs .keeps k h
+
+pub eight-is : (T : Tables) (bs : List ℕ) → (step-of T bs .reply ≡ not-accepted 8) ↔ (unfit (T .book) ≡ true)
+unfolding step-of
+eight-is T bs = (go (unfit (T .book)), λ u. rw u)
+  where
+    go : (q : Bool) → (if q then untouched 8 T else fit-step T bs) .reply ≡ not-accepted 8 → q ≡ true
+    go true h = refl
+    go false h = absurd (omega (arith, fit-sound T bs .below 8 h))
+
+-- ---- a start
+
+pub start-is : (S T : Tables) → Alike S T → start-of S ≡ start-of T
+unfolding start-of rows-cleared book-cleared
+start-is S T k = rw (k .reference-rows, k .reference-marks, k .pin-rows, k .pin-marks, k .books)

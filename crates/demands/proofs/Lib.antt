@@ -1,0 +1,17 @@
+pub mod Slots
+pub mod PastRows
+pub mod Encoding
+pub mod Changed
+pub mod PastRoom
+pub mod Allowed
+pub mod Placed
+pub mod Weighed
+pub mod RowsActed
+pub mod BookActed
+pub mod Next
+pub mod Started
+pub mod Stepped
+pub mod Numbers
+pub mod Foreign
+pub mod Runs
+pub mod Demands

@@ -1,0 +1,120 @@
+-- Lent rows and marks after a start, number by number: unused rows hold zeros and no mark past the room is set. Assumes nothing.
+use Prim.Native.Nat.{ℕ, suc}
+use mathlib.Core.Path.{refl, subst}
+use mathlib.Core.Bool.{Bool, true, false, _&&_}
+use mathlib.Core.List.{List, [], _∷_, map}
+use lib.Dec.{eqb, leb}
+use lib.ListN.{length}
+use Rattle.words.specs.Choice.{if_then_else_}
+use Rattle.facts.specs.Table.{fact-of, family}
+use Rattle.facts.specs.Named.{PopLocalFrame}
+use Rattle.lines.specs.Line.{Line, N, X, C, R, Z}
+use Rattle.lines.specs.Reading.{Read, says, refused, read}
+use Rattle.rows.specs.Table.{Layout, Table, row, row-at, found, taken, ended-all}
+use Rattle.rows.specs.Exact.{Exact}
+use Rattle.rows.specs.References.{references, is-handle, from-frame}
+use Rattle.rows.specs.Pins.{pins, is-buffer}
+use Rattle.rows.proofs.ExactLaws.{Clean, clean-cleared, clean-taken, clean-ended, clean-ended-all, exact}
+use Rattle.history.specs.Past.{History, thread-of}
+use Rattle.history.specs.Items.{top-of, asked}
+use Rattle.history.specs.Frames.{without-native, top-pushed}
+use Rattle.history.specs.Buffers.{is-buffer-place, gets}
+use Rattle.history.specs.Acceptance.{Room, made-by}
+use Rattle.history.specs.Replies.{Reply, accepted, not-accepted, most-lines}
+use Rattle.book.specs.Threads.{thread-in, items-in, lines-in}
+use Rattle.book.specs.Unfit.{unfit}
+use Rattle.tables.specs.Tables.{Tables, seen-in, reference-of, pin-row-of}
+use Rattle.tables.specs.Weighing.{weighed-in}
+use Rattle.tables.specs.Acting.{all-taken, first-ended, is-delete, delete-owner, pin-owner, references-after, pins-after, acted}
+use Rattle.tables.specs.Stepping.{untouched, follow, on-read, step-of, start-of}
+use Rattle.demands.specs.Tied.{past-references, past-pins, Tied}
+use Rattle.demands.specs.Calls.{after}
+
+-- ---- a table
+
+module _ {A : Type 0} (L : Layout A) where
+  clean-all-taken : (xs : List A) (T : Table) → Clean L T → Clean L (all-taken L T xs)
+  unfolding all-taken
+  clean-all-taken [] T k = k
+  clean-all-taken (x ∷ xs) T k = clean-all-taken xs (taken L T x) (clean-taken L T x k)
+
+  clean-first-ended : (test : A → Bool) (T : Table) → Clean L T → Clean L (first-ended L test T)
+  unfolding first-ended
+  clean-first-ended test T k = clean-ended L T (found L test T) k
+
+-- ---- the tables
+
+record Clean-tables (T : Tables) : Type 0 where
+  reference-table : Clean references (T .references)
+  pin-table : Clean pins (T .pins)
+
+module _ (T : Tables) (k : Clean-tables T) where
+  clean-references : (e : Line) → Clean references (references-after e T)
+  unfolding references-after
+  clean-references (N t env hs) = clean-all-taken references (map reference-of (made-by (N t env hs) (seen-in T))) (T .references) (k .reference-table)
+  clean-references (X t r) = clean-ended-all references (from-frame t (suc (length (without-native (thread-in (T .book) t .frames))))) (T .references) (k .reference-table)
+  clean-references (C t env f a b c n) = go (is-delete f a) (eqb f PopLocalFrame && top-pushed (thread-in (T .book) t .frames))
+    where
+      go : (d q : Bool) → Clean references
+          (if d then first-ended references (is-handle (delete-owner f t) a) (T .references)
+          else if q then ended-all references (from-frame t (length (thread-in (T .book) t .frames))) (T .references)
+          else T .references)
+      go true q = clean-first-ended references (is-handle (delete-owner f t) a) (T .references) (k .reference-table)
+      go false true = clean-ended-all references (from-frame t (length (thread-in (T .book) t .frames))) (T .references) (k .reference-table)
+      go false false = k .reference-table
+  clean-references (R t f r p) = clean-all-taken references (map reference-of (made-by (R t f r p) (seen-in T))) (T .references) (k .reference-table)
+  clean-references Z = clean-all-taken references (map reference-of (made-by Z (seen-in T))) (T .references) (k .reference-table)
+
+  got-clean : (e : Line) → Clean pins (all-taken pins (T .pins) (map pin-row-of (gets e)))
+  got-clean e = clean-all-taken pins (map pin-row-of (gets e)) (T .pins) (k .pin-table)
+
+  clean-pins : (e : Line) → Clean pins (pins-after e T)
+  unfolding pins-after
+  clean-pins (N t env hs) = got-clean (N t env hs)
+  clean-pins (X t r) = got-clean (X t r)
+  clean-pins (C t env f a b c n) = go (is-buffer-place (fact-of f .b))
+    where
+      go : (q : Bool) → Clean pins (if q then first-ended pins (is-buffer (pin-owner f t) (family f) b) (T .pins) else T .pins)
+      go true = clean-first-ended pins (is-buffer (pin-owner f t) (family f) b) (T .pins) (k .pin-table)
+      go false = k .pin-table
+  clean-pins (R t f r p) = got-clean (R t f r p)
+  clean-pins Z = got-clean Z
+
+  clean-line : (e : Line) (n : ℕ) (r : Reply) → Clean-tables (follow e n r T .left)
+  unfolding acted
+  clean-line e n (not-accepted j) = k
+  clean-line e n (accepted fs) = record { reference-table = clean-references e; pin-table = clean-pins e }
+
+  clean-read : (r : Read) → Clean-tables (on-read r T .left)
+  clean-read (refused j) = k
+  clean-read (says e) =
+      let is = items-in (T .book) (thread-of e) in
+      clean-line e (asked (top-of is)) (weighed-in e (top-of is) (length is) T)
+
+  -- whatever the line is
+  clean-step : (bs : List ℕ) → Clean-tables (step-of T bs .left)
+  unfolding step-of
+  clean-step bs = go (unfit (T .book)) (leb most-lines (lines-in (T .book)))
+    where
+      go : (p q : Bool) → Clean-tables ((if p then untouched 8 T else if q then untouched 1 T else on-read (read bs) T) .left)
+      go true q = k
+      go false true = k
+      go false false = clean-read (read bs)
+
+clean-after : (T : Tables) (calls : List (List ℕ)) → Clean-tables (after (start-of T) calls)
+unfolding after start-of
+clean-after T [] = record { reference-table = clean-cleared references (T .references); pin-table = clean-cleared pins (T .pins) }
+clean-after T (bs ∷ before) = clean-step (after (start-of T) before) (clean-after T before) bs
+
+-- ---- so every row and every mark is that of the past
+
+module _ (room : Room) (T : Tables) (calls : List (List ℕ)) (past : History) (tied : Tied room (after (start-of T) calls) past) where
+  pub references-exact : Exact references (after (start-of T) calls .references) (past-references (room .references) past)
+  references-exact =
+      subst (Exact references (after (start-of T) calls .references)) (tied .reference-table)
+      (exact references (after (start-of T) calls .references) (λ rs r. unfold row-at row in refl) (clean-after T calls .reference-table))
+
+  pub pins-exact : Exact pins (after (start-of T) calls .pins) (past-pins (room .pins) past)
+  pins-exact =
+      subst (Exact pins (after (start-of T) calls .pins)) (tied .pin-table)
+      (exact pins (after (start-of T) calls .pins) (λ rs r. unfold row-at row in refl) (clean-after T calls .pin-table))

@@ -1,0 +1,86 @@
+-- A start ties the tables to no line at all; and tied tables have a fit book. Assumes nothing.
+use Prim.Native.Nat.{ℕ, _≤_, _<_}
+use mathlib.Core.Path.{_≡_, refl, ap, _∙_}
+use mathlib.Core.Bool.{false, _&&_, _||_, and-false}
+use mathlib.Core.List.{[]}
+use native.Mathlib.Decide.{decLt}
+use native.Mathlib.Omega.{arith}
+use lib.Dec.{eqb, ltb}
+use lib.ListN.{length}
+use borrow.Author.Tests.{le-ltb, ne-eqb}
+use Rattle.history.specs.Past.{History, through, closed}
+use Rattle.history.specs.Items.{items}
+use Rattle.history.specs.Frames.{frames, depth}
+use Rattle.history.specs.Capacities.{capacities}
+use Rattle.history.specs.Thread.{pending, monitors, env-of}
+use Rattle.history.specs.Acceptance.{Room, deepest}
+use Rattle.history.specs.Replies.{most-lines}
+use Rattle.history.specs.Accepted.{Accepted}
+use Rattle.history.proofs.Stacks.{natives-in-frames, framed-items, monitors-in-lines, at-most-a-million}
+use Rattle.rows.specs.Table.{room}
+use Rattle.rows.specs.References.{references}
+use Rattle.rows.specs.Pins.{pins}
+use Rattle.book.specs.Layout.{whole}
+use Rattle.book.specs.Threads.{Thread, thread-in, items-in, natives}
+use Rattle.book.specs.Unfit.{overdone, overdoes, unfit}
+use Rattle.book.specs.Changes.{blank}
+use Rattle.book.proofs.Changing.{frames-within, items-within}
+use Rattle.book.proofs.Tracing.{cleared-blank, cleared-long}
+use Rattle.book.proofs.Fitness.{stays-fit}
+use Rattle.tables.specs.Tables.{Tables, reference-of, pin-row-of}
+use Rattle.tables.specs.Stepping.{start-of}
+use Rattle.demands.specs.PastRows.{reference-rows, pin-rows}
+use Rattle.demands.specs.Tied.{past-references, past-pins, past-thread, Tied, Items-tied}
+use Rattle.demands.specs.Calls.{room-of}
+use Rattle.demands.proofs.Encoding.{encoded-cleared}
+
+-- ---- a start
+
+blank-past : (t : ℕ) → blank ≡ past-thread t []
+unfolding blank past-thread frames capacities pending monitors env-of through
+blank-past t = refl
+
+pub started : (T : Tables) → whole ≤ length (T .book) → Tied (room-of T) (start-of T) []
+unfolding start-of room-of
+started T long =
+    let clear = cleared-blank (T .book) in
+    record {
+      reference-table = unfold past-references reference-rows in encoded-cleared references reference-of (T .references);
+      pin-table = unfold past-pins pin-rows in encoded-cleared pins pin-row-of (T .pins);
+      threads = λ t. clear .threads t ∙ blank-past t;
+      lines = clear .lines;
+      end-mark = unfold closed in clear .end-mark;
+      long = omega (arith, cleared-long (T .book));
+    }
+
+pub items-started : (T : Tables) → Items-tied (start-of T .book) []
+unfolding start-of items through
+items-started T = let clear = cleared-blank (T .book) in record { open-items = clear .items; counts = clear .kept }
+
+-- ---- fitness
+
+not-overdone : (items frames natives monitors : ℕ) → items ≤ deepest → frames ≤ deepest → natives ≤ frames → (0 < items → 0 < frames) → monitors ≤ most-lines
+    → overdone items frames natives monitors ≡ false
+not-overdone items frames natives monitors i f n framed m =
+    rw (le-ltb deepest items i, le-ltb deepest frames f, le-ltb frames natives n, le-ltb most-lines monitors m) (go (decLt 0 items))
+  where
+    go : Dec (0 < items) → ((ltb 0 items && eqb frames 0) || false) ≡ false
+    go (yes l) = rw (ne-eqb frames 0 (λ z. omega (arith, framed l, z)), and-false (ltb 0 items))
+    go (no l) = rw (le-ltb 0 items (omega arith))
+
+pub fit : (room : Room) (T : Tables) (past : History) → Tied room T past → Items-tied (T .book) past → Accepted room past → unfit (T .book) ≡ false
+fit room T past tied opened so-far =
+    stays-fit (T .book) (tied .long) (omega (arith, tied .lines, at-most-a-million room past so-far)) (λ t x y. opened .counts t)
+    (λ t x y. unfold overdoes in
+    not-overdone (length (items-in (T .book) t)) (length (thread-in (T .book) t .frames)) (natives (items-in (T .book) t)) (thread-in (T .book) t .monitors)
+    (items-within (T .book) t)
+    (frames-within (T .book) t)
+    (omega (arith, ap natives (opened .open-items t), natives-in-frames room past so-far t, deep t))
+    (λ l. omega (arith, framed-items room past so-far t (omega (arith, ap length (opened .open-items t))), deep t))
+    (omega (arith, held t, monitors-in-lines past t, at-most-a-million room past so-far)))
+  where
+    deep : (t : ℕ) → length (thread-in (T .book) t .frames) ≡ depth t past
+    deep t = unfold depth past-thread in ap (λ (x : Thread). length (x .frames)) (tied .threads t)
+
+    held : (t : ℕ) → thread-in (T .book) t .monitors ≡ monitors t past
+    held t = unfold past-thread in ap (λ (x : Thread). x .monitors) (tied .threads t)

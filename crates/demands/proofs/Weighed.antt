@@ -1,0 +1,152 @@
+-- Tied tables show what the history shows, and refuse what it refuses. Assumes nothing.
+use Prim.Native.Nat.{ℕ}
+use mathlib.Core.Path.{_≡_, refl, sym, ap, ap₂, _∙_}
+use mathlib.Core.Bool.{Bool, _&&_}
+use mathlib.Core.List.{_∷_}
+use lib.Dec.{eqb}
+use lib.ListN.{length}
+use Rattle.words.specs.Choice.{if_then_else_}
+use Rattle.words.specs.Lists.{count}
+use Rattle.lines.specs.Line.{Line, N, X, C, R, Z}
+use Rattle.rows.specs.Slots.{held}
+use Rattle.rows.specs.Table.{room as room-of-rows, alive}
+use Rattle.rows.specs.View.{view}
+use Rattle.rows.specs.References.{references}
+use Rattle.rows.specs.Pins.{pins}
+use Rattle.history.specs.Past.{History, thread-of, through, closed}
+use Rattle.history.specs.Items.{items, top-of}
+use Rattle.history.specs.Frames.{frames, frames-after, depth}
+use Rattle.history.specs.Handles.{Alive, makes, living}
+use Rattle.history.specs.Buffers.{Pin, outstanding}
+use Rattle.history.specs.Seen.{Seen, seen}
+use Rattle.history.specs.Acceptance.{Room, everything, in-step, env-right, made-by, makes-anew, has-room, has-item-room, first-refusal, refusal}
+use Rattle.history.specs.Findings.{of-line}
+use Rattle.history.specs.Replies.{accepted, not-accepted}
+use Rattle.history.specs.Accepted.{Accepted}
+use Rattle.history.proofs.Tests.{eqb-self}
+use Rattle.history.proofs.Counts.{count-all}
+use Rattle.history.proofs.Threads.{own-frames}
+use Rattle.book.specs.Threads.{Thread, thread-in}
+use Rattle.tables.specs.Tables.{Tables, alive-of, reference-of, pin-of, pin-row-of, handles-in, buffers-in, seen-in}
+use Rattle.tables.specs.Weighing.{rows-left, refusal-in, weighed-in}
+use Rattle.demands.specs.PastRows.{padded, reference-rows, pin-rows}
+use Rattle.demands.specs.Tied.{encoded, past-references, past-pins, past-thread, Tied}
+use Rattle.demands.proofs.Slots.{count-same, length-padded, held-padded}
+use Rattle.demands.proofs.PastRows.{rows-hold, pin-rows-hold}
+use Rattle.demands.proofs.PastRoom.{rows-short, references-left, pins-short, pins-left}
+use Rattle.demands.proofs.Encoding.{encoded-counted, encoded-alive, encoded-room, unplaced, alive-of-reference, unowned, pin-of-row}
+use Rattle.demands.proofs.Placed.{rows-placed, pins-owned}
+
+-- a line's own thread, and no thread for Z
+pub frames-own : (e : Line) (past : History) → frames (thread-of e) (e ∷ past) ≡ frames-after e (frames (thread-of e) past)
+frames-own (N t env hs) past = own-frames t (N t env hs) past (eqb-self t)
+frames-own (X t r) past = own-frames t (X t r) past (eqb-self t)
+frames-own (C t env f a b c n) past = own-frames t (C t env f a b c n) past (eqb-self t)
+frames-own (R t f r p) past = own-frames t (R t f r p) past (eqb-self t)
+frames-own Z past = unfold frames through in refl
+
+module _ (room : Room) (T : Tables) (past : History) (tied : Tied room T past) (so-far : Accepted room past) where
+  -- ---- what the tables show
+
+  pub references-encoded : view references (T .references) ≡ encoded reference-of (padded (room .references) (reference-rows past))
+  references-encoded = unfold past-references in tied .reference-table
+
+  pub pins-encoded : view pins (T .pins) ≡ encoded pin-row-of (padded (room .pins) (pin-rows past))
+  pins-encoded = unfold past-pins in tied .pin-table
+
+  pub held-references : held (padded (room .references) (reference-rows past)) ≡ held (reference-rows past)
+  held-references = held-padded (room .references) (reference-rows past) (rows-short room past so-far)
+
+  pub held-pins : held (padded (room .pins) (pin-rows past)) ≡ held (pin-rows past)
+  held-pins = held-padded (room .pins) (pin-rows past) (pins-short room past so-far)
+
+  pub handles-tied : (test : Alive → Bool) → handles-in (T .references) test ≡ count test (living past)
+  unfolding handles-in
+  handles-tied test =
+      encoded-counted references reference-of (T .references) (padded (room .references) (reference-rows past)) references-encoded (λ x. test (alive-of x))
+      ∙ ap (count (λ (x : Alive). test (alive-of (reference-of x)))) held-references
+      ∙ count-same unplaced (λ x. test (alive-of (reference-of x))) test (λ x k. ap test (alive-of-reference x k)) (held (reference-rows past)) (rows-placed room past so-far)
+      ∙ rows-hold room past so-far test
+
+  buffers-tied : (test : Pin → Bool) → buffers-in (T .pins) test ≡ count test (outstanding past)
+  unfolding buffers-in
+  buffers-tied test =
+      encoded-counted pins pin-row-of (T .pins) (padded (room .pins) (pin-rows past)) pins-encoded (λ x. test (pin-of x))
+      ∙ ap (count (λ (x : Pin). test (pin-of (pin-row-of x)))) held-pins
+      ∙ count-same unowned (λ x. test (pin-of (pin-row-of x))) test (λ x k. ap test (pin-of-row x k)) (held (pin-rows past)) (pins-owned room past so-far)
+      ∙ pin-rows-hold past test
+
+  pub seen-tied : seen-in T ≡ seen past
+  unfolding seen-in seen past-thread
+  seen-tied =
+      λ i.
+      record {
+        frames = λ t. tied .threads t i .frames;
+        capacities = λ t. tied .threads t i .capacities;
+        pending = λ t. tied .threads t i .pending;
+        monitors = λ t. tied .threads t i .monitors;
+        env = λ t. tied .threads t i .env;
+        handles = λ test. handles-tied test i;
+        buffers = λ test. buffers-tied test i;
+        lines = tied .lines i;
+        closed = tied .end-mark i;
+      }
+
+  pub own-frames-tied : (t : ℕ) → thread-in (T .book) t .frames ≡ frames t past
+  unfolding past-thread
+  own-frames-tied t = ap (λ (x : Thread). x .frames) (tied .threads t)
+
+  -- ---- room
+
+  alive-tied : alive references (T .references) ≡ length (held (reference-rows past))
+  alive-tied =
+      encoded-alive references reference-of (T .references) (padded (room .references) (reference-rows past)) references-encoded ∙ ap length held-references
+
+  pins-tied : alive pins (T .pins) ≡ length (held (pin-rows past))
+  pins-tied = encoded-alive pins pin-row-of (T .pins) (padded (room .pins) (pin-rows past)) pins-encoded ∙ ap length held-pins
+
+  -- as many rows are used as are alive, and outstanding
+  pub used-rows : alive references (T .references) ≡ length (living past)
+  used-rows = alive-tied ∙ sym (count-all (held (reference-rows past))) ∙ rows-hold room past so-far everything ∙ count-all (living past)
+
+  pub used-pin-rows : alive pins (T .pins) ≡ length (outstanding past)
+  used-pin-rows = pins-tied ∙ sym (count-all (held (pin-rows past))) ∙ pin-rows-hold past everything ∙ count-all (outstanding past)
+
+  room-references : room-of-rows references (T .references) ≡ room .references
+  room-references =
+      encoded-room references reference-of (T .references) (padded (room .references) (reference-rows past)) references-encoded
+      ∙ length-padded (room .references) (reference-rows past)
+
+  room-pins : room-of-rows pins (T .pins) ≡ room .pins
+  room-pins =
+      encoded-room pins pin-row-of (T .pins) (padded (room .pins) (pin-rows past)) pins-encoded ∙ length-padded (room .pins) (pin-rows past)
+
+  module _ (e : Line) where
+    pub makes-tied : made-by e (seen-in T) ≡ makes e (depth (thread-of e) past)
+    unfolding made-by seen depth
+    makes-tied = ap (made-by e) seen-tied
+
+    frames-tied : frames-after e (seen-in T .frames (thread-of e)) ≡ frames (thread-of e) (e ∷ past)
+    unfolding seen
+    frames-tied = ap (λ (v : Seen). frames-after e (v .frames (thread-of e))) seen-tied ∙ sym (frames-own e past)
+
+    -- there are rows left exactly when the history, with the line, is within the room
+    rows-left-tied : rows-left e T ≡ has-room room (thread-of e) (seen (e ∷ past))
+    unfolding rows-left has-room seen
+    rows-left-tied =
+        rw (makes-tied, alive-tied, room-references, pins-tied, room-pins, frames-tied, references-left room past so-far e, pins-left room past so-far e)
+
+    pub refusal-tied : refusal-in e (top-of (items (thread-of e) past)) (length (items (thread-of e) past)) T ≡ refusal room e past
+    unfolding refusal-in refusal seen
+    refusal-tied =
+        let top = top-of (items (thread-of e) past) in
+        let many = length (items (thread-of e) past) in
+        ap (λ (v : Seen). first-refusal (in-step e top (v .closed)) (env-right e v) (makes-anew e v) (rows-left e T && has-item-room e many)) seen-tied
+        ∙ ap (λ (q : Bool). first-refusal (in-step e top (seen past .closed)) (env-right e (seen past)) (makes-anew e (seen past)) (q && has-item-room e many)) rows-left-tied
+
+    -- the same reply
+    pub weighed-tied : weighed-in e (top-of (items (thread-of e) past)) (length (items (thread-of e) past)) T
+        ≡ (if eqb (refusal room e past) 0 then accepted (of-line e (seen past)) else not-accepted (refusal room e past))
+    unfolding weighed-in
+    weighed-tied =
+        ap₂ (λ (k : ℕ) (v : Seen). if eqb k 0 then accepted (of-line e v) else not-accepted k) refusal-tied seen-tied

@@ -1,0 +1,91 @@
+-- What is demanded of the judge over lent tables, each demand as one statement: whoever doubts the judge reads these. Assumes nothing.
+use Prim.Native.Nat.{ℕ, _<_}
+use mathlib.Core.Path.{_≡_}
+use mathlib.Core.Logic.{_↔_}
+use mathlib.Core.Bool.{Bool, true, false}
+use mathlib.Core.List.{List, _∷_}
+use lib.ListN.{length}
+use Rattle.words.specs.Lists.{count}
+use Rattle.lines.specs.Line.{Line}
+use Rattle.lines.specs.Reading.{says, refused, read}
+use Rattle.rows.specs.Slots.{held}
+use Rattle.rows.specs.Table.{alive}
+use Rattle.rows.specs.Exact.{Exact}
+use Rattle.rows.specs.References.{references}
+use Rattle.rows.specs.Pins.{pins}
+use Rattle.history.specs.Past.{History}
+use Rattle.history.specs.Handles.{Alive, living}
+use Rattle.history.specs.Buffers.{Pin, outstanding}
+use Rattle.history.specs.Acceptance.{Room}
+use Rattle.history.specs.Findings.{findings}
+use Rattle.history.specs.Replies.{not-accepted, most-lines, reply, heard}
+use Rattle.history.specs.Refusals.{In-step, Wrong-env, Made-again, Exceeds}
+use Rattle.history.specs.Verdicts.{Weighs}
+use Rattle.history.specs.Report.{report}
+use Rattle.book.specs.Unfit.{unfit}
+use Rattle.tables.specs.Tables.{Tables}
+use Rattle.tables.specs.Stepping.{step-of, start-of}
+use Rattle.demands.specs.PastRows.{reference-rows, pin-rows}
+use Rattle.demands.specs.Tied.{past-references, past-pins, Tied, Items-tied}
+use Rattle.demands.specs.Calls.{room-of, Long, Alike, from-start, heard-by, all-found, report-in}
+
+-- the bytes are a line that passes all tests before that of the room, and after it the room would be exceeded
+pub record Out-of-room (room : Room) (past : History) (bs : List ℕ) : Type 0 where
+  pub line : Line
+  pub said : read bs ≡ says line
+  pub in-time : length past < most-lines
+  pub turn : In-step past line
+  pub its-env : ¬ Wrong-env past line
+  pub anew : ¬ Made-again past line
+  pub over : Exceeds room (line ∷ past)
+
+-- of lent tables, whatever they hold
+pub record Of-any-tables (T : Tables) : Type 0 where
+  -- "Each leaves rows, marks, book and findings untouched and returns only its number."
+  pub refusal-changes-nothing : (bs : List ℕ) (k : ℕ) → step-of T bs .reply ≡ not-accepted k → step-of T bs .left ≡ T
+  -- 8 is "given exactly when" the lent thread book is not fit, whatever the line
+  pub eight-exactly : (bs : List ℕ) → (step-of T bs .reply ≡ not-accepted 8) ↔ (unfit (T .book) ≡ true)
+  -- "A start call clears all rows, marks and book": it forgets whatever stood there
+  pub start-forgets : (S : Tables) → Alike S T → start-of S ≡ start-of T
+
+-- of the rows of the past, after any calls
+pub record Of-past-rows (room : Room) (calls : List (List ℕ)) : Type 0 where
+  -- they hold what is alive, by whatever test it is counted
+  pub rows-hold : (test : Alive → Bool) → count test (held (reference-rows (heard room calls))) ≡ count test (living (heard room calls))
+  -- and what is outstanding
+  pub pin-rows-hold : (test : Pin → Bool) → count test (held (pin-rows (heard room calls))) ≡ count test (outstanding (heard room calls))
+
+-- of lent tables after a start and any calls, refused ones among them
+pub record From-a-start (T : Tables) (calls : List (List ℕ)) : Type 0 where
+  -- "breach and room are tied to history": no judge that works on the first line and pretends after, none that refuses always or has one reply
+  pub replies : (bs : List ℕ) → step-of (from-start T calls) bs .reply ≡ reply (room-of T) (heard-by T calls) bs
+  -- all the breaches of the lines heard and nothing besides, in their order
+  pub all-breaches : all-found (start-of T) calls ≡ findings (heard-by T calls)
+  -- "Numbers given instead of an event": each of 1 to 7 "given exactly when", "tested in this order"
+  pub refused-exactly : (bs : List ℕ) (k : ℕ)
+      → (step-of (from-start T calls) bs .reply ≡ not-accepted k) ↔ Weighs (room-of T) (heard-by T calls) bs (refused k)
+  -- 7: "after it the alive handles, the outstanding buffers, or a thread's items or frames would exceed room"
+  pub seven-exactly : (bs : List ℕ) → (step-of (from-start T calls) bs .reply ≡ not-accepted 7) ↔ Out-of-room (room-of T) (heard-by T calls) bs
+  -- 8 never comes
+  pub never-eight : unfit (from-start T calls .book) ≡ false
+  -- "all it leaves in lent rows, marks and book": the rows of the past, and each thread's record by the history
+  pub tables-are : Tied (room-of T) (from-start T calls) (heard-by T calls)
+  -- and its open items
+  pub items-are : Items-tied (from-start T calls .book) (heard-by T calls)
+  -- as many rows are used as handles are alive: room is not counted from handles ever made
+  pub rows-used : alive references (from-start T calls .references) ≡ length (living (heard-by T calls))
+  -- and as many pin rows as buffers are outstanding
+  pub pin-rows-used : alive pins (from-start T calls .pins) ≡ length (outstanding (heard-by T calls))
+  -- "a new row is the lowest free one, an ended row is zeroed": each row number by number, and each mark, also those past the room
+  pub reference-numbers : Exact references (from-start T calls .references) (past-references (room-of T .references) (heard-by T calls))
+  -- and each pin row
+  pub pin-numbers : Exact pins (from-start T calls .pins) (past-pins (room-of T .pins) (heard-by T calls))
+  -- every number of rows, marks and book is fixed by the lines heard, whatever stood there before the start and whatever was refused since
+  pub fixed-by-history : (S : Tables) → Alike S T → (others : List (List ℕ)) → heard-by T others ≡ heard-by T calls → from-start S others ≡ from-start T calls
+
+pub record Demands : Type 0 where
+  pub of-any-tables : (T : Tables) → Of-any-tables T
+  pub of-past-rows : (room : Room) (calls : List (List ℕ)) → Of-past-rows room calls
+  pub from-a-start : (T : Tables) → Long T → (calls : List (List ℕ)) → From-a-start T calls
+  -- "The program stops at it": the report of a whole input, down to its bytes, is the history's; no invented Z or `end` counts
+  pub reports : (T : Tables) → Long T → (input : List ℕ) → report-in T input ≡ report (room-of T) input

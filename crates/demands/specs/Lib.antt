@@ -1,0 +1,4 @@
+pub mod PastRows
+pub mod Tied
+pub mod Calls
+pub mod Demands

@@ -1,0 +1,61 @@
+-- The lent tables hold what the accepted lines say, and nothing besides. Assumes nothing.
+use Prim.Native.Nat.{ℕ, _≤_}
+use mathlib.Core.Path.{_≡_}
+use mathlib.Core.List.{List, [], _∷_}
+use mathlib.Core.Option.{Option, none, some}
+use lib.ListN.{length}
+use Rattle.rows.specs.View.{view}
+use Rattle.rows.specs.References.{references}
+use Rattle.rows.specs.Pins.{pins}
+use Rattle.rows.specs.declared.references.Reference.{Reference}
+use Rattle.rows.specs.declared.pins.Pin.{Pin as PinRow}
+use Rattle.history.specs.Past.{History, closed}
+use Rattle.history.specs.Items.{items}
+use Rattle.history.specs.Frames.{frames}
+use Rattle.history.specs.Capacities.{capacities}
+use Rattle.history.specs.Thread.{pending, monitors, env-of}
+use Rattle.history.specs.Acceptance.{Room}
+use Rattle.book.specs.Layout.{whole, cell}
+use Rattle.book.specs.Threads.{Thread, thread-in, items-in, lines-in, closed-in}
+use Rattle.book.specs.Changes.{Kept}
+use Rattle.tables.specs.Tables.{Tables, reference-of, pin-row-of}
+use Rattle.demands.specs.PastRows.{padded, reference-rows, pin-rows}
+
+module _ {A B : Type 0} where
+  -- what each used slot holds, as a row
+  abbrev pub encoded : (B → A) → List (Option B) → List (Option A)
+  encoded f [] = []
+  encoded f (none ∷ s) = none ∷ encoded f s
+  encoded f (some x ∷ s) = some (f x) ∷ encoded f s
+
+-- the lent rows that stand for the rows of the past, in a room of n
+unfoldable pub past-references : ℕ → History → List (Option Reference)
+past-references n past = encoded reference-of (padded n (reference-rows past))
+
+unfoldable pub past-pins : ℕ → History → List (Option PinRow)
+past-pins n past = encoded pin-row-of (padded n (pin-rows past))
+
+-- a thread by the history, but for its open items
+unfoldable pub past-thread : ℕ → History → Thread
+past-thread t past =
+    record {
+      frames = frames t past;
+      capacities = capacities t past;
+      pending = pending t past;
+      monitors = monitors t past;
+      env = env-of t past;
+    }
+
+-- all but the open items
+pub record Tied (room : Room) (T : Tables) (past : History) : Type 0 where
+  pub reference-table : view references (T .references) ≡ past-references (room .references) past
+  pub pin-table : view pins (T .pins) ≡ past-pins (room .pins) past
+  pub threads : (t : ℕ) → thread-in (T .book) t ≡ past-thread t past
+  pub lines : lines-in (T .book) ≡ length past
+  pub end-mark : closed-in (T .book) ≡ closed past
+  pub long : whole ≤ length (T .book)
+
+-- the open items, and the counts that stand with them
+pub record Items-tied (b : List ℕ) (past : History) : Type 0 where
+  pub open-items : (t : ℕ) → items-in b t ≡ items t past
+  pub counts : (t : ℕ) → Kept (cell b t)
