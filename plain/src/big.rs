@@ -1,0 +1,401 @@
+//! The maker of big traces to measure judges on: every line accepted, some condemned.
+
+use crate::facts::*;
+use crate::judge::Judge;
+use crate::line::{self, Event, MOST_BYTES, MOST_HANDLES, THREADS};
+use crate::random::Random;
+use crate::report::{PIN_ROWS, REFERENCE_ROWS};
+use crate::thread::{Item, MOST_ITEMS};
+use std::io::{self, Write};
+
+const EXCEPTION_CLEAR: u32 = 17;
+const NEW_GLOBAL_REF: u32 = 21;
+const NEW_LOCAL_REF: u32 = 25;
+const NEW_WEAK_GLOBAL_REF: u32 = 226;
+const GET_PRIMITIVE_ARRAY_CRITICAL: u32 = 222;
+const RELEASE_PRIMITIVE_ARRAY_CRITICAL: u32 = 223;
+
+/// Functions that use handles and make nothing.
+const USES: [u32; 12] = [24, 32, 40, 50, 70, 80, 97, 104, 108, 154, 164, 171];
+/// The gets of the families that are not critical, and their releases.
+const GETS: [u32; 10] = [165, 169, 183, 184, 185, 186, 187, 188, 189, 190];
+const RELEASES: [u32; 10] = [166, 170, 191, 192, 193, 194, 195, 196, 197, 198];
+
+/// A kind of big trace; chances are in percent.
+#[derive(Clone, Copy, Debug)]
+pub struct Kind {
+    pub name: &'static str,
+    threads: u32,
+    /// The most open items of a thread.
+    deepest: usize,
+    /// A native is entered in an open call.
+    nested: u32,
+    /// A native returns rather than calls.
+    left: u32,
+    /// A call uses handles rather than making or ending one.
+    used: u32,
+    /// The alive handles about which makes and deletes keep balance.
+    alive: usize,
+    /// The outstanding buffers about which gets and releases keep balance.
+    outstanding: usize,
+}
+
+pub const KINDS: [Kind; 5] = [
+    Kind {
+        name: "steady",
+        threads: THREADS,
+        deepest: 2,
+        nested: 0,
+        left: 0,
+        used: 60,
+        alive: 2_000,
+        outstanding: 0,
+    },
+    Kind {
+        name: "threads",
+        threads: THREADS,
+        deepest: 6,
+        nested: 20,
+        left: 15,
+        used: 60,
+        alive: 400,
+        outstanding: 10,
+    },
+    Kind {
+        name: "nest",
+        threads: 4,
+        deepest: MOST_ITEMS,
+        nested: 90,
+        left: 2,
+        used: 80,
+        alive: 600,
+        outstanding: 0,
+    },
+    Kind {
+        name: "buffers",
+        threads: 8,
+        deepest: 2,
+        nested: 0,
+        left: 0,
+        used: 30,
+        alive: 200,
+        outstanding: 240,
+    },
+    Kind {
+        name: "uses",
+        threads: THREADS,
+        deepest: 2,
+        nested: 0,
+        left: 0,
+        used: 97,
+        alive: 1_000,
+        outstanding: 0,
+    },
+];
+
+pub fn kind(name: &str) -> Option<&'static Kind> {
+    KINDS.iter().find(|kind| kind.name == name)
+}
+
+/// Writes a trace of this kind and of so many lines, the last a Z; there must be one line at least.
+pub fn big(kind: &Kind, lines: usize, output: &mut impl Write) -> io::Result<()> {
+    let mut big = Big {
+        kind,
+        random: Random::new(lines as u64),
+        judge: Judge::new(REFERENCE_ROWS, PIN_ROWS),
+        threads: Default::default(),
+        globals_and_weaks: Vec::new(),
+        buffers: Vec::new(),
+        output,
+    };
+    for _ in 1..lines {
+        big.line()?;
+    }
+    big.put(Event::Z)
+}
+
+/// Writes so many lines that each open or close one native, without a Z, to try the most lines of a trace.
+pub fn natives(lines: usize, output: &mut impl Write) -> io::Result<()> {
+    for index in 0..lines {
+        let line = ["N\t1\t1", "X\t1\t0"][index % 2];
+        writeln!(output, "{line}")?;
+    }
+    Ok(())
+}
+
+/// What the maker knows of one thread beside the judge.
+#[derive(Default)]
+struct Held {
+    /// The alive locals, those of inner natives last.
+    locals: Vec<u32>,
+    /// For each native, how many locals were alive before it.
+    before: Vec<usize>,
+    /// The critical buffers outstanding.
+    critical: Vec<u32>,
+    /// On the way out of deep nesting.
+    rising: bool,
+}
+
+struct Big<'a, W: Write> {
+    kind: &'a Kind,
+    random: Random,
+    judge: Judge,
+    threads: [Held; THREADS as usize],
+    globals_and_weaks: Vec<u32>,
+    /// The outstanding buffers that are not critical, with their families' index in `GETS`.
+    buffers: Vec<(usize, u32)>,
+    output: &'a mut W,
+}
+
+impl<W: Write> Big<'_, W> {
+    fn line(&mut self) -> io::Result<()> {
+        let thread = self.random.between(1, self.kind.threads);
+        let items = &self.judge.thread(thread).items;
+        let (depth, top) = (items.len(), items.last().copied());
+        let deepest = self.kind.deepest;
+        let held = self.held(thread);
+        held.rising = depth == deepest || held.rising && depth > 0;
+        let rising = held.rising && self.kind.nested > 0;
+        let nested = if rising { 0 } else { self.kind.nested };
+        let left = if rising { 60 } else { self.kind.left };
+        match top {
+            None => self.enter(thread),
+            Some(Item::Native { .. }) if self.random.percent(left) => self.leave(thread),
+            Some(Item::Native { .. }) => self.call(thread),
+            Some(Item::Call { .. }) if self.random.percent(nested) => self.enter(thread),
+            Some(Item::Call { function, .. }) => self.answer(thread, function),
+        }
+    }
+
+    fn enter(&mut self, thread: u32) -> io::Result<()> {
+        let mut handles = [0; MOST_HANDLES];
+        let count = 1 + self.random.below(3);
+        for index in 0..count {
+            handles[index] = self.fresh(thread, LOCAL, &handles);
+        }
+        let held = self.held(thread);
+        held.before.push(held.locals.len());
+        held.locals.extend(&handles[..count]);
+        self.put(Event::N {
+            thread,
+            env: env_of(thread),
+            count,
+            handles,
+        })
+    }
+
+    fn leave(&mut self, thread: u32) -> io::Result<()> {
+        let result = if self.random.percent(50) {
+            self.handle(thread)
+        } else {
+            0
+        };
+        let held = self.held(thread);
+        let before = held.before.pop().unwrap_or(0);
+        held.locals.truncate(before);
+        self.put(Event::X { thread, result })
+    }
+
+    fn call(&mut self, thread: u32) -> io::Result<()> {
+        let own = self.judge.thread(thread);
+        let capacity_is_short = own.frames.last().is_some_and(|frame| frame.capacity == 16);
+        if self.kind.nested == 0 && capacity_is_short {
+            return self.put_call(thread, ENSURE_LOCAL_CAPACITY, [0; 3], 400);
+        }
+        if own.pending && self.random.percent(80) {
+            return self.put_call(thread, EXCEPTION_CLEAR, [0; 3], 0);
+        }
+        if let Some(&buffer) = self.held(thread).critical.last() {
+            if self.random.percent(5) {
+                return self.use_handles(thread);
+            }
+            self.held(thread).critical.pop();
+            let places = [self.handle(thread), buffer, 0];
+            return self.put_call(thread, RELEASE_PRIMITIVE_ARRAY_CRITICAL, places, 0);
+        }
+        if self.random.percent(self.kind.used) {
+            self.use_handles(thread)
+        } else if self.kind.outstanding > 0 && self.random.percent(60) {
+            self.get_or_release(thread)
+        } else {
+            self.make_or_delete(thread)
+        }
+    }
+
+    fn use_handles(&mut self, thread: u32) -> io::Result<()> {
+        let function = self.random.pick(&USES);
+        let kinds = known(function).places;
+        let places = kinds.map(|kind| match kind {
+            PlaceKind::Unused => 0,
+            PlaceKind::Identity => self.number(0),
+            _ if self.random.below(300) == 0 => self.number(LOCAL),
+            _ => self.handle(thread),
+        });
+        self.put_call(thread, function, places, 0)
+    }
+
+    fn make_or_delete(&mut self, thread: u32) -> io::Result<()> {
+        let alive = self.judge.references().alive();
+        let spread = self.kind.alive / 100 + 1;
+        let few = self.held(thread).locals.len() < 4;
+        let makes = if few || alive + spread < self.kind.alive {
+            true
+        } else {
+            alive < self.kind.alive + spread && self.random.percent(50)
+        };
+        if makes {
+            let function = match self.random.below(25) {
+                0 | 1 if self.globals_and_weaks.len() < 300 => NEW_GLOBAL_REF,
+                2 if self.globals_and_weaks.len() < 300 => NEW_WEAK_GLOBAL_REF,
+                _ => NEW_LOCAL_REF,
+            };
+            let object = self.handle(thread);
+            return self.put_call(thread, function, [object, 0, 0], 0);
+        }
+        let deleted = self.remove_handle(thread);
+        let function = match deleted % 4 {
+            GLOBAL => DELETE_GLOBAL_REF,
+            WEAK => DELETE_WEAK_GLOBAL_REF,
+            _ => DELETE_LOCAL_REF,
+        };
+        self.put_call(thread, function, [deleted, 0, 0], 0)
+    }
+
+    fn get_or_release(&mut self, thread: u32) -> io::Result<()> {
+        let array = self.handle(thread);
+        let outstanding = self.judge.pins().outstanding();
+        if outstanding < PIN_ROWS - THREADS as usize && self.random.percent(4) {
+            return self.put_call(thread, GET_PRIMITIVE_ARRAY_CRITICAL, [array, 0, 0], 0);
+        }
+        let gets = if outstanding + 10 < self.kind.outstanding {
+            true
+        } else {
+            outstanding < self.kind.outstanding && self.random.percent(50)
+        };
+        if gets || self.buffers.is_empty() {
+            let function = self.random.pick(&GETS);
+            return self.put_call(thread, function, [array, 0, 0], 0);
+        }
+        let index = self.random.below(self.buffers.len());
+        let (family, buffer) = self.buffers.swap_remove(index);
+        self.put_call(thread, RELEASES[family], [array, buffer, 0], 0)
+    }
+
+    fn answer(&mut self, thread: u32, function: u32) -> io::Result<()> {
+        let kind = known(function).result;
+        let result = match kind {
+            ResultKind::Local if self.judge.references().free() > 0 => {
+                let handle = self.fresh(thread, LOCAL, &[]);
+                self.held(thread).locals.push(handle);
+                handle
+            }
+            ResultKind::Global | ResultKind::Weak if self.judge.references().free() > 0 => {
+                let remainder = if kind == ResultKind::Global {
+                    GLOBAL
+                } else {
+                    WEAK
+                };
+                let handle = self.fresh(thread, remainder, &[]);
+                self.globals_and_weaks.push(handle);
+                handle
+            }
+            ResultKind::Buffer(_) if self.judge.pins().free() > 0 => {
+                let buffer = 1 + self.random.below(1 << 31) as u32;
+                match GETS.iter().position(|&get| get == function) {
+                    Some(index) => self.buffers.push((index, buffer)),
+                    None => self.held(thread).critical.push(buffer),
+                }
+                buffer
+            }
+            _ => 0,
+        };
+        let pending = self.random.below(300) == 0;
+        self.put(Event::R {
+            thread,
+            function,
+            result: result.into(),
+            pending: pending.into(),
+        })
+    }
+
+    fn put_call(
+        &mut self,
+        thread: u32,
+        function: u32,
+        places: [u32; 3],
+        capacity: i32,
+    ) -> io::Result<()> {
+        let env = if self.random.below(1_000) == 0 {
+            env_of(thread) + 1
+        } else {
+            env_of(thread)
+        };
+        self.put(Event::C {
+            thread,
+            env,
+            function,
+            places,
+            capacity,
+        })
+    }
+
+    fn put(&mut self, event: Event) -> io::Result<()> {
+        let mut line = [0; MOST_BYTES + 1];
+        let length = line::write(&event, &mut line).expect("an event in range");
+        let line = &line[..length];
+        self.judge.step(line).expect("an accepted line");
+        self.output.write_all(line)
+    }
+
+    fn held(&mut self, thread: u32) -> &mut Held {
+        &mut self.threads[thread as usize - 1]
+    }
+
+    /// A handle the thread may use, or null if it has none.
+    fn handle(&mut self, thread: u32) -> u32 {
+        if self.random.percent(20) && !self.globals_and_weaks.is_empty() {
+            return self.random.pick(&self.globals_and_weaks);
+        }
+        let locals = &self.threads[thread as usize - 1].locals;
+        match locals.len() {
+            0 => 0,
+            alive => locals[self.random.below(alive)],
+        }
+    }
+
+    /// Takes out a handle for the thread to delete: a global or weak, or a local of its top native.
+    fn remove_handle(&mut self, thread: u32) -> u32 {
+        if self.random.percent(8) && !self.globals_and_weaks.is_empty() {
+            let index = self.random.below(self.globals_and_weaks.len());
+            return self.globals_and_weaks.swap_remove(index);
+        }
+        let held = &mut self.threads[thread as usize - 1];
+        let before = held.before.last().copied().unwrap_or(0);
+        match held.locals.len() - before {
+            0 => 0,
+            own => {
+                let index = before + self.random.below(own);
+                held.locals.swap_remove(index)
+            }
+        }
+    }
+
+    /// A handle not alive and not among those named.
+    fn fresh(&mut self, thread: u32, kind: u32, named: &[u32]) -> u32 {
+        loop {
+            let handle = self.number(kind);
+            if !named.contains(&handle) && !self.judge.references().is_alive(thread, handle) {
+                return handle;
+            }
+        }
+    }
+
+    /// A nonzero number with this remainder by 4.
+    fn number(&mut self, remainder: u32) -> u32 {
+        4 * self.random.between(1, (1 << 30) - 1) + remainder
+    }
+}
+
+fn env_of(thread: u32) -> u32 {
+    0x7f00_0000 + 0x100 * thread
+}

@@ -1,0 +1,173 @@
+//! Compares another judge program with the plain judge on made traces, and shrinks the first trace they differ on.
+
+use plain::coverage::Coverage;
+use plain::make::{make, profile, Profile, PROFILES};
+use plain::random::Random;
+use plain::report::{report, PIN_ROWS, REFERENCE_ROWS};
+use plain::shrink::shrink;
+use std::io::{self, Read, Write};
+use std::process::{Child, Command, ExitCode, Stdio};
+use std::sync::mpsc;
+use std::thread;
+use std::time::{Duration, Instant};
+
+const USAGE: &str = "usage: compare [--seed S] [--count N] [--seconds T] -- CMD ARG..";
+
+/// The longest one run of the other judge may take.
+const RUN_TIME: Duration = Duration::from_secs(60);
+/// The longest the shrinking of one trace may take.
+const SHRINK_TIME: Duration = Duration::from_secs(120);
+
+struct Wish {
+    seed: u64,
+    count: u64,
+    time: Duration,
+    command: Vec<String>,
+}
+
+fn main() -> ExitCode {
+    let arguments: Vec<String> = std::env::args().skip(1).collect();
+    let Some(wish) = wish(&arguments) else {
+        eprintln!("{USAGE}");
+        return ExitCode::from(2);
+    };
+    match compare(&wish) {
+        Ok(true) => ExitCode::SUCCESS,
+        Ok(false) => ExitCode::FAILURE,
+        Err(error) => {
+            eprintln!("compare: {error}");
+            ExitCode::from(2)
+        }
+    }
+}
+
+fn wish(arguments: &[String]) -> Option<Wish> {
+    let split = arguments.iter().position(|argument| argument == "--")?;
+    let (options, command) = (&arguments[..split], &arguments[split + 1..]);
+    let mut wish = Wish {
+        seed: 1,
+        count: 1_000,
+        time: Duration::MAX,
+        command: command.to_vec(),
+    };
+    let mut counted = false;
+    for option in options.chunks(2) {
+        let [name, value] = option else {
+            return None;
+        };
+        match name.as_str() {
+            "--seed" => wish.seed = value.parse().ok()?,
+            "--count" => {
+                wish.count = value.parse().ok()?;
+                counted = true;
+            }
+            "--seconds" => wish.time = Duration::from_secs(value.parse().ok()?),
+            _ => return None,
+        }
+    }
+    if wish.time != Duration::MAX && !counted {
+        wish.count = u64::MAX;
+    }
+    (!command.is_empty()).then_some(wish)
+}
+
+/// Compares trace after trace; whether all reports were equal.
+fn compare(wish: &Wish) -> io::Result<bool> {
+    let start = Instant::now();
+    let mut coverage = Coverage::default();
+    let mut equal = true;
+    for index in 0..wish.count {
+        if start.elapsed() >= wish.time {
+            break;
+        }
+        let profile = profile_of(index);
+        let seed = wish.seed.wrapping_add(index);
+        let lines = lines_of(profile, seed);
+        let trace = make(profile, seed, lines, REFERENCE_ROWS, PIN_ROWS);
+        coverage.add(&trace, REFERENCE_ROWS, PIN_ROWS);
+        if differs(&wish.command, &trace)? {
+            let name = profile.name;
+            println!("a difference: traces --seed {seed} --profile {name} --lines {lines}");
+            tell(&wish.command, &trace)?;
+            equal = false;
+            break;
+        }
+    }
+    println!("compared {coverage}");
+    Ok(equal)
+}
+
+/// Every second trace is a single line at an edge, as it costs little; the others are of all profiles by turns.
+fn profile_of(index: u64) -> &'static Profile {
+    if index % 2 == 1 {
+        return profile("edges").expect("a profile");
+    }
+    &PROFILES[(index / 2 % PROFILES.len() as u64) as usize]
+}
+
+fn lines_of(profile: &Profile, seed: u64) -> usize {
+    let (fewest, most) = profile.usual_lines;
+    Random::new(!seed).between(fewest, most) as usize
+}
+
+fn differs(command: &[String], trace: &[u8]) -> io::Result<bool> {
+    Ok(run(command, trace)? != report(trace, REFERENCE_ROWS, PIN_ROWS))
+}
+
+/// Shrinks the trace and tells it with both reports.
+fn tell(command: &[String], trace: &[u8]) -> io::Result<()> {
+    let start = Instant::now();
+    let in_time = || start.elapsed() < SHRINK_TIME;
+    let small = shrink(trace, |part| {
+        in_time() && differs(command, part).unwrap_or(false)
+    });
+    println!("the smallest trace found:");
+    print_bytes(&small)?;
+    println!("the plain judge's report:");
+    print_bytes(&report(&small, REFERENCE_ROWS, PIN_ROWS))?;
+    println!("the other report:");
+    print_bytes(&run(command, &small)?)
+}
+
+fn print_bytes(bytes: &[u8]) -> io::Result<()> {
+    let mut output = io::stdout().lock();
+    output.write_all(bytes)?;
+    if !bytes.ends_with(b"\n") {
+        output.write_all(b"\n")?;
+    }
+    Ok(())
+}
+
+/// What the command prints with the trace on its standard input.
+fn run(command: &[String], trace: &[u8]) -> io::Result<Vec<u8>> {
+    let mut child = Command::new(&command[0])
+        .args(&command[1..])
+        .stdin(Stdio::piped())
+        .stdout(Stdio::piped())
+        .spawn()?;
+    let printed = exchange(&mut child, trace);
+    child.kill()?;
+    child.wait()?;
+    printed
+}
+
+/// Feeds the child from one thread and reads it from another, so that neither waits for the other.
+fn exchange(child: &mut Child, trace: &[u8]) -> io::Result<Vec<u8>> {
+    let mut stdin = child.stdin.take().expect("a piped standard input");
+    let mut stdout = child.stdout.take().expect("a piped standard output");
+    let trace = trace.to_vec();
+    thread::spawn(move || {
+        // A judge that stops at a refusal leaves the rest unread.
+        let _ = stdin.write_all(&trace);
+    });
+    let (sender, receiver) = mpsc::channel();
+    thread::spawn(move || {
+        let mut printed = Vec::new();
+        let read = stdout.read_to_end(&mut printed);
+        let _ = sender.send(read.map(|_| printed));
+    });
+    match receiver.recv_timeout(RUN_TIME) {
+        Ok(printed) => printed,
+        Err(_) => Ok(b"nothing, as it took too long".to_vec()),
+    }
+}

@@ -1,0 +1,52 @@
+//! Measures the plain reader alone and the plain judge on a trace held in memory.
+
+use plain::judge::Judge;
+use plain::line::read;
+use plain::report::{PIN_ROWS, REFERENCE_ROWS};
+use std::hint::black_box;
+use std::process::ExitCode;
+use std::time::Instant;
+
+/// The best of so many rounds is told.
+const ROUNDS: u32 = 7;
+
+fn main() -> ExitCode {
+    let arguments: Vec<String> = std::env::args().skip(1).collect();
+    let [file] = &arguments[..] else {
+        eprintln!("usage: measure TRACE");
+        return ExitCode::from(2);
+    };
+    let trace = match std::fs::read(file) {
+        Ok(trace) => trace,
+        Err(error) => {
+            eprintln!("measure: {file}: {error}");
+            return ExitCode::FAILURE;
+        }
+    };
+    let lines: Vec<&[u8]> = trace.split_inclusive(|&byte| byte == b'\n').collect();
+    let reader = best(lines.len(), || {
+        for line in &lines {
+            let _ = black_box(read(black_box(line)));
+        }
+    });
+    let judge = best(lines.len(), || {
+        let mut judge = Judge::new(REFERENCE_ROWS, PIN_ROWS);
+        for line in &lines {
+            let _ = black_box(judge.step(black_box(line)));
+        }
+    });
+    println!("{} lines, {} bytes", lines.len(), trace.len());
+    println!("reader {reader:.1} ns/line");
+    println!("judge {judge:.1} ns/line");
+    ExitCode::SUCCESS
+}
+
+/// The nanoseconds a line takes in the best round.
+fn best(lines: usize, mut round: impl FnMut()) -> f64 {
+    let times = (0..ROUNDS).map(|_| {
+        let start = Instant::now();
+        round();
+        start.elapsed().as_nanos() as f64
+    });
+    times.fold(f64::INFINITY, f64::min) / lines as f64
+}

@@ -1,0 +1,123 @@
+//! Prints made traces: one of a profile from a seed, or a big one of a kind.
+
+use plain::big::{self, big, natives};
+use plain::make::{make, profile, Profile, PROFILES};
+use plain::report::{PIN_ROWS, REFERENCE_ROWS};
+use std::io::{self, BufWriter, Write};
+use std::process::ExitCode;
+
+/// What the arguments ask for.
+enum Wish {
+    Made {
+        profile: &'static Profile,
+        seed: u64,
+        lines: usize,
+        reference_rows: usize,
+        pin_rows: usize,
+    },
+    Big {
+        kind: &'static big::Kind,
+        lines: usize,
+    },
+    Natives {
+        lines: usize,
+    },
+}
+
+fn main() -> ExitCode {
+    let arguments: Vec<String> = std::env::args().skip(1).collect();
+    let arguments: Vec<&str> = arguments.iter().map(String::as_str).collect();
+    let wish = match arguments[..] {
+        ["--big", "natives", lines] => natives_wish(lines),
+        ["--big", kind, lines] => big_wish(kind, lines),
+        _ => made_wish(&arguments),
+    };
+    let Some(wish) = wish else {
+        usage();
+        return ExitCode::from(2);
+    };
+    match print(wish) {
+        Ok(()) => ExitCode::SUCCESS,
+        Err(error) => {
+            eprintln!("traces: {error}");
+            ExitCode::FAILURE
+        }
+    }
+}
+
+fn natives_wish(lines: &str) -> Option<Wish> {
+    let lines = lines.parse().ok()?;
+    Some(Wish::Natives { lines })
+}
+
+fn big_wish(kind: &str, lines: &str) -> Option<Wish> {
+    let lines = lines.parse().ok()?;
+    let kind = big::kind(kind)?;
+    (1..=1_000_000)
+        .contains(&lines)
+        .then_some(Wish::Big { kind, lines })
+}
+
+fn made_wish(arguments: &[&str]) -> Option<Wish> {
+    let (mut seed, mut named, mut lines) = (1, None, 100);
+    let (mut reference_rows, mut pin_rows) = (REFERENCE_ROWS, PIN_ROWS);
+    let mut rest = arguments;
+    loop {
+        rest = match *rest {
+            ["--seed", number, ref after @ ..] => {
+                seed = number.parse().ok()?;
+                after
+            }
+            ["--profile", name, ref after @ ..] => {
+                named = Some(profile(name)?);
+                after
+            }
+            ["--lines", number, ref after @ ..] => {
+                lines = number.parse().ok()?;
+                after
+            }
+            ["--rooms", references, pins, ref after @ ..] => {
+                reference_rows = references.parse().ok()?;
+                pin_rows = pins.parse().ok()?;
+                after
+            }
+            [] => break,
+            _ => return None,
+        }
+    }
+    named.map(|profile| Wish::Made {
+        profile,
+        seed,
+        lines,
+        reference_rows,
+        pin_rows,
+    })
+}
+
+fn print(wish: Wish) -> io::Result<()> {
+    let mut output = BufWriter::with_capacity(1 << 16, io::stdout().lock());
+    match wish {
+        Wish::Made {
+            profile,
+            seed,
+            lines,
+            reference_rows,
+            pin_rows,
+        } => output.write_all(&make(profile, seed, lines, reference_rows, pin_rows))?,
+        Wish::Big { kind, lines } => big(kind, lines, &mut output)?,
+        Wish::Natives { lines } => natives(lines, &mut output)?,
+    }
+    output.flush()
+}
+
+fn usage() {
+    eprintln!(
+        "usage: traces --profile NAME [--seed S] [--lines N] [--rooms REFERENCE_ROWS PIN_ROWS]"
+    );
+    eprintln!("       traces --big KIND N, at most 1000000 lines, accepted to the last");
+    eprintln!("       traces --big natives N, any number of lines, without a Z");
+    let profiles: Vec<&str> = PROFILES.iter().map(|profile| profile.name).collect();
+    eprintln!("profiles: {}", profiles.join(" "));
+    let kinds: Vec<&str> = big::KINDS.iter().map(|kind| kind.name).collect();
+    eprintln!("kinds: {}", kinds.join(" "));
+}

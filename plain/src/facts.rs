@@ -1,0 +1,166 @@
+//! The facts of the 229 JNI functions: the places and result of each, and where it is allowed.
+
+pub const FIRST_FUNCTION: u32 = 4;
+pub const LAST_FUNCTION: u32 = 232;
+pub const FUNCTIONS: usize = 229;
+
+pub const PUSH_LOCAL_FRAME: u32 = 19;
+pub const POP_LOCAL_FRAME: u32 = 20;
+pub const DELETE_GLOBAL_REF: u32 = 22;
+pub const DELETE_LOCAL_REF: u32 = 23;
+pub const ENSURE_LOCAL_CAPACITY: u32 = 26;
+pub const MONITOR_ENTER: u32 = 217;
+pub const MONITOR_EXIT: u32 = 218;
+pub const DELETE_WEAK_GLOBAL_REF: u32 = 227;
+
+/// What a handle's remainder by 4 says of it; an identity has remainder 0.
+pub const LOCAL: u32 = 1;
+pub const GLOBAL: u32 = 2;
+pub const WEAK: u32 = 3;
+
+/// A buffer family, 0 to 11.
+#[derive(Clone, Copy, Debug, PartialEq, Eq)]
+pub struct Family(pub u8);
+
+impl Family {
+    /// A critical buffer belongs to the getting thread, any other to no thread.
+    pub const fn is_critical(self) -> bool {
+        self.0 >= 10
+    }
+}
+
+#[derive(Clone, Copy, Debug, PartialEq, Eq)]
+pub enum PlaceKind {
+    Unused,
+    Handle,
+    HandleOrNull,
+    Local,
+    Global,
+    Weak,
+    Identity,
+    Buffer(Family),
+}
+
+#[derive(Clone, Copy, Debug, PartialEq, Eq)]
+pub enum ResultKind {
+    Nothing,
+    Local,
+    Global,
+    Weak,
+    Identity,
+    Buffer(Family),
+    Status,
+}
+
+#[derive(Clone, Copy, Debug, PartialEq, Eq)]
+pub struct Facts {
+    pub places: [PlaceKind; 3],
+    pub result: ResultKind,
+    pub uses_capacity: bool,
+    pub allowed_pending: bool,
+    pub allowed_critical: bool,
+}
+
+/// The facts of a function, if there is one of that number.
+pub fn facts(function: u32) -> Option<&'static Facts> {
+    TABLE.get(function.checked_sub(FIRST_FUNCTION)? as usize)
+}
+
+/// The facts of a function known to be one.
+pub fn known(function: u32) -> &'static Facts {
+    facts(function).expect("a function from 4 to 232")
+}
+
+static TABLE: [Facts; FUNCTIONS] = {
+    let mut table = [facts_of(FIRST_FUNCTION); FUNCTIONS];
+    let mut function = FIRST_FUNCTION;
+    while function <= LAST_FUNCTION {
+        table[(function - FIRST_FUNCTION) as usize] = facts_of(function);
+        function += 1;
+    }
+    table
+};
+
+const fn facts_of(function: u32) -> Facts {
+    let (places, result) = match function {
+        4 | 16..=18 | 219 | 228 | 232 => (b"---", b'-'),
+        6 | 15 | 163 | 167 | 175..=182 | 229 => (b"---", b'L'),
+        5 | 20 | 25 => (b"o--", b'L'),
+        21 => (b"o--", b'G'),
+        226 => (b"o--", b'W'),
+        22 => (b"g--", b'-'),
+        23 => (b"l--", b'-'),
+        227 => (b"w--", b'-'),
+        19 | 26 => (b"---", b'S'),
+        7 | 8 | 33 | 94 | 113 | 144 => (b"r--", b'I'),
+        10 | 27 | 31 | 173 => (b"r--", b'L'),
+        13 | 14 | 164 | 168 | 171 | 199..=216 | 220 | 221 | 230 | 231 => (b"r--", b'-'),
+        217 | 218 => (b"r--", b'S'),
+        11 => (b"rr-", b'-'),
+        24 => (b"oo-", b'-'),
+        32 => (b"or-", b'-'),
+        9 | 12 | 28..=30 | 34..=36 | 95 | 114..=116 | 145 => (b"ri-", b'L'),
+        37..=63 | 96..=103 | 105..=112 | 117..=143 | 146..=153 | 155..=162 => (b"ri-", b'-'),
+        64..=66 => (b"rri", b'L'),
+        67..=93 => (b"rri", b'-'),
+        104 | 154 => (b"rio", b'-'),
+        172 => (b"ro-", b'L'),
+        174 => (b"ro-", b'-'),
+        165 | 169 | 183..=190 | 222 | 224 => (b"r--", b'B'),
+        166 | 170 | 191..=198 | 223 | 225 => (b"rb-", b'-'),
+        _ => panic!("no such function"),
+    };
+    Facts {
+        places: [
+            place_kind(places[0], function),
+            place_kind(places[1], function),
+            place_kind(places[2], function),
+        ],
+        result: result_kind(result, function),
+        uses_capacity: matches!(function, PUSH_LOCAL_FRAME | ENSURE_LOCAL_CAPACITY),
+        allowed_pending: matches!(
+            function,
+            15..=17 | 19 | 20 | 22 | 23 | 166 | 170 | 191..=198 | 218 | 223 | 225 | 227 | 228
+        ),
+        allowed_critical: matches!(function, 222..=225),
+    }
+}
+
+const fn place_kind(letter: u8, function: u32) -> PlaceKind {
+    match letter {
+        b'-' => PlaceKind::Unused,
+        b'r' => PlaceKind::Handle,
+        b'o' => PlaceKind::HandleOrNull,
+        b'l' => PlaceKind::Local,
+        b'g' => PlaceKind::Global,
+        b'w' => PlaceKind::Weak,
+        b'i' => PlaceKind::Identity,
+        b'b' => PlaceKind::Buffer(family(function)),
+        _ => panic!("no such place kind"),
+    }
+}
+
+const fn result_kind(letter: u8, function: u32) -> ResultKind {
+    match letter {
+        b'-' => ResultKind::Nothing,
+        b'L' => ResultKind::Local,
+        b'G' => ResultKind::Global,
+        b'W' => ResultKind::Weak,
+        b'I' => ResultKind::Identity,
+        b'B' => ResultKind::Buffer(family(function)),
+        b'S' => ResultKind::Status,
+        _ => panic!("no such result kind"),
+    }
+}
+
+const fn family(function: u32) -> Family {
+    match function {
+        165 | 166 => Family(0),
+        169 | 170 => Family(1),
+        183..=190 => Family((function - 183) as u8 + 2),
+        191..=198 => Family((function - 191) as u8 + 2),
+        222 | 223 => Family(10),
+        224 | 225 => Family(11),
+        _ => panic!("a function without buffers"),
+    }
+}

@@ -1,0 +1,19 @@
+//! An independent judge of JNI traces in plain Rust, and the trace makers and tools that compare another judge with it.
+//!
+//! The programs: `plain` judges standard input, `traces` prints made traces, `compare` sets another judge program
+//! beside the plain one, `measure` times the reader and the judge.
+
+pub mod big;
+pub mod coverage;
+pub mod damage;
+pub mod edge;
+pub mod facts;
+pub mod findings;
+pub mod judge;
+pub mod line;
+pub mod make;
+pub mod random;
+pub mod report;
+pub mod rows;
+pub mod shrink;
+pub mod thread;

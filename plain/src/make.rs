@@ -1,0 +1,692 @@
+//! The maker of traces: from a seed and a profile, lines that a judge mostly accepts and often condemns.
+
+use crate::damage::{damage_bytes, damage_fields, disorder, odd_line};
+use crate::edge::edge_line;
+use crate::facts::*;
+use crate::judge::Judge;
+use crate::line::{self, Event, MOST_BYTES, MOST_HANDLES, THREADS};
+use crate::random::Random;
+use crate::thread::Item;
+
+/// What sort of traces are made; chances are in percent.
+#[derive(Clone, Copy, Debug)]
+pub struct Profile {
+    pub name: &'static str,
+    /// The fewest and most lines of a usual trace.
+    pub usual_lines: (u32, u32),
+    /// The fewest and most threads that take part.
+    threads: (u32, u32),
+    /// How many numbers there are of each kind of handle, of identities and of buffers.
+    numbers: usize,
+    /// A number is taken from the ends of its range.
+    at_ends: u32,
+    /// A place, an env or a result is spoilt.
+    spoilt: u32,
+    /// A native is entered in an open call.
+    nested: u32,
+    /// A native returns rather than calls.
+    left: u32,
+    /// An N names all the handles it may.
+    crowded: u32,
+    /// An exception is pending after an R.
+    pending: u32,
+    /// A call is of a favoured function.
+    favoured: u32,
+    functions: &'static [u32],
+    /// The refusals by which a trace may end.
+    refusals: &'static [u8],
+    harm: Harm,
+}
+
+/// What is done to the lines of a made trace.
+#[derive(Clone, Copy, Debug, PartialEq, Eq)]
+enum Harm {
+    None,
+    Bytes,
+    Fields,
+    Order,
+    Edge,
+}
+
+const MIXED: Profile = Profile {
+    name: "mixed",
+    usual_lines: (20, 400),
+    threads: (1, 6),
+    numbers: 30,
+    at_ends: 5,
+    spoilt: 8,
+    nested: 15,
+    left: 8,
+    crowded: 5,
+    pending: 6,
+    favoured: 40,
+    functions: &[
+        6, 19, 20, 21, 22, 23, 24, 25, 26, 31, 32, 64, 67, 104, 154, 165, 166, 217, 218, 222, 223,
+        226, 227,
+    ],
+    refusals: &[4, 5, 6],
+    harm: Harm::None,
+};
+
+pub const PROFILES: [Profile; 18] = [
+    MIXED,
+    Profile {
+        name: "breaches",
+        numbers: 10,
+        spoilt: 45,
+        pending: 20,
+        ..MIXED
+    },
+    Profile {
+        name: "functions",
+        favoured: 0,
+        ..MIXED
+    },
+    Profile {
+        name: "ends",
+        threads: (1, THREADS),
+        numbers: 3,
+        at_ends: 60,
+        left: 35,
+        refusals: &[4, 5, 5, 6],
+        ..MIXED
+    },
+    Profile {
+        name: "nest",
+        usual_lines: (100, 600),
+        threads: (1, 2),
+        nested: 85,
+        left: 3,
+        spoilt: 4,
+        refusals: &[4, 6, 7, 7, 7],
+        ..MIXED
+    },
+    Profile {
+        name: "frames",
+        usual_lines: (200, 900),
+        threads: (1, 2),
+        numbers: 80,
+        nested: 10,
+        left: 1,
+        spoilt: 3,
+        pending: 2,
+        favoured: 95,
+        functions: &[6, 19, 19, 19, 19, 19, 19, 19, 19, 19, 19, 20, 25, 26],
+        refusals: &[6, 7, 7, 7],
+        ..MIXED
+    },
+    Profile {
+        name: "overflow",
+        threads: (1, 2),
+        numbers: 40,
+        nested: 5,
+        left: 2,
+        spoilt: 3,
+        pending: 2,
+        favoured: 95,
+        functions: &[5, 6, 15, 19, 20, 23, 23, 23, 25, 26, 26, 31, 64, 95, 172],
+        ..MIXED
+    },
+    Profile {
+        name: "references",
+        numbers: 12,
+        favoured: 90,
+        functions: &[20, 21, 21, 22, 22, 23, 23, 24, 25, 25, 226, 226, 227, 227],
+        ..MIXED
+    },
+    Profile {
+        name: "buffers",
+        threads: (1, 3),
+        numbers: 4,
+        favoured: 90,
+        functions: &[
+            165, 166, 169, 170, 183, 184, 185, 186, 187, 188, 189, 190, 191, 192, 193, 194, 195,
+            196, 197, 198,
+        ],
+        ..MIXED
+    },
+    Profile {
+        name: "critical",
+        threads: (1, 3),
+        numbers: 3,
+        favoured: 70,
+        functions: &[222, 223, 223, 224, 225, 225],
+        ..MIXED
+    },
+    Profile {
+        name: "monitors",
+        threads: (1, 3),
+        favoured: 80,
+        functions: &[217, 217, 218, 218],
+        ..MIXED
+    },
+    Profile {
+        name: "rows",
+        usual_lines: (1_000, 2_000),
+        threads: (12, THREADS),
+        numbers: 3_000,
+        spoilt: 2,
+        nested: 80,
+        left: 1,
+        crowded: 90,
+        pending: 1,
+        favoured: 90,
+        functions: &[6, 21, 25, 25, 226, 23, 31],
+        refusals: &[5, 6, 7, 7, 7, 7],
+        ..MIXED
+    },
+    Profile {
+        name: "pins",
+        usual_lines: (800, 1_400),
+        threads: (1, 4),
+        spoilt: 2,
+        nested: 2,
+        left: 1,
+        pending: 1,
+        favoured: 96,
+        functions: &[
+            165, 165, 169, 183, 184, 185, 186, 187, 188, 189, 190, 165, 183, 190, 191, 222,
+        ],
+        refusals: &[7],
+        ..MIXED
+    },
+    Profile {
+        name: "bytes",
+        usual_lines: (1, 80),
+        left: 20,
+        harm: Harm::Bytes,
+        ..MIXED
+    },
+    Profile {
+        name: "fields",
+        usual_lines: (1, 80),
+        left: 20,
+        harm: Harm::Fields,
+        ..MIXED
+    },
+    Profile {
+        name: "order",
+        usual_lines: (5, 200),
+        harm: Harm::Order,
+        ..MIXED
+    },
+    Profile {
+        name: "edges",
+        usual_lines: (0, 2),
+        harm: Harm::Edge,
+        ..MIXED
+    },
+    Profile {
+        name: "small",
+        usual_lines: (5, 25),
+        threads: (1, 2),
+        numbers: 3,
+        at_ends: 10,
+        spoilt: 15,
+        left: 15,
+        pending: 10,
+        favoured: 90,
+        refusals: &[4, 5, 6, 7],
+        ..MIXED
+    },
+];
+
+pub fn profile(name: &str) -> Option<&'static Profile> {
+    PROFILES.iter().find(|profile| profile.name == name)
+}
+
+/// Makes a trace of about that many lines, for a judge with those rows.
+pub fn make(
+    profile: &Profile,
+    seed: u64,
+    lines: usize,
+    reference_rows: usize,
+    pin_rows: usize,
+) -> Vec<u8> {
+    let mut random = Random::new(seed);
+    let mut threads: Vec<u32> = (1..=THREADS).collect();
+    for index in 0..threads.len() {
+        let other = random.below(threads.len());
+        threads.swap(index, other);
+    }
+    let (fewest, most) = profile.threads;
+    threads.truncate(random.between(fewest, most) as usize);
+    let mut maker = Maker {
+        profile,
+        random,
+        judge: Judge::new(reference_rows, pin_rows),
+        threads,
+        lines: Vec::new(),
+    };
+    if profile.harm == Harm::None {
+        maker.trace(lines);
+    } else {
+        maker.accepted(lines);
+    }
+    match profile.harm {
+        Harm::None => {}
+        Harm::Bytes => damage_bytes(&mut maker.lines, &mut maker.random),
+        Harm::Fields => damage_fields(&mut maker.lines, &mut maker.random),
+        Harm::Order => disorder(&mut maker.lines, &mut maker.random),
+        Harm::Edge => {
+            if maker.random.percent(20) {
+                maker.lines.push(b"Z\n".to_vec());
+            }
+            let line = edge_line(&mut maker.random);
+            maker.lines.push(line);
+        }
+    }
+    maker.lines.concat()
+}
+
+struct Maker<'a> {
+    profile: &'a Profile,
+    random: Random,
+    /// The model: the judge of the lines made so far.
+    judge: Judge,
+    threads: Vec<u32>,
+    lines: Vec<Vec<u8>>,
+}
+
+impl Maker<'_> {
+    /// Makes a trace that ends open, closed or refused, and sometimes goes on after that.
+    fn trace(&mut self, lines: usize) {
+        match self.random.below(100) {
+            0..45 => {
+                let refusal = self.random.pick(self.profile.refusals);
+                self.accepted(lines * 3 / 4);
+                self.refused(refusal, lines.div_ceil(4));
+            }
+            45..85 => {
+                self.accepted(lines.saturating_sub(1));
+                self.lines.push(b"Z\n".to_vec());
+            }
+            _ => self.accepted(lines),
+        }
+        if self.random.percent(40) {
+            for _ in 0..self.random.between(1, 3) {
+                let line = self.doubtful_line();
+                self.lines.push(line);
+            }
+        }
+    }
+
+    /// A line to go on with after the end: an event, one at an edge, or an odd line.
+    fn doubtful_line(&mut self) -> Vec<u8> {
+        match self.random.below(3) {
+            0 => encode(&self.event(50)),
+            1 => edge_line(&mut self.random),
+            _ => odd_line(&mut self.random),
+        }
+    }
+
+    /// Adds accepted lines until there are so many, refused ones being left out.
+    fn accepted(&mut self, lines: usize) {
+        for _ in 0..lines * 8 + 100 {
+            if self.lines.len() >= lines {
+                return;
+            }
+            let line = encode(&self.event(2));
+            if self.judge.step(&line).is_ok() {
+                self.lines.push(line);
+            }
+        }
+    }
+
+    /// Adds accepted lines and then one refused with this number, if it comes up within so many lines.
+    fn refused(&mut self, refusal: u8, lines: usize) {
+        let most = self.lines.len() + lines;
+        for _ in 0..lines * 8 {
+            if self.lines.len() >= most {
+                return;
+            }
+            let line = encode(&self.event(30));
+            match self.judge.step(&line) {
+                Ok(_) => self.lines.push(line),
+                Err(number) if number == refusal => {
+                    self.lines.push(line);
+                    return;
+                }
+                Err(_) => {}
+            }
+        }
+    }
+
+    /// An event of some thread, with that chance one that goes astray.
+    fn event(&mut self, astray: u32) -> Event {
+        let thread = self.random.pick(&self.threads);
+        if self.random.percent(astray) {
+            return self.astray(thread);
+        }
+        match self.judge.thread(thread).items.last().copied() {
+            None => self.enter(thread),
+            Some(Item::Native { .. }) if self.random.percent(self.profile.left) => {
+                self.leave(thread)
+            }
+            Some(Item::Native { .. }) => self.call(thread),
+            Some(Item::Call { .. }) if self.random.percent(self.profile.nested) => {
+                self.enter(thread)
+            }
+            Some(Item::Call { function, .. }) => self.answer(thread, function),
+        }
+    }
+
+    /// An event that the step order, the env rule or the alive handles likely forbid.
+    fn astray(&mut self, thread: u32) -> Event {
+        match self.random.below(8) {
+            0 => self.enter(thread),
+            1 => self.leave(thread),
+            2 => self.call(thread),
+            3 => {
+                let function = self.function(thread);
+                self.answer(thread, function)
+            }
+            4 => self.enter_with_doubtful_env(thread),
+            5 => self.enter_with_doubtful_handles(thread),
+            _ => self.answer_with_alive_handle(thread),
+        }
+    }
+
+    fn enter_with_doubtful_env(&mut self, thread: u32) -> Event {
+        let (thread, env) = if self.random.percent(50) {
+            (thread, self.other_env())
+        } else {
+            let is_idle = |&thread: &u32| self.judge.thread(thread).items.is_empty();
+            let idle = self.threads.iter().copied().find(is_idle);
+            let sharer = self.random.between(1, THREADS);
+            (sharer, env_of(idle.unwrap_or(thread)))
+        };
+        Event::N {
+            thread,
+            env,
+            count: 0,
+            handles: [0; MOST_HANDLES],
+        }
+    }
+
+    fn enter_with_doubtful_handles(&mut self, thread: u32) -> Event {
+        let mut event = self.enter(thread);
+        let alive = self.alive(thread, LOCAL);
+        if let Event::N { count, handles, .. } = &mut event {
+            *count = (*count).max(2);
+            let at = self.random.below(*count);
+            for (index, handle) in handles[..*count].iter_mut().enumerate() {
+                if *handle == 0 {
+                    *handle = 4 * index as u32 + LOCAL;
+                }
+            }
+            handles[at] = match alive {
+                Some(handle) if self.random.percent(50) => handle,
+                _ => handles[(at + 1) % *count],
+            };
+        }
+        event
+    }
+
+    fn answer_with_alive_handle(&mut self, thread: u32) -> Event {
+        let Some(&Item::Call { function, .. }) = self.judge.thread(thread).items.last() else {
+            return self.leave(thread);
+        };
+        let alive = match known(function).result {
+            ResultKind::Local => self.alive(thread, LOCAL),
+            ResultKind::Global => self.alive(thread, GLOBAL),
+            ResultKind::Weak => self.alive(thread, WEAK),
+            _ => None,
+        };
+        let mut event = self.answer(thread, function);
+        if let (Event::R { result, .. }, Some(alive)) = (&mut event, alive) {
+            *result = alive.into();
+        }
+        event
+    }
+
+    fn enter(&mut self, thread: u32) -> Event {
+        let count = if self.random.percent(self.profile.crowded) {
+            MOST_HANDLES
+        } else {
+            self.random.below(4)
+        };
+        let mut handles = [0; MOST_HANDLES];
+        let mut named = 0;
+        for _ in 0..count {
+            let handle = self.fresh(thread, LOCAL);
+            let doubtful =
+                handles.contains(&handle) || self.judge.references().is_alive(thread, handle);
+            if !doubtful {
+                handles[named] = handle;
+                named += 1;
+            }
+        }
+        Event::N {
+            thread,
+            env: env_of(thread),
+            count: named,
+            handles,
+        }
+    }
+
+    fn leave(&mut self, thread: u32) -> Event {
+        Event::X {
+            thread,
+            result: self.place(thread, PlaceKind::HandleOrNull),
+        }
+    }
+
+    fn call(&mut self, thread: u32) -> Event {
+        let function = self.function(thread);
+        let facts = known(function);
+        let env = if self.random.percent(self.profile.spoilt / 3) {
+            self.other_env()
+        } else {
+            env_of(thread)
+        };
+        let places = facts.places.map(|kind| self.place(thread, kind));
+        let capacity = if facts.uses_capacity {
+            self.capacity()
+        } else {
+            0
+        };
+        Event::C {
+            thread,
+            env,
+            function,
+            places,
+            capacity,
+        }
+    }
+
+    fn answer(&mut self, thread: u32, function: u32) -> Event {
+        let null = self.random.percent(12);
+        let result = match known(function).result {
+            ResultKind::Status => self.status().into(),
+            ResultKind::Nothing => 0,
+            _ if null => 0,
+            ResultKind::Local => self.fresh(thread, LOCAL).into(),
+            ResultKind::Global => self.fresh(thread, GLOBAL).into(),
+            ResultKind::Weak => self.fresh(thread, WEAK).into(),
+            ResultKind::Identity => self.number(0).into(),
+            ResultKind::Buffer(_) => self.buffer().into(),
+        };
+        Event::R {
+            thread,
+            function,
+            result,
+            pending: self.random.percent(self.profile.pending).into(),
+        }
+    }
+
+    fn function(&mut self, thread: u32) -> u32 {
+        let wished: Option<fn(&Facts) -> bool> =
+            if self.judge.pins().has_critical(thread) && self.random.percent(50) {
+                Some(|facts| facts.allowed_critical)
+            } else if self.judge.thread(thread).pending && self.random.percent(50) {
+                Some(|facts| facts.allowed_pending)
+            } else {
+                None
+            };
+        if let Some(wished) = wished {
+            loop {
+                let function = self.random.between(FIRST_FUNCTION, LAST_FUNCTION);
+                if wished(known(function)) {
+                    return function;
+                }
+            }
+        }
+        if self.random.percent(self.profile.favoured) {
+            self.random.pick(self.profile.functions)
+        } else if self.random.percent(self.profile.at_ends) {
+            self.random.pick(&[FIRST_FUNCTION, LAST_FUNCTION])
+        } else {
+            self.random.between(FIRST_FUNCTION, LAST_FUNCTION)
+        }
+    }
+
+    /// A value for a place, a good one where there is one and it is not spoilt.
+    fn place(&mut self, thread: u32, kind: PlaceKind) -> u32 {
+        if kind != PlaceKind::Unused && self.random.percent(self.profile.spoilt) {
+            return self.spoilt_value(thread);
+        }
+        let good = match kind {
+            PlaceKind::Unused => Some(0),
+            PlaceKind::Handle => self.alive_of_any_kind(thread),
+            PlaceKind::HandleOrNull if self.random.percent(60) => self.alive_of_any_kind(thread),
+            PlaceKind::HandleOrNull => Some(0),
+            PlaceKind::Local => self.alive(thread, LOCAL).or(Some(0)),
+            PlaceKind::Global => self.alive(thread, GLOBAL).or(Some(0)),
+            PlaceKind::Weak => self.alive(thread, WEAK).or(Some(0)),
+            PlaceKind::Identity => Some(self.number(0)),
+            PlaceKind::Buffer(family) => self.outstanding(thread, family),
+        };
+        good.unwrap_or_else(|| self.spoilt_value(thread))
+    }
+
+    fn spoilt_value(&mut self, thread: u32) -> u32 {
+        match self.random.below(9) {
+            0 | 1 => 0,
+            2 => self.number(0),
+            3 => self.number(LOCAL),
+            4 => self.number(GLOBAL),
+            5 => self.number(WEAK),
+            6 => self.others_local(thread).unwrap_or(0),
+            7 => self.alive_of_any_kind(thread).unwrap_or(0),
+            _ => self.buffer(),
+        }
+    }
+
+    fn alive_of_any_kind(&mut self, thread: u32) -> Option<u32> {
+        let kind = self.random.pick(&[LOCAL, LOCAL, LOCAL, GLOBAL, WEAK]);
+        self.alive(thread, kind)
+            .or_else(|| self.alive(thread, LOCAL))
+            .or_else(|| self.alive(thread, GLOBAL))
+            .or_else(|| self.alive(thread, WEAK))
+    }
+
+    fn alive(&mut self, thread: u32, kind: u32) -> Option<u32> {
+        let owner = if kind == LOCAL { thread } else { 0 };
+        let row = find_from_anywhere(
+            &mut self.random,
+            self.judge.references().rows(),
+            |&[thread, handle, _]| thread == owner && handle % 4 == kind,
+        );
+        row.map(|[_, handle, _]| handle)
+    }
+
+    fn others_local(&mut self, own: u32) -> Option<u32> {
+        let row = find_from_anywhere(
+            &mut self.random,
+            self.judge.references().rows(),
+            |&[thread, _, _]| thread != 0 && thread != own,
+        );
+        row.map(|[_, handle, _]| handle)
+    }
+
+    fn outstanding(&mut self, own: u32, wished: Family) -> Option<u32> {
+        let owner = if wished.is_critical() { own } else { 0 };
+        let row = find_from_anywhere(
+            &mut self.random,
+            self.judge.pins().rows(),
+            |&[thread, family, buffer]| {
+                thread == owner && family == u32::from(wished.0) && buffer != 0
+            },
+        );
+        row.map(|[_, _, buffer]| buffer)
+    }
+
+    /// A handle of this kind, not alive if some tries give one.
+    fn fresh(&mut self, thread: u32, kind: u32) -> u32 {
+        let mut handle = self.number(kind);
+        for _ in 0..6 {
+            if !self.judge.references().is_alive(thread, handle) {
+                break;
+            }
+            handle = self.number(kind);
+        }
+        handle
+    }
+
+    /// A nonzero number with this remainder by 4.
+    fn number(&mut self, remainder: u32) -> u32 {
+        let low = if remainder == 0 { 4 } else { remainder };
+        if self.random.percent(self.profile.at_ends) {
+            return self.random.pick(&[low, u32::MAX - 3 + remainder]);
+        }
+        low + 4 * self.random.below(self.profile.numbers) as u32
+    }
+
+    fn buffer(&mut self) -> u32 {
+        if self.random.percent(self.profile.at_ends) {
+            return self.random.pick(&[1, u32::MAX]);
+        }
+        1 + self.random.below(self.profile.numbers) as u32
+    }
+
+    fn capacity(&mut self) -> i32 {
+        if self.random.percent(self.profile.at_ends) {
+            return self.random.pick(&[i32::MIN, i32::MAX]);
+        }
+        self.random
+            .pick(&[-5, -1, -1, 0, 0, 0, 1, 1, 2, 3, 5, 16, 17, 40])
+    }
+
+    fn status(&mut self) -> i32 {
+        if self.random.percent(self.profile.at_ends) {
+            return self.random.pick(&[i32::MIN, i32::MAX]);
+        }
+        self.random.pick(&[0, 0, 0, 0, 0, 0, 0, -1, 1, -4])
+    }
+
+    fn other_env(&mut self) -> u32 {
+        match self.random.below(3) {
+            0 => self.random.pick(&[1, u32::MAX]),
+            1 => env_of(self.random.between(1, THREADS)),
+            _ => self.random.between(2, 2_000),
+        }
+    }
+}
+
+/// The envs the maker gives the threads, both ends of the range among them.
+fn env_of(thread: u32) -> u32 {
+    match thread {
+        1 => 1,
+        THREADS => u32::MAX,
+        _ => 100 * thread,
+    }
+}
+
+fn encode(event: &Event) -> Vec<u8> {
+    let mut line = [0; MOST_BYTES + 1];
+    let length = line::write(event, &mut line).expect("an event in range");
+    line[..length].to_vec()
+}
+
+fn find_from_anywhere(
+    random: &mut Random,
+    rows: &[[u32; 3]],
+    matching: impl Fn(&[u32; 3]) -> bool,
+) -> Option<[u32; 3]> {
+    if rows.is_empty() {
+        return None;
+    }
+    let (before, after) = rows.split_at(random.below(rows.len()));
+    after.iter().chain(before).copied().find(matching)
+}

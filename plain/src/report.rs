@@ -1,0 +1,103 @@
+//! The judgement of a whole input and the report it prints.
+
+use crate::judge::Judge;
+use crate::line::MOST_BYTES;
+use std::io::{self, BufWriter, ErrorKind, Read, Write};
+
+/// The reference rows and pin rows the program lends.
+pub const REFERENCE_ROWS: usize = 2_048;
+pub const PIN_ROWS: usize = 256;
+
+const BUFFER_BYTES: usize = 1 << 16;
+
+/// The report on an input held in memory.
+pub fn report(mut input: &[u8], reference_rows: usize, pin_rows: usize) -> Vec<u8> {
+    let mut output = Vec::new();
+    judge_input(&mut input, &mut output, reference_rows, pin_rows)
+        .expect("memory neither fails to read nor to write");
+    output
+}
+
+/// Judges an input as it comes and writes its report.
+///
+/// A line is cut off after each LF; a rest without one is a line too. The first refusal ends the judgement.
+pub fn judge_input(
+    input: &mut impl Read,
+    output: &mut impl Write,
+    reference_rows: usize,
+    pin_rows: usize,
+) -> io::Result<()> {
+    let mut run = Run {
+        judge: Judge::new(reference_rows, pin_rows),
+        refusal: 0,
+        printed: 0,
+        output: BufWriter::with_capacity(BUFFER_BYTES, output),
+    };
+    let mut buffer = vec![0; BUFFER_BYTES];
+    let mut filled = 0;
+    loop {
+        let read = match input.read(&mut buffer[filled..]) {
+            Err(error) if error.kind() == ErrorKind::Interrupted => continue,
+            read => read?,
+        };
+        filled += read;
+        let mut rest = &buffer[..filled];
+        while let Some(lf) = rest.iter().position(|&byte| byte == b'\n') {
+            let (line, after) = rest.split_at(lf + 1);
+            run.line(line)?;
+            if run.refusal != 0 {
+                return run.end();
+            }
+            rest = after;
+        }
+        let at_end = read == 0;
+        if at_end && !rest.is_empty() || rest.len() > MOST_BYTES {
+            run.line(rest)?;
+        }
+        if at_end || run.refusal != 0 {
+            return run.end();
+        }
+        let start = filled - rest.len();
+        buffer.copy_within(start..filled, 0);
+        filled -= start;
+    }
+}
+
+struct Run<W: Write> {
+    judge: Judge,
+    refusal: u8,
+    printed: u64,
+    output: BufWriter<W>,
+}
+
+impl<W: Write> Run<W> {
+    fn line(&mut self, line: &[u8]) -> io::Result<()> {
+        match self.judge.step(line) {
+            Ok(findings) => {
+                for found in findings.iter() {
+                    writeln!(
+                        self.output,
+                        "{}\t{}\t{}\t{}",
+                        found.line, found.rule, found.place, found.thing
+                    )?;
+                }
+                self.printed += findings.len() as u64;
+            }
+            Err(refusal) => self.refusal = refusal,
+        }
+        Ok(())
+    }
+
+    fn end(mut self) -> io::Result<()> {
+        let state = if self.refusal != 0 {
+            "refused"
+        } else if self.judge.is_closed() {
+            "closed"
+        } else {
+            "open"
+        };
+        let (lines, refusal, printed) = (self.judge.lines(), self.refusal, self.printed);
+        writeln!(self.output, "end\t{state}\t{lines}\t{refusal}\t{printed}")?;
+        self.output.flush()
+    }
+}

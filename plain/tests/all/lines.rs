@@ -1,0 +1,566 @@
+//! The reader and the writer of lines.
+
+use crate::common::{findings, line, refusal};
+use plain::facts::{facts, PlaceKind, ResultKind, FIRST_FUNCTION, LAST_FUNCTION};
+use plain::line::{read, write, Event};
+use plain::make::{make, PROFILES};
+use plain::random::Random;
+use plain::report::{PIN_ROWS, REFERENCE_ROWS};
+
+/// What the reader says of a line given with spaces for tabs.
+fn said(text: &str) -> u8 {
+    read(&line(text)).err().unwrap_or(0)
+}
+
+/// A line of this many bytes before its LF: an N with a handle of very many digits.
+fn long(bytes: usize) -> Vec<u8> {
+    let mut line = b"N\t1\t1\t".to_vec();
+    line.resize(bytes, b'1');
+    line.push(b'\n');
+    line
+}
+
+#[test]
+fn every_event_is_read() {
+    assert_eq!(
+        read(b"N\t1\t100\t5\t9\n"),
+        Ok(Event::N {
+            thread: 1,
+            env: 100,
+            count: 2,
+            handles: [5, 9, 0, 0, 0, 0, 0, 0],
+        })
+    );
+    assert_eq!(
+        read(b"X\t2\t7\n"),
+        Ok(Event::X {
+            thread: 2,
+            result: 7
+        })
+    );
+    assert_eq!(
+        read(b"C\t3\t300\t19\t0\t0\t0\t-5\n"),
+        Ok(Event::C {
+            thread: 3,
+            env: 300,
+            function: 19,
+            places: [0; 3],
+            capacity: -5,
+        })
+    );
+    assert_eq!(
+        read(b"C\t3\t300\t104\t5\t8\t9\t0\n"),
+        Ok(Event::C {
+            thread: 3,
+            env: 300,
+            function: 104,
+            places: [5, 8, 9],
+            capacity: 0,
+        })
+    );
+    assert_eq!(
+        read(b"R\t4\t217\t-1\t1\n"),
+        Ok(Event::R {
+            thread: 4,
+            function: 217,
+            result: -1,
+            pending: 1,
+        })
+    );
+    assert_eq!(read(b"Z\n"), Ok(Event::Z));
+}
+
+#[test]
+fn a_line_has_at_most_128_bytes_before_its_lf() {
+    assert_eq!(read(&long(128)), Err(3));
+    assert_eq!(read(&long(129)), Err(1));
+}
+
+#[test]
+fn a_long_line_that_is_also_malformed_is_1() {
+    let malformed = [&[b'x'; 129][..], b"\n"].concat();
+    assert_eq!(read(&malformed), Err(1));
+    assert_eq!(read(&malformed[1..]), Err(2));
+}
+
+#[test]
+fn a_line_without_lf_is_1_even_if_perfect() {
+    assert_eq!(read(b""), Err(1));
+    assert_eq!(read(b"Z"), Err(1));
+    assert_eq!(read(b"N\t1\t100"), Err(1));
+    assert_eq!(read(b"garbage"), Err(1));
+}
+
+#[test]
+fn empty_lines_carriage_returns_doubled_and_trailing_tabs_and_spaces_are_2() {
+    for malformed in [
+        &b"\n"[..],
+        b"\t\n",
+        b"Z\r\n",
+        b"Z\t\n",
+        b"Z \n",
+        b" Z\n",
+        b"N\t1\t\t100\n",
+        b"N\t1\t100\t\n",
+        b"N\t1\t100\r\n",
+        b"N 1 100\n",
+        b"N\t1\t 100\n",
+        b"X\t1\t0\0\n",
+        b"X\t1\t\x80\n",
+        b"\tN\t1\t100\n",
+    ] {
+        assert_eq!(read(malformed), Err(2), "{malformed:?}");
+    }
+}
+
+#[test]
+fn field_counts_are_exact() {
+    for wrong in [
+        "N",
+        "N 1",
+        "N 1 100 1 5 9 13 17 21 25 29 33",
+        "X",
+        "X 1",
+        "X 1 0 0",
+        "C 1 100 4 0 0 0",
+        "C 1 100 4 0 0 0 0 0",
+        "R 1 4 0",
+        "R 1 4 0 0 0",
+        "Z 0",
+    ] {
+        assert_eq!(said(wrong), 2, "{wrong}");
+    }
+    assert_eq!(said("N 1 100"), 0);
+    assert_eq!(said("N 1 100 1 5 9 13 17 21 25 29"), 0);
+}
+
+#[test]
+fn the_form_of_every_field_comes_before_any_range() {
+    assert_eq!(said("N 17 01"), 2);
+    assert_eq!(said("N 17 1"), 3);
+    assert_eq!(said("R 1 4 5 -0"), 2);
+    assert_eq!(said("C 0 0 0 0 0 0 x"), 2);
+    assert_eq!(said("Z 17"), 2);
+}
+
+#[test]
+fn thirty_digits_are_a_number_out_of_range_and_nothing_wraps() {
+    for great in [
+        "100000000000000000000000000000",
+        "4294967296",
+        "4294967297",
+        "18446744073709551616",
+        "18446744073709551617",
+        "340282366920938463463374607431768211457",
+        "-100000000000000000000000000000",
+        "-4294967295",
+        "-18446744073709551615",
+    ] {
+        assert_eq!(said(&format!("X 1 {great}")), 3, "{great}");
+        assert_eq!(said(&format!("X {great} 0")), 3, "{great}");
+        assert_eq!(said(&format!("R 1 217 {great} 0")), 3, "{great}");
+        assert_eq!(said(&format!("C 1 1 19 0 0 0 {great}")), 3, "{great}");
+    }
+}
+
+#[test]
+fn forms_of_numbers() {
+    for number in ["-1", "-9", "-10", "-4294967296"] {
+        assert_eq!(said(&format!("X 1 {number}")), 3, "{number}");
+    }
+    for other in [
+        "-0", "-01", "-00", "-", "--1", "+1", "+0", "00", "01", "1-", "1.0", "0x1", "a", "",
+    ] {
+        assert_eq!(said(&format!("X 1 {other}")), 2, "{other}");
+    }
+    assert_eq!(said("X 1 0"), 0);
+}
+
+#[test]
+fn minus_one_is_a_number_in_every_field() {
+    for line in [
+        "N -1 100",
+        "N 1 -1",
+        "N 1 100 -1",
+        "X -1 0",
+        "X 1 -1",
+        "C -1 100 4 0 0 0 0",
+        "C 1 -1 4 0 0 0 0",
+        "C 1 100 -1 0 0 0 0",
+        "C 1 100 64 -1 5 8 0",
+        "C 1 100 64 5 -1 8 0",
+        "C 1 100 64 5 5 -1 0",
+        "C 1 100 4 0 0 0 -1",
+        "R -1 4 0 0",
+        "R 1 -1 0 0",
+        "R 1 4 -1 0",
+        "R 1 6 -1 0",
+        "R 1 165 -1 0",
+        "R 1 4 0 -1",
+    ] {
+        assert_eq!(said(line), 3, "{line}");
+    }
+    assert_eq!(said("C 1 100 19 0 0 0 -1"), 0);
+    assert_eq!(said("R 1 19 -1 0"), 0);
+}
+
+#[test]
+fn nine_handles_are_2_to_the_reader_and_3_to_the_writer() {
+    assert_eq!(said("N 1 100 1 5 9 13 17 21 25 29 33"), 2);
+    let event = Event::N {
+        thread: 1,
+        env: 100,
+        count: 9,
+        handles: [1, 5, 9, 13, 17, 21, 25, 29],
+    };
+    assert_eq!(write(&event, &mut [0; 200]), Err(3));
+}
+
+#[test]
+fn an_lf_inside_a_lent_line_is_2_unless_1_comes_first() {
+    assert_eq!(read(b"Z\n\n"), Err(2));
+    assert_eq!(read(b"\nZ\n"), Err(2));
+    assert_eq!(read(b"N\t1\t100\nZ\n"), Err(2));
+    assert_eq!(read(b"Z\nZ"), Err(1));
+    let long = [&[b'\n'; 129][..], b"\n"].concat();
+    assert_eq!(read(&long), Err(1));
+}
+
+#[test]
+fn other_letters_are_2() {
+    for letter in (0..=255).filter(|letter| !b"NXCRZ".contains(letter)) {
+        assert_eq!(read(&[letter, b'\n']), Err(2));
+        assert_eq!(read(&[letter, b'\t', b'1', b'\n']), Err(2));
+    }
+    for other in [
+        "n 1 100", "A 1 100", "D 1", "O 1 5 2", "K 5 1", "M 8 1", "NN 1 100", "ZZ",
+    ] {
+        assert_eq!(said(other), 2, "{other}");
+    }
+}
+
+#[test]
+fn n_handles_are_local_kind_and_never_null() {
+    for handle in ["0", "2", "3", "4", "4294967294", "4294967295", "4294967292"] {
+        assert_eq!(said(&format!("N 1 100 5 {handle}")), 3, "{handle}");
+    }
+    assert_eq!(said("N 1 100 5 4294967293"), 0);
+}
+
+#[test]
+fn env_0_is_3_on_n_and_on_c() {
+    assert_eq!(said("N 1 0"), 3);
+    assert_eq!(said("C 1 0 4 0 0 0 0"), 3);
+}
+
+#[test]
+fn the_x_result_is_only_ranged_and_then_judged() {
+    for result in ["0", "1", "2", "3", "4", "4294967295"] {
+        assert_eq!(said(&format!("X 1 {result}")), 0, "{result}");
+    }
+    assert_eq!(said("X 1 4294967296"), 3);
+    let found = |result| findings(&["N 1 100 5", &format!("X 1 {result}")]);
+    assert!(found(0).is_empty());
+    assert!(found(5).is_empty());
+    assert_eq!(found(8), ["2 4 1 8"]);
+    assert_eq!(found(9), ["2 11 1 9"]);
+    assert_eq!(found(6), ["2 10 1 6"]);
+    assert_eq!(found(7), ["2 10 1 7"]);
+}
+
+#[test]
+fn the_r_result_is_checked_against_its_own_function_before_the_step() {
+    assert_eq!(refusal(&["R 1 6 2 0"]), 3);
+    assert_eq!(refusal(&["R 1 6 5 0"]), 4);
+    assert_eq!(refusal(&["N 1 100", "C 1 100 6 0 0 0 0", "R 1 21 5 0"]), 3);
+    assert_eq!(refusal(&["N 1 100", "C 1 100 6 0 0 0 0", "R 1 21 6 0"]), 4);
+}
+
+#[test]
+fn kinds_in_used_places_of_c_are_rule_4_and_never_3() {
+    for (call, finding) in [
+        ("C 1 100 31 8 0 0 0", "2 4 1 8"),
+        ("C 1 100 22 5 0 0 0", "2 4 1 5"),
+        ("C 1 100 22 7 0 0 0", "2 4 1 7"),
+        ("C 1 100 22 8 0 0 0", "2 4 1 8"),
+        ("C 1 100 23 6 0 0 0", "2 4 1 6"),
+        ("C 1 100 227 6 0 0 0", "2 4 1 6"),
+        ("C 1 100 24 8 5 0 0", "2 4 1 8"),
+        ("C 1 100 37 5 5 0 0", "2 4 2 5"),
+        ("C 1 100 37 5 6 0 0", "2 4 2 6"),
+        ("C 1 100 37 5 7 0 0", "2 4 2 7"),
+        ("C 1 100 67 5 5 9 0", "2 4 3 9"),
+        ("C 1 100 104 5 8 12 0", "2 4 3 12"),
+    ] {
+        assert_eq!(findings(&["N 1 100 5", call]), [finding], "{call}");
+    }
+}
+
+#[test]
+fn unused_places_and_capacity_are_0() {
+    for function in FIRST_FUNCTION..=LAST_FUNCTION {
+        let facts = facts(function).unwrap();
+        for at in 0..3 {
+            let mut places = [0; 3];
+            places[at] = 1;
+            let [a, b, c] = places;
+            let expected = if facts.places[at] == PlaceKind::Unused {
+                3
+            } else {
+                0
+            };
+            assert_eq!(said(&format!("C 1 1 {function} {a} {b} {c} 0")), expected);
+        }
+        let expected = if matches!(function, 19 | 26) { 0 } else { 3 };
+        assert_eq!(said(&format!("C 1 1 {function} 0 0 0 1")), expected);
+    }
+}
+
+#[test]
+fn results_are_what_their_kind_says() {
+    let ends = [0, 2_147_483_648, 4_294_967_296_i64];
+    let near = |end: i64| (-5..=5).flat_map(move |by| [end + by, -end + by]);
+    for function in FIRST_FUNCTION..=LAST_FUNCTION {
+        let kind = facts(function).unwrap().result;
+        for result in ends.into_iter().flat_map(near) {
+            let (lowest, highest, remainders): (i64, i64, &[i64]) = match kind {
+                ResultKind::Nothing => (0, 0, &[0]),
+                ResultKind::Local => (0, 4_294_967_295, &[1]),
+                ResultKind::Global => (0, 4_294_967_295, &[2]),
+                ResultKind::Weak => (0, 4_294_967_295, &[3]),
+                ResultKind::Identity => (0, 4_294_967_295, &[0]),
+                ResultKind::Buffer(_) => (0, 4_294_967_295, &[0, 1, 2, 3]),
+                ResultKind::Status => (-2_147_483_648, 2_147_483_647, &[0, 1, 2, 3]),
+            };
+            let ranged = lowest <= result && result <= highest;
+            let right = result == 0 || ranged && remainders.contains(&result.rem_euclid(4));
+            let expected = if right { 0 } else { 3 };
+            let line = format!("R 1 {function} {result} 0");
+            assert_eq!(said(&line), expected, "{line}");
+        }
+    }
+}
+
+#[test]
+fn both_ends_of_all_ranges() {
+    for (line, expected) in [
+        ("N 0 1", 3),
+        ("N 1 1", 0),
+        ("N 16 1", 0),
+        ("N 17 1", 3),
+        ("N 1 4294967295", 0),
+        ("N 1 4294967296", 3),
+        ("N 1 1 1", 0),
+        ("N 1 1 4294967293", 0),
+        ("N 1 1 4294967297", 3),
+        ("X 0 0", 3),
+        ("X 16 4294967295", 0),
+        ("X 17 0", 3),
+        ("C 0 1 4 0 0 0 0", 3),
+        ("C 16 4294967295 4 0 0 0 0", 0),
+        ("C 17 1 4 0 0 0 0", 3),
+        ("C 1 4294967296 4 0 0 0 0", 3),
+        ("C 1 1 3 0 0 0 0", 3),
+        ("C 1 1 232 0 0 0 0", 0),
+        ("C 1 1 233 0 0 0 0", 3),
+        ("C 1 1 64 4294967295 4294967295 4294967295 0", 0),
+        ("C 1 1 64 4294967296 0 0 0", 3),
+        ("C 1 1 64 0 4294967296 0 0", 3),
+        ("C 1 1 64 0 0 4294967296 0", 3),
+        ("C 1 1 19 0 0 0 -2147483649", 3),
+        ("C 1 1 19 0 0 0 -2147483648", 0),
+        ("C 1 1 26 0 0 0 2147483647", 0),
+        ("C 1 1 26 0 0 0 2147483648", 3),
+        ("R 0 4 0 0", 3),
+        ("R 16 4 0 1", 0),
+        ("R 17 4 0 0", 3),
+        ("R 1 3 0 0", 3),
+        ("R 1 232 0 0", 0),
+        ("R 1 233 0 0", 3),
+        ("R 1 4 0 2", 3),
+    ] {
+        assert_eq!(said(line), expected, "{line}");
+    }
+}
+
+#[test]
+fn the_writer_refuses_what_the_reader_would() {
+    let n = |thread, env, count, handles| Event::N {
+        thread,
+        env,
+        count,
+        handles,
+    };
+    let c = |function, places, capacity| Event::C {
+        thread: 1,
+        env: 1,
+        function,
+        places,
+        capacity,
+    };
+    let r = |function, result, pending| Event::R {
+        thread: 1,
+        function,
+        result,
+        pending,
+    };
+    for bad in [
+        n(0, 1, 0, [0; 8]),
+        n(17, 1, 0, [0; 8]),
+        n(1, 0, 0, [0; 8]),
+        n(1, 1, 1, [0; 8]),
+        n(1, 1, 1, [2, 0, 0, 0, 0, 0, 0, 0]),
+        n(1, 1, 1, [1, 5, 0, 0, 0, 0, 0, 0]),
+        n(1, 1, 0, [0, 0, 0, 0, 0, 0, 0, 5]),
+        n(1, 1, usize::MAX, [1; 8]),
+        Event::X {
+            thread: 0,
+            result: 0,
+        },
+        Event::X {
+            thread: 17,
+            result: 0,
+        },
+        c(3, [0; 3], 0),
+        c(233, [0; 3], 0),
+        c(u32::MAX, [0; 3], 0),
+        c(4, [1, 0, 0], 0),
+        c(4, [0, 0, 1], 0),
+        c(4, [0; 3], 1),
+        r(4, 1, 0),
+        r(6, 2, 0),
+        r(6, -3, 0),
+        r(7, 5, 0),
+        r(21, 4_294_967_298, 0),
+        r(165, -1, 0),
+        r(165, 4_294_967_296, 0),
+        r(217, 2_147_483_648, 0),
+        r(217, i64::MIN, 0),
+        r(4, 0, 2),
+        r(3, 0, 0),
+    ] {
+        let mut buffer = [b'?'; 200];
+        assert_eq!(write(&bad, &mut buffer), Err(3), "{bad:?}");
+        assert_eq!(buffer, [b'?'; 200]);
+        assert_eq!(write(&bad, &mut []), Err(3), "3 comes before 7: {bad:?}");
+    }
+}
+
+#[test]
+fn a_short_buffer_is_7_and_bytes_past_a_line_stay() {
+    let event = Event::X {
+        thread: 16,
+        result: 4_294_967_295,
+    };
+    let line = b"X\t16\t4294967295\n";
+    for room in 0..line.len() {
+        let mut buffer = vec![b'?'; room];
+        assert_eq!(write(&event, &mut buffer), Err(7));
+        assert_eq!(buffer, vec![b'?'; room]);
+    }
+    for room in line.len()..line.len() + 3 {
+        let mut buffer = vec![b'?'; room];
+        assert_eq!(write(&event, &mut buffer), Ok(line.len()));
+        assert_eq!(&buffer[..line.len()], line);
+        assert!(buffer[line.len()..].iter().all(|&byte| byte == b'?'));
+    }
+}
+
+#[test]
+fn the_longest_lines_are_written() {
+    let event = Event::N {
+        thread: 16,
+        env: u32::MAX,
+        count: 8,
+        handles: [u32::MAX - 2; 8],
+    };
+    assert_eq!(write(&event, &mut [0; 128]), Ok(104));
+    let event = Event::C {
+        thread: 16,
+        env: u32::MAX,
+        function: 26,
+        places: [0; 3],
+        capacity: i32::MIN,
+    };
+    let mut buffer = [0; 128];
+    let length = write(&event, &mut buffer).unwrap();
+    assert_eq!(
+        &buffer[..length],
+        b"C\t16\t4294967295\t26\t0\t0\t0\t-2147483648\n"
+    );
+}
+
+#[test]
+fn what_is_written_is_read_and_what_is_read_is_written() {
+    let mut lines = 0;
+    for (seed, profile) in (1..).zip(&PROFILES) {
+        let trace = make(profile, seed, 300, REFERENCE_ROWS, PIN_ROWS);
+        for line in trace.split_inclusive(|&byte| byte == b'\n') {
+            if let Ok(event) = read(line) {
+                let mut buffer = [0; 128];
+                let length = write(&event, &mut buffer).unwrap();
+                assert_eq!(&buffer[..length], line);
+                assert_eq!(read(&buffer[..length]), Ok(event));
+                lines += 1;
+            }
+        }
+    }
+    assert!(lines > 2_000);
+}
+
+#[test]
+fn any_event_the_writer_takes_is_read_back() {
+    let mut random = Random::new(7);
+    let mut taken = 0;
+    for _ in 0..200_000 {
+        let number = |random: &mut Random| match random.below(4) {
+            0 => 0,
+            1 => random.between(0, 20),
+            2 => u32::MAX - random.between(0, 5),
+            _ => random.number() as u32,
+        };
+        let thread = random.between(0, 17);
+        let function = random.between(0, 240);
+        let event = match random.below(4) {
+            0 => {
+                let count = random.below(10);
+                let mut handles = [0; 8];
+                for handle in handles.iter_mut().take(count) {
+                    *handle = (number(&mut random) & !3) + 1;
+                }
+                Event::N {
+                    thread,
+                    env: number(&mut random),
+                    count,
+                    handles,
+                }
+            }
+            1 => Event::X {
+                thread,
+                result: number(&mut random),
+            },
+            2 => Event::C {
+                thread,
+                env: number(&mut random),
+                function,
+                places: [(); 3].map(|()| number(&mut random)),
+                capacity: number(&mut random) as i32,
+            },
+            _ => Event::R {
+                thread,
+                function,
+                result: i64::from(number(&mut random)) - i64::from(number(&mut random) / 2),
+                pending: random.between(0, 2),
+            },
+        };
+        let mut buffer = [0; 128];
+        match write(&event, &mut buffer) {
+            Ok(length) => {
+                assert_eq!(read(&buffer[..length]), Ok(event));
+                taken += 1;
+            }
+            Err(refusal) => assert_eq!(refusal, 3),
+        }
+    }
+    assert!(taken > 20_000);
+}

@@ -1,0 +1,153 @@
+//! The makers of traces and the shrinker.
+
+use crate::common::trace;
+use plain::big::{big, natives, KINDS};
+use plain::coverage::Coverage;
+use plain::judge::Judge;
+use plain::make::{make, PROFILES};
+use plain::random::Random;
+use plain::report::{report, PIN_ROWS, REFERENCE_ROWS};
+use plain::shrink::shrink;
+
+#[test]
+fn every_refusal_rule_place_and_function_comes_up() {
+    let mut coverage = Coverage::default();
+    for seed in 0..60 {
+        for profile in &PROFILES {
+            let (fewest, most) = profile.usual_lines;
+            let lines = Random::new(seed).between(fewest, most) as usize;
+            let trace = make(profile, seed, lines, REFERENCE_ROWS, PIN_ROWS);
+            coverage.add(&trace, REFERENCE_ROWS, PIN_ROWS);
+        }
+    }
+    assert!(coverage.is_whole(), "{coverage}");
+}
+
+#[test]
+fn the_same_seed_makes_the_same_trace() {
+    for profile in &PROFILES {
+        let make = |seed| make(profile, seed, 60, REFERENCE_ROWS, PIN_ROWS);
+        assert_eq!(make(5), make(5));
+        assert_ne!(make(5), make(6));
+    }
+}
+
+#[test]
+fn small_traces_reach_all_but_depth_in_rooms_of_0_to_8_rows() {
+    let small = PROFILES.iter().find(|profile| profile.name == "small");
+    let mut refusals = [0; 8];
+    for seed in 0..4_000 {
+        let (reference_rows, pin_rows) = (seed as usize % 9, seed as usize / 9 % 9);
+        let lines = 5 + seed as usize % 21;
+        let trace = make(small.unwrap(), seed, lines, reference_rows, pin_rows);
+        let count = trace.split_inclusive(|&byte| byte == b'\n').count();
+        assert!(count <= lines + 5, "{count} lines for {lines}");
+        let report = String::from_utf8(report(&trace, reference_rows, pin_rows)).unwrap();
+        let end: Vec<&str> = report.lines().last().unwrap().split('\t').collect();
+        refusals[end[3].parse::<usize>().unwrap()] += 1;
+    }
+    assert!(refusals.iter().all(|&count| count > 0), "{refusals:?}");
+}
+
+#[test]
+fn traces_run_long_before_they_are_refused() {
+    let (mut accepted, mut made) = (0, 0);
+    for seed in 0..20 {
+        for profile in &PROFILES {
+            let trace = make(profile, seed, 200, REFERENCE_ROWS, PIN_ROWS);
+            let mut judge = Judge::new(REFERENCE_ROWS, PIN_ROWS);
+            for line in trace.split_inclusive(|&byte| byte == b'\n') {
+                made += 1;
+                if judge.step(line).is_err() {
+                    break;
+                }
+            }
+            accepted += judge.lines();
+        }
+    }
+    assert!(accepted * 10 > made * 9, "{accepted} of {made}");
+    assert!(accepted > 20 * PROFILES.len() as u32 * 120);
+}
+
+#[test]
+fn big_traces_are_accepted_to_the_end_with_some_breaches() {
+    for kind in &KINDS {
+        for lines in [1, 2, 100, 30_000] {
+            let mut trace = Vec::new();
+            big(kind, lines, &mut trace).unwrap();
+            let report = String::from_utf8(report(&trace, REFERENCE_ROWS, PIN_ROWS)).unwrap();
+            let end: Vec<&str> = report.lines().last().unwrap().split('\t').collect();
+            assert_eq!(end[..4], ["end", "closed", &lines.to_string(), "0"]);
+            let found: usize = end[4].parse().unwrap();
+            assert!(
+                lines < 30_000 || found > 10 && found * 50 < lines,
+                "{found}"
+            );
+        }
+    }
+}
+
+#[test]
+fn the_steady_trace_keeps_about_2000_handles_alive_over_16_threads() {
+    let mut trace = Vec::new();
+    big(&KINDS[0], 40_000, &mut trace).unwrap();
+    let mut judge = Judge::new(REFERENCE_ROWS, PIN_ROWS);
+    for line in trace.split_inclusive(|&byte| byte == b'\n') {
+        judge.step(line).unwrap();
+        if judge.lines() > 15_000 {
+            let alive = judge.references().alive();
+            assert!((1_950..=2_048).contains(&alive), "{alive}");
+        }
+    }
+    for thread in 1..=16 {
+        let rows = judge.references().rows();
+        let own = rows.iter().filter(|row| row[0] == thread).count();
+        assert!(own > 30, "{own} locals of thread {thread}");
+    }
+}
+
+#[test]
+fn the_nest_and_buffers_traces_are_deep_and_full() {
+    let most = |name, measure: fn(&Judge) -> usize| {
+        let kind = KINDS.iter().find(|kind| kind.name == name).unwrap();
+        let mut trace = Vec::new();
+        big(kind, 20_000, &mut trace).unwrap();
+        let mut judge = Judge::new(REFERENCE_ROWS, PIN_ROWS);
+        let lines = trace.split_inclusive(|&byte| byte == b'\n');
+        let measured = lines.map(|line| {
+            judge.step(line).unwrap();
+            measure(&judge)
+        });
+        measured.max().unwrap()
+    };
+    assert_eq!(most("nest", |judge| judge.thread(1).items.len()), 64);
+    assert!(most("buffers", |judge| judge.pins().outstanding()) > 230);
+}
+
+#[test]
+fn natives_try_the_most_lines() {
+    let mut trace = Vec::new();
+    natives(1_000_001, &mut trace).unwrap();
+    assert_eq!(report(&trace, 0, 0), b"end\trefused\t1000000\t1\t0\n");
+}
+
+#[test]
+fn the_shrinker_finds_the_smallest_trace() {
+    let pops_unpushed = |part: &[u8]| {
+        let mut judge = Judge::new(REFERENCE_ROWS, PIN_ROWS);
+        part.split_inclusive(|&byte| byte == b'\n')
+            .map_while(|line| judge.step(line).ok().map(|found| (line, found)))
+            .any(|(line, found)| {
+                line.starts_with(b"C")
+                    && found
+                        .iter()
+                        .any(|found| (found.rule, found.place) == (11, 0))
+            })
+    };
+    let made = (0..)
+        .map(|seed| make(&PROFILES[0], seed, 400, REFERENCE_ROWS, PIN_ROWS))
+        .find(|made| pops_unpushed(made))
+        .unwrap();
+    let small = shrink(&made, pops_unpushed);
+    assert_eq!(small, trace(&["N 1 1", "C 1 1 20 0 0 0 0"]));
+}

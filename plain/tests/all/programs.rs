@@ -1,0 +1,165 @@
+//! The programs, run as they are.
+
+use crate::common::trace;
+use plain::make::{make, profile};
+use plain::report::{report, PIN_ROWS, REFERENCE_ROWS};
+use std::io::{ErrorKind, Read, Write};
+use std::process::{Command, Output, Stdio};
+
+const PLAIN: &str = env!("CARGO_BIN_EXE_plain");
+const TRACES: &str = env!("CARGO_BIN_EXE_traces");
+const COMPARE: &str = env!("CARGO_BIN_EXE_compare");
+const MEASURE: &str = env!("CARGO_BIN_EXE_measure");
+
+fn run(program: &str, arguments: &[&str]) -> Output {
+    Command::new(program)
+        .args(arguments)
+        .stdin(Stdio::null())
+        .output()
+        .unwrap()
+}
+
+fn judge(arguments: &[&str], input: &[u8]) -> Vec<u8> {
+    let mut child = Command::new(PLAIN)
+        .args(arguments)
+        .stdin(Stdio::piped())
+        .stdout(Stdio::piped())
+        .spawn()
+        .unwrap();
+    child.stdin.take().unwrap().write_all(input).unwrap();
+    child.wait_with_output().unwrap().stdout
+}
+
+#[test]
+fn the_program_judges_standard_input() {
+    let input = trace(&[
+        "N 1 100 5",
+        "C 1 101 23 5 0 0 0",
+        "R 1 23 0 0",
+        "X 1 5",
+        "Z",
+    ]);
+    let expected = trace(&["2 1 0 101", "4 11 1 5", "end closed 5 0 2"]);
+    assert_eq!(judge(&[], &input), expected);
+    assert_eq!(judge(&[], b""), trace(&["end open 0 0 0"]));
+}
+
+#[test]
+fn the_program_lends_2048_and_256_rows_or_others() {
+    let input = trace(&["N 1 100 5 9", "Z"]);
+    assert_eq!(judge(&[], &input), trace(&["end closed 2 0 0"]));
+    let rooms = ["--rooms", "1", "0"];
+    assert_eq!(judge(&rooms, &input), trace(&["end refused 0 7 0"]));
+    for (name, seed) in [("rows", 2), ("pins", 3), ("rows", 4), ("pins", 5)] {
+        let made = make(
+            profile(name).unwrap(),
+            seed,
+            1_200,
+            REFERENCE_ROWS,
+            PIN_ROWS,
+        );
+        let (output, expected) = (run_on(&made), report(&made, 2_048, 256));
+        assert_eq!(output, expected);
+    }
+}
+
+/// What the program prints of an input it may leave unread after a refusal.
+fn run_on(input: &[u8]) -> Vec<u8> {
+    let mut child = Command::new(PLAIN)
+        .stdin(Stdio::piped())
+        .stdout(Stdio::piped())
+        .spawn()
+        .unwrap();
+    let written = child.stdin.take().unwrap().write_all(input);
+    assert!(written.is_ok() || written.is_err_and(|error| error.kind() == ErrorKind::BrokenPipe));
+    child.wait_with_output().unwrap().stdout
+}
+
+#[test]
+fn the_program_stops_in_a_line_without_end() {
+    let mut child = Command::new(PLAIN)
+        .stdin(Stdio::piped())
+        .stdout(Stdio::piped())
+        .spawn()
+        .unwrap();
+    let mut input = child.stdin.take().unwrap();
+    input.write_all(&[b'1'; 200]).unwrap();
+    let mut printed = String::new();
+    child
+        .stdout
+        .take()
+        .unwrap()
+        .read_to_string(&mut printed)
+        .unwrap();
+    assert_eq!(printed, "end\trefused\t0\t1\t0\n");
+    drop(input);
+    assert!(child.wait().unwrap().success());
+}
+
+#[test]
+fn traces_prints_what_the_maker_makes() {
+    let arguments = ["--seed", "7", "--profile", "small", "--lines", "15"];
+    let rooms = ["--rooms", "3", "2"];
+    let printed = run(TRACES, &[&arguments[..], &rooms].concat()).stdout;
+    assert_eq!(printed, make(profile("small").unwrap(), 7, 15, 3, 2));
+    let printed = run(TRACES, &["--big", "uses", "500"]).stdout;
+    assert_eq!(printed.iter().filter(|&&byte| byte == b'\n').count(), 500);
+    let printed = run(TRACES, &["--big", "natives", "3"]).stdout;
+    assert_eq!(printed, trace(&["N 1 1", "X 1 0", "N 1 1"]));
+    for wrong in [
+        &["--big", "uses", "0"][..],
+        &["--profile", "none"],
+        &["--big", "none", "5"],
+        &[],
+    ] {
+        assert_eq!(run(TRACES, wrong).status.code(), Some(2));
+    }
+}
+
+#[test]
+fn compare_finds_no_difference_from_itself() {
+    let output = run(COMPARE, &["--seed", "9", "--count", "34", "--", PLAIN]);
+    let printed = String::from_utf8(output.stdout).unwrap();
+    assert!(output.status.success(), "{printed}");
+    assert!(printed.starts_with("compared 34 traces, "), "{printed}");
+}
+
+#[cfg(unix)]
+#[test]
+fn compare_shrinks_what_differs() {
+    let blind_to_rule_9 = format!("{PLAIN} | grep -v '\t9\t0\t0$'");
+    let output = run(
+        COMPARE,
+        &["--seconds", "60", "--", "sh", "-c", &blind_to_rule_9],
+    );
+    let printed = String::from_utf8(output.stdout).unwrap();
+    assert_eq!(output.status.code(), Some(1), "{printed}");
+    assert!(
+        printed.starts_with("a difference: traces --seed "),
+        "{printed}"
+    );
+    let smallest = "the smallest trace found:\n\
+        N\t1\t1\n\
+        C\t1\t1\t218\t0\t0\t0\t0\n\
+        the plain judge's report:\n\
+        2\t7\t1\t0\n\
+        2\t9\t0\t0\n\
+        end\topen\t2\t0\t2\n\
+        the other report:\n\
+        2\t7\t1\t0\n\
+        end\topen\t2\t0\t2\n\
+        compared ";
+    assert!(printed.contains(smallest), "{printed}");
+}
+
+#[test]
+fn measure_tells_the_time_a_line_takes() {
+    let file = concat!(env!("CARGO_TARGET_TMPDIR"), "/measured");
+    std::fs::write(file, trace(&["N 1 100", "X 1 0", "Z"])).unwrap();
+    let printed = String::from_utf8(run(MEASURE, &[file]).stdout).unwrap();
+    assert!(
+        printed.starts_with("3 lines, 16 bytes\nreader "),
+        "{printed}"
+    );
+    assert_eq!(printed.matches(" ns/line\n").count(), 2, "{printed}");
+}
