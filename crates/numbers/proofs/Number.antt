@@ -5,11 +5,10 @@ use mathlib.Core.List.{List, [], _∷_}
 use mathlib.Core.Option.{Option, none, some}
 use Prim.Native.Nat.{ℕ, zero, suc, _+_, _-_, _≤_, _<_}
 use native.Mathlib.Omega.{arith}
-use native.Mathlib.Nat.{add-zero}
 use lib.Dec.{leb, ltb, eqb}
 use lib.ListN.{length, getD}
 use borrow.Author.Tests.{le-leb, eqb-true, eqb-false, lt-ltb, ne-eqb}
-use Rattle.words.specs.Choice.{if_then_else_, one}
+use Rattle.words.specs.Choice.{if_then_else_}
 use Rattle.numbers.specs.Decimal.{zero-digit, minus-sign, read-on, decimal, not-negative, negative, number}
 use Rattle.numbers.specs.Reading.{bounded, field-at, found, found-decimal, found-on, starts-minus, negated}
 use Rattle.numbers.specs.declared.Field.{Field}
@@ -132,29 +131,19 @@ starts-some [] t = absurd (false≢true t)
 starts-some (b ∷ f) t = omega arith
 
 -- a minus and the digits after it stand within the bytes
-pub sign-fits :
-    (s : List ℕ) (at stop : ℕ) {t : Bool} → t ≡ starts-minus (field-at s at stop) → {k : ℕ} → k ≡ one t → (top : ℕ) → at < top → length s < top
-    → at + k < top
-sign-fits s at stop {t} m {k} o top h l = go t m o
-  where
-    go : (t : Bool) → t ≡ starts-minus (field-at s at stop) → k ≡ one t → at + k < top
-    go true m o = let w = field-some s at stop (starts-some (field-at s at stop) (sym m)) .0 in omega arith
-    go false m o = omega arith
+pub minus-fits : (s : List ℕ) (at stop : ℕ) {t : Bool} → t ≡ starts-minus (field-at s at stop) → t ≡ true → (top : ℕ) → length s < top → at + 1 < top
+minus-fits s at stop m h top l = let w = field-some s at stop (starts-some (field-at s at stop) (sym m ∙ h)) .0 in omega arith
 
-module _ (max stop : ℕ) (s : List ℕ) (at : ℕ) {t : Bool} (m : t ≡ starts-minus (field-at s at stop)) {k : ℕ} (o : k ≡ one t) {r : Found} (e : r ≡ found-decimal max stop s (at + k)) where
-  pub number-plain : t ≡ false → r ≡ found max stop s at
+module _ (max stop : ℕ) (s : List ℕ) (at : ℕ) {t : Bool} (m : t ≡ starts-minus (field-at s at stop)) {r : Found} where
+  pub number-plain : t ≡ false → r ≡ found-decimal max stop s at → r ≡ found max stop s at
   unfolding found found-decimal
-  number-plain h =
-      e
-      ∙ ap (λ k. found-decimal max stop s k) (ap (λ k. at + k) (o ∙ ap one h) ∙ add-zero at)
-      ∙ ap (λ x. answer (bounded max x) (at + length (field-at s at stop))) (plain-number (field-at s at stop) (sym m ∙ h))
+  number-plain h e = e ∙ ap (λ x. answer (bounded max x) (at + length (field-at s at stop))) (plain-number (field-at s at stop) (sym m ∙ h))
 
-  pub number-minus : t ≡ true → {f : Field} → f ≡ negated (r .field) → answer f (r .next) ≡ found max stop s at
+  pub number-minus : t ≡ true → r ≡ found-decimal max stop s (at + 1) → {f : Field} → f ≡ negated (r .field) → answer f (r .next) ≡ found max stop s at
   unfolding found found-decimal
-  number-minus h p =
+  number-minus h d p =
       let l = field-some s at stop (starts-some (field-at s at stop) (sym m ∙ h)) in
       let w : field-at s at stop ≡ getD s at 0 ∷ field-at s (at + 1) stop = field-more s at stop (l .0) (l .1) in
-      let d : r ≡ found-decimal max stop s (at + 1) = e ∙ ap (λ k. found-decimal max stop s (at + k)) (o ∙ ap one h) in
       ap₂ answer
       (p
       ∙ ap (λ x. negated (x .field)) d

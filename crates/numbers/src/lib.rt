@@ -4,7 +4,6 @@ ghost use mathlib.Core.List.{_∷_};
 ghost use Prim.Native.Nat.{_+_, _<_, _≤_, _^_};
 ghost use lib.IntN.{pos, negsuc, natAbs};
 ghost use lib.ListN.{length};
-ghost use Rattle.words.specs.Choice.{one};
 ghost use Rattle.numbers.specs.Decimal.{minus-sign, digits, shown, is-digit};
 ghost use Rattle.numbers.specs.Reading.{found, found-decimal, found-on, skipped, out-or-bad, field-at, starts-minus, negated};
 ghost use Rattle.numbers.specs.Writing.{put, Puts};
@@ -42,13 +41,6 @@ fn wide(b: u8) -> u64
     ensures { λ r. ⌜ r ≡ b ⌝ }
 {
     b as u64
-}
-
-// 1 where the test holds, else 0.
-fn one(t: bool) -> usize
-    ensures { λ r. ⌜ r ≡ one t ⌝ }
-{
-    if t { 1 } else { 0 }
 }
 
 fn out_or_bad(ok: bool) -> Field
@@ -168,6 +160,27 @@ fn read_decimal(s: &[u8], at: usize, stop: u8, max: u64) -> Found
     r
 }
 
+// The same for what stands after a minus, with every digit tested: a body apart, so that the usual one is compiled into its caller.
+fn read_tested(s: &[u8], at: usize, stop: u8, max: u64) -> Found
+    ensures { λ r. ⌜ r ≡ found-decimal max stop (now (s .entry)) at ⌝ }
+{
+    let r = read_on(s, at, stop, 0, max);
+    let next = r.next;
+    if next <= at {
+        return Found {
+            field: Field::Bad,
+            next: next,
+        };
+    }
+    if (s[at] == ZERO) & (2 <= next - at) {
+        return Found {
+            field: Field::Bad,
+            next: next,
+        };
+    }
+    r
+}
+
 // What digits are after a minus.
 fn negate(f: Field) -> Field
     ensures { λ r. ⌜ r ≡ negated f ⌝ }
@@ -194,9 +207,9 @@ fn starts_minus(s: &[u8], at: usize, stop: u8) -> bool
 pub fn read(s: &[u8], at: usize, stop: u8, max: u64) -> Found
     ensures { λ r. ⌜ r ≡ found max stop (now (s .entry)) at ⌝ }
 {
-    let minus = starts_minus(s, at, stop);
-    let r = read_decimal(s, at + one(minus), stop, max);
-    if minus {
+    // A branch, not a sum of the place and the sign: the place of the next field then waits for no byte.
+    if starts_minus(s, at, stop) {
+        let r = read_tested(s, at + 1, stop, max);
         let f = r.field;
         let next = r.next;
         return Found {
@@ -204,7 +217,7 @@ pub fn read(s: &[u8], at: usize, stop: u8, max: u64) -> Found
             next: next,
         };
     }
-    r
+    read_decimal(s, at, stop, max)
 }
 
 // A signed 32-bit number, or a number out of 32 bits.
