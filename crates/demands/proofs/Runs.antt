@@ -1,13 +1,10 @@
 -- The run of a whole input over lent tables prints the history's report. Assumes nothing.
 use Prim.Native.Nat.{ℕ}
 use mathlib.Core.Path.{_≡_, refl, ap, ap₂, _∙_}
-use mathlib.Core.Bool.{Bool, not}
+use mathlib.Core.Bool.{Bool}
 use mathlib.Core.List.{List, [], _∷_, _++_}
-use lib.Dec.{eqb}
 use lib.ListN.{length}
-use Rattle.words.specs.Choice.{if_then_else_}
 use Rattle.words.specs.Lists.{joined}
-use Rattle.words.specs.Text.{bytes, tab}
 use Rattle.lines.specs.Line.{Line}
 use Rattle.lines.specs.Reading.{Read, says, refused}
 use Rattle.history.specs.Past.{History}
@@ -15,24 +12,23 @@ use Rattle.history.specs.Seen.{seen}
 use Rattle.history.specs.Acceptance.{Room}
 use Rattle.history.specs.Findings.{of-line, findings}
 use Rattle.history.specs.Replies.{verdict}
-use Rattle.history.specs.Report.{ended, go-on, run, lines-of, field-then, last-field, shown-finding, shown-end, shown, report}
+use Rattle.history.specs.Report.{ended, go-on, run, lines-of, shown-finding, end-line, shown-end, shown, report}
 use Rattle.history.specs.Accepted.{Accepted, at-start}
 use Rattle.tables.specs.Tables.{Tables}
 use Rattle.tables.specs.Stepping.{Stepped, start-of}
+use Rattle.demands.specs.Tied.{All-tied}
 use Rattle.demands.specs.Calls.{room-of, Long, ran, go-on-in, run-in, printed, report-in}
 use Rattle.demands.proofs.Started.{started, items-started}
-use Rattle.demands.proofs.Stepped.{with-line-in, answered, line-accepted, All-tied, all-next, step-is}
+use Rattle.demands.proofs.Stepped.{with-line-in, answered, line-accepted, all-next, step-is}
 
 -- what is printed at the end, from the tables, is what is shown of the history
 printed-end : (room : Room) (T : Tables) (past : History) (k : ℕ) → All-tied room T past → printed (ran T (findings past) k) ≡ shown (ended past k)
 unfolding printed shown shown-end
 printed-end room T past k tied =
-    ap₂ (λ (n : ℕ) (over : Bool). line n (if not (eqb k 0) then bytes "refused" else if over then bytes "closed" else bytes "open")) (tied .tables .lines) (tied .tables .end-mark)
-  where
-    line : ℕ → List ℕ → List ℕ
-    line n word =
-        joined (findings past) shown-finding
-        ++ (bytes "end" ++ (tab ∷ (word ++ (tab ∷ field-then n (field-then k (last-field (length (findings past))))))))
+    ap₂
+    (λ (n : ℕ) (over : Bool). joined (findings past) shown-finding ++ end-line over n k (length (findings past)))
+    (tied .tables .lines)
+    (tied .tables .end-mark)
 
 -- from tied tables on
 run-is : (room : Room) (lines : List (List ℕ)) (T : Tables) (past : History) → All-tied room T past → Accepted room past

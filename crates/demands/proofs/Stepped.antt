@@ -23,7 +23,7 @@ use Rattle.book.specs.Threads.{items-in}
 use Rattle.tables.specs.Tables.{Tables}
 use Rattle.tables.specs.Acting.{acted}
 use Rattle.tables.specs.Stepping.{Stepped, stepped, untouched, with-items, follow, on-line, on-read, step-of, start-of}
-use Rattle.demands.specs.Tied.{Tied, Items-tied}
+use Rattle.demands.specs.Tied.{All-tied}
 use Rattle.demands.specs.Calls.{room-of, Long, after}
 use Rattle.demands.proofs.Weighed.{weighed-tied}
 use Rattle.demands.proofs.Next.{next, items-untouched, next-items, rest-untouched}
@@ -47,10 +47,6 @@ line-accepted room past bs e so-far is = go e (verdict-is room past bs so-far (s
     go _ (takes e few says-it given) = and-line e past few (read-allowed bs e says-it) (refusal-is room e past so-far 0 .1 given) so-far
 
 -- ---- the tie, items and all
-
-pub record All-tied (room : Room) (T : Tables) (past : History) : Type 0 where
-  pub tables : Tied room T past
-  pub opened : Items-tied (T .book) past
 
 pub all-next : (room : Room) (T : Tables) (e : Line) (past : History) → All-tied room T past → Accepted room (e ∷ past) → All-tied room (with-line-in e past T) (e ∷ past)
 all-next room T e past k accepts =

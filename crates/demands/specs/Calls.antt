@@ -1,13 +1,9 @@
 -- Calls of the step over lent tables, one after another, and the run of a whole input over them. Assumes nothing.
 use Prim.Native.Nat.{ℕ, _≤_}
-use mathlib.Core.Bool.{not}
 use mathlib.Core.List.{List, [], _∷_, _++_}
 use mathlib.Core.Path.{_≡_}
-use lib.Dec.{eqb}
 use lib.ListN.{length}
-use Rattle.words.specs.Choice.{if_then_else_}
 use Rattle.words.specs.Lists.{joined}
-use Rattle.words.specs.Text.{bytes, tab}
 use Rattle.rows.specs.Table.{room}
 use Rattle.rows.specs.References.{references}
 use Rattle.rows.specs.Pins.{pins}
@@ -15,7 +11,7 @@ use Rattle.history.specs.Acceptance.{Room}
 use Rattle.history.specs.Past.{History}
 use Rattle.history.specs.Replies.{Reply, accepted, not-accepted, heard}
 use Rattle.history.specs.Runs.{findings-in}
-use Rattle.history.specs.Report.{lines-of, field-then, last-field, shown-finding}
+use Rattle.history.specs.Report.{lines-of, shown-finding, end-line}
 use Rattle.history.specs.declared.Finding.{Finding}
 use Rattle.book.specs.Layout.{whole}
 use Rattle.book.specs.Threads.{lines-in, closed-in}
@@ -80,15 +76,10 @@ run-in T fs (bs ∷ lines) =
     go-on-in T fs (step-of T bs .reply) rest
 
 -- what is printed, from what stands in the tables
-abbrev pub word-in : Ran → List ℕ
-word-in r = if not (eqb (r .refusal) 0) then bytes "refused" else if closed-in (r .left .book) then bytes "closed" else bytes "open"
-
 unfoldable pub printed : Ran → List ℕ
 printed r =
     joined (r .found) shown-finding
-    ++ (bytes "end"
-    ++ (tab
-    ∷ (word-in r ++ (tab ∷ field-then (lines-in (r .left .book)) (field-then (r .refusal) (last-field (length (r .found))))))))
+    ++ end-line (closed-in (r .left .book)) (lines-in (r .left .book)) (r .refusal) (length (r .found))
 
 unfoldable pub report-in : Tables → List ℕ → List ℕ
 report-in T input = printed (run-in (start-of T) [] (lines-of input))

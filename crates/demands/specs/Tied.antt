@@ -59,3 +59,7 @@ pub record Tied (room : Room) (T : Tables) (past : History) : Type 0 where
 pub record Items-tied (b : List ℕ) (past : History) : Type 0 where
   pub open-items : (t : ℕ) → items-in b t ≡ items t past
   pub counts : (t : ℕ) → Kept (cell b t)
+
+pub record All-tied (room : Room) (T : Tables) (past : History) : Type 0 where
+  pub tables : Tied room T past
+  pub opened : Items-tied (T .book) past

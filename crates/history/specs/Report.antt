@@ -54,16 +54,19 @@ abbrev pub shown-finding : Finding → List ℕ
 shown-finding f = field-then (f .line) (field-then (f .rule) (field-then (f .place) (last-field (f .thing))))
 
 -- `refused` whenever a line was refused, after Z too
-abbrev pub end-word : Run → List ℕ
-end-word r = if not (eqb (r .refusal) 0) then bytes "refused" else if closed (r .accepted) then bytes "closed" else bytes "open"
+abbrev pub word-for : ℕ → Bool → List ℕ
+word-for refusal closed = if not (eqb refusal 0) then bytes "refused" else if closed then bytes "closed" else bytes "open"
 
 -- `end`, `closed`/`open`/`refused`, accepted lines, refusal or 0, findings printed
+abbrev pub end-line : Bool → ℕ → ℕ → ℕ → List ℕ
+end-line closed lines refusal printed =
+    bytes "end" ++ (tab ∷ (word-for refusal closed ++ (tab ∷ field-then lines (field-then refusal (last-field printed)))))
+
+abbrev pub end-word : Run → List ℕ
+end-word r = word-for (r .refusal) (closed (r .accepted))
+
 unfoldable pub shown-end : Run → List ℕ
-shown-end r =
-    bytes "end"
-    ++ (tab
-    ∷ (end-word r
-    ++ (tab ∷ field-then (length (r .accepted)) (field-then (r .refusal) (last-field (length (findings (r .accepted))))))))
+shown-end r = end-line (closed (r .accepted)) (length (r .accepted)) (r .refusal) (length (findings (r .accepted)))
 
 unfoldable pub shown : Run → List ℕ
 shown r = joined (findings (r .accepted)) shown-finding ++ shown-end r
