@@ -1,12 +1,12 @@
 -- Document 01's table of functions, its marks and its buffer families agree with each other, for every number. Assumes nothing.
 use mathlib.Core.Path.{_≡_, refl, ap, sym, _∙_}
-use mathlib.Core.Bool.{Bool, true, false, _&&_, _||_, false≢true}
+use mathlib.Core.Bool.{Bool, true, false, _||_, false≢true}
 use mathlib.Core.List.{List, [], _∷_}
-use Prim.Native.Nat.{ℕ, zero, suc, _+_, _-_, _<_}
+use Prim.Native.Nat.{ℕ, zero, suc, _<_}
 use native.Mathlib.Omega.{arith}
-use native.Mathlib.Nat.{add-zero}
-use lib.Dec.{leb, ltb, eqb}
-use borrow.Author.Tests.{leb-true, eqb-true, eq-eqb}
+use native.Mathlib.Decide.{decLt}
+use lib.Dec.{ltb, eqb}
+use borrow.Author.Tests.{eqb-true, eq-eqb}
 use Rattle.words.specs.Choice.{one}
 use Rattle.words.specs.Lists.{any, count}
 use Rattle.facts.specs.Table.{lists, first-function, last-function, is-function, Row, table, fact-of, is-allowed-pending, is-allowed-critical, in-pair, families, family, is-critical}
@@ -15,47 +15,29 @@ use Rattle.facts.specs.declared.Place.{Place}
 use Rattle.facts.specs.declared.Place.the-variants as Place
 use Rattle.facts.specs.declared.Result.{Result}
 use Rattle.facts.specs.declared.Result.the-variants as Result
-use Rattle.facts.proofs.Outside.{both-true, how-many, gets, releases, no-fact-outside, no-row-outside, not-pending-outside, not-critical-outside, no-family-outside, no-pair-outside, no-getter-outside, no-releaser-outside}
+use Rattle.facts.proofs.Letters.{one-back}
+use Rattle.facts.proofs.Each.{each, each-at}
+use Rattle.facts.proofs.Outside.{how-many, above-last, gets, releases, no-fact-outside, no-row-outside, not-pending-outside, not-critical-outside, no-family-outside, no-pair-outside, no-getter-outside, no-releaser-outside}
 
 -- ---- a test computed once over the functions holds for each
 
--- each of n numbers from lo on passes the test
-abbrev each : (ℕ → Bool) → ℕ → ℕ → Bool
-each t zero lo = true
-each t (suc n) lo = t lo && each t n (suc lo)
-
-each-at : (t : ℕ → Bool) (n lo i : ℕ) → each t n lo ≡ true → i < n → t (lo + i) ≡ true
-each-at t zero lo i h l = absurd (omega arith)
-each-at t (suc n) lo zero h l = ap t (add-zero lo) ∙ both-true (t lo) (each t n (suc lo)) h .0
-each-at t (suc n) lo (suc i) h l =
-    let e : suc lo + i ≡ lo + suc i = omega arith in
-    ap t (sym e) ∙ each-at t n (suc lo) i (both-true (t lo) (each t n (suc lo)) h .1) (omega arith)
+abbrev tested : (ℕ → Bool) → Bool
+tested t = each t (suc last-function)
 
 -- the functions, and outside of them
-by-functions : (t : ℕ → Bool) → each t how-many first-function ≡ true → ((f : ℕ) → is-function f ≡ false → t f ≡ true) → (f : ℕ) → t f ≡ true
-by-functions t h out f = go (is-function f) refl
+by-functions : (t : ℕ → Bool) → tested t ≡ true → ((f : ℕ) → is-function f ≡ false → t f ≡ true) → (f : ℕ) → t f ≡ true
+by-functions t h out f = go (decLt f (suc last-function))
   where
-    go : (u : Bool) → is-function f ≡ u → t f ≡ true
-    go true e =
-        let p = both-true (leb first-function f) (leb f last-function) e in
-        let lo = leb-true first-function f (p .0) in
-        let hi = leb-true f last-function (p .1) in
-        let k : first-function + (f - first-function) ≡ f = omega arith in
-        ap t (sym k) ∙ each-at t how-many first-function (f - first-function) h (omega arith)
-    go false e = out f e
+    go : Dec (f < suc last-function) → t f ≡ true
+    go (yes l) = each-at t (suc last-function) f h l
+    go (no l) = out f (above-last f (omega arith))
 
 -- two numbers that a computed test finds equal at each function, and that are known outside
-same-numbers : (a b : ℕ → ℕ) → each (λ f. eqb (a f) (b f)) how-many first-function ≡ true → ((f : ℕ) → is-function f ≡ false → a f ≡ b f) → (f : ℕ) → a f ≡ b f
+same-numbers : (a b : ℕ → ℕ) → tested (λ f. eqb (a f) (b f)) ≡ true → ((f : ℕ) → is-function f ≡ false → a f ≡ b f) → (f : ℕ) → a f ≡ b f
 same-numbers a b h out f = eqb-true (a f) (b f) (by-functions (λ f. eqb (a f) (b f)) h (λ f e. eq-eqb (a f) (b f) (out f e)) f)
 
-same-tests : (a b : ℕ → Bool) → each (λ f. eqb (one (a f)) (one (b f))) how-many first-function ≡ true → ((f : ℕ) → is-function f ≡ false → a f ≡ b f) → (f : ℕ) → a f ≡ b f
-same-tests a b h out f = ones (a f) (b f) (same-numbers (λ f. one (a f)) (λ f. one (b f)) h (λ f e. ap one (out f e)) f)
-  where
-    ones : (t u : Bool) → one t ≡ one u → t ≡ u
-    ones true true e = refl
-    ones true false e = absurd (omega arith)
-    ones false true e = absurd (omega arith)
-    ones false false e = refl
+same-tests : (a b : ℕ → Bool) → tested (λ f. eqb (one (a f)) (one (b f))) ≡ true → ((f : ℕ) → is-function f ≡ false → a f ≡ b f) → (f : ℕ) → a f ≡ b f
+same-tests a b h out f = one-back (a f) (b f) (same-numbers (λ f. one (a f)) (λ f. one (b f)) h (λ f e. ap one (out f e)) f)
 
 -- ---- rows
 

@@ -1,3 +1,5 @@
 pub mod Outside
+pub mod Each
 pub mod Letters
+pub mod Tested
 pub mod FactsAgree

@@ -2,8 +2,7 @@
 use mathlib.Core.Path.{_≡_, refl, ap, sym, _∙_}
 use mathlib.Core.Bool.{Bool, true, false, _&&_, _||_, false≢true}
 use mathlib.Core.List.{List, [], _∷_}
-use Prim.Native.Nat.{ℕ, zero, suc, _+_, _-_, _<_, _≤_}
-use native.Mathlib.Decide.{decLt}
+use Prim.Native.Nat.{ℕ, suc, _-_, _<_}
 use native.Mathlib.Omega.{arith}
 use lib.Dec.{leb, eqb}
 use lib.ListN.{length}
@@ -32,27 +31,6 @@ false-by false h = refl
 -- so many functions there are
 abbrev pub how-many : ℕ
 how-many = suc last-function - first-function
-
--- f is none of so many numbers from the first function on
-abbrev pub None : ℕ → ℕ → Type 0
-None zero f = Unit {0}
-None (suc n) f = None n f × (f ≡ n + first-function → ⊥)
-
-none-here : (n f : ℕ) → None n f → first-function ≤ f → f < n + first-function → ⊥
-none-here zero f t lo hi = absurd (omega arith)
-none-here (suc n) f t lo hi = last (decLt f (n + first-function)) (none-here n f (t .0) lo)
-  where
-    last : Dec (f < n + first-function) → (f < n + first-function → ⊥) → ⊥
-    last (yes l) before = before l
-    last (no l) before = t .1 (omega arith)
-
-pub none-outside : (f : ℕ) → None how-many f → is-function f ≡ false
-none-outside f h =
-    false-by (is-function f)
-    (λ e. let p = both-true (leb first-function f) (leb f last-function) e in
-    let lo = leb-true first-function f (p .0) in
-    let hi = leb-true f last-function (p .1) in
-    none-here how-many f h lo (omega arith))
 
 -- ---- lists whose elements all pass one test, and so fail another
 
@@ -158,9 +136,6 @@ module _ (f : ℕ) (none : is-function f ≡ false) where
 
   pub no-releaser-outside : any (releases f) families ≡ false
   no-releaser-outside = any-none pair-of-functions (releases f) not-second families refl
-
-pub below-first : (f : ℕ) → f < first-function → is-function f ≡ false
-below-first f h = rw (lt-leb first-function f h)
 
 pub above-last : (f : ℕ) → last-function < f → is-function f ≡ false
 above-last f h = rw (le-leb first-function f (omega arith)) (lt-leb f last-function h)

@@ -1,12 +1,11 @@
--- The facts of a function in document 01's letters, seven of them, as the code's rows have them. Assumes nothing.
-use Prim.Native.Nat.{ℕ, _+_, _-_, _*_}
+-- The facts of a function in document 01's letters, and the columns in which the code has them. Assumes nothing.
+use Prim.Native.Nat.{ℕ, _-_, _*_, _/_, _%_}
 use Prim.Native.Char.{code}
-use mathlib.Core.Bool.{Bool}
-use mathlib.Core.List.{List, [], _∷_}
+use mathlib.Core.List.{List, []}
 use lib.Dec.{ltb}
-use lib.ListN.{length}
+use lib.ListN.{length, getD}
 use Rattle.words.specs.Choice.{if_then_else_}
-use Rattle.facts.specs.Table.{Fact, fact-of, is-allowed-pending, is-allowed-critical, families, family}
+use Rattle.facts.specs.Table.{families}
 use Rattle.facts.specs.declared.Place.{Place}
 use Rattle.facts.specs.declared.Place.the-variants as Place
 use Rattle.facts.specs.declared.Result.{Result}
@@ -34,43 +33,25 @@ result-letter Result.Buffer = code "B"
 result-letter Result.Status = code "S"
 result-letter Result.Nothing = no-letter
 
--- a letter where it holds
-abbrev pub mark : ℕ → Bool → ℕ
-mark x t = if t then x else no-letter
-
--- 12, as no family has it
+-- 12: the number of no family
 abbrev pub no-family : ℕ
 no-family = length families
 
--- families 0 to 11 are A to L
-abbrev pub family-letter : ℕ → ℕ
-family-letter k = if ltb k no-family then code "A" + k else no-letter
-
+-- A to L are families 0 to 11
 abbrev pub family-in : ℕ → ℕ
 family-in x = if ltb x (code "A") then no-family else x - code "A"
 
-abbrev pub letters-of : Fact → Bool → Bool → ℕ → List ℕ
-letters-of x pending critical family =
-    place-letter (x .a)
-    ∷ place-letter (x .b)
-    ∷ place-letter (x .c)
-    ∷ result-letter (x .result)
-    ∷ mark (code "p") pending
-    ∷ mark (code "c") critical
-    ∷ family-letter family
-    ∷ []
+-- ---- a column: a letter for each number from 0 on, eight to a line
 
-abbrev pub letters : ℕ → List ℕ
-letters f = letters-of (fact-of f) (is-allowed-pending f) (is-allowed-critical f) (family f)
+abbrev pub line-length : ℕ
+line-length = 8
 
-abbrev pub byte : ℕ
-byte = 256
+abbrev pub lines : ℕ
+lines = 30
 
--- bytes as one number, the first the highest, after those of n
-abbrev pub packed : ℕ → List ℕ → ℕ
-packed n [] = n
-packed n (x ∷ xs) = packed (n * byte + x) xs
+abbrev pub in-lines : List (List ℕ) → ℕ → ℕ
+in-lines t f = getD (getD t (f / line-length) []) (f % line-length) 0
 
--- the letters of function f as one number
-abbrev pub row-of : ℕ → ℕ
-row-of f = packed 0 (letters f)
+-- the letter of number f, none where the column has ended
+unfoldable pub letter-at : List (List ℕ) → ℕ → ℕ
+letter-at t f = if ltb f (lines * line-length) then in-lines t f else no-letter
