@@ -7,3 +7,4 @@ pub mod Back
 pub mod Bytes
 pub mod Bounds
 pub mod Put
+pub mod Minus

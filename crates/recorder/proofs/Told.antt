@@ -2,15 +2,16 @@
 use mathlib.Core.Path.{_≡_, refl, ap, sym, subst, _∙_}
 use mathlib.Core.Bool.{Bool, true, false, not, _&&_, false≢true}
 use mathlib.Core.List.{List}
-use Prim.Native.Nat.{ℕ, zero, suc, _^_, _≤_, _<_}
+use Prim.Native.Nat.{ℕ, zero, suc, _≤_}
 use native.Mathlib.Omega.{arith}
 use lib.Dec.{eqb, leb, ltb}
-use lib.IntN.{ℤ, pos, negsuc, negℤ, _-ℤ_, +ℤ-idl}
+use lib.IntN.{pos, _-ℤ_}
 use lib.ListN.{length, take, drop}
 use mir.Syntax.{w32}
 use mir.Val.{SFits, toZ, ofZ}
 use mir.ValLaws.{toZ-pos, toZ-ofZ}
 use borrow.Author.Needs.{sfits-of}
+use Rattle.numbers.proofs.Minus.{minus-is, minus-fits}
 use Rattle.words.specs.Choice.{if_then_else_}
 use Rattle.words.specs.Lists.{any}
 use Rattle.lines.specs.Line.{Line, N, X, C, R, Z, longest, most-handles, is-allowed, is-zero}
@@ -72,16 +73,6 @@ meant-short d Event.End hs = slots-short d 0 hs Z
 meant-short d (Event.Refused k) hs = refused-short d 3
 
 -- ---- a number below zero
-
-minus-is : {k : ℕ} → SFits w32 (pos k) → pos 0 -ℤ toZ w32 k ≡ negℤ (pos k)
-minus-is {k} f = ap (λ (z : ℤ). pos 0 -ℤ z) (toZ-pos w32 k (f .sfits)) ∙ +ℤ-idl (negℤ (pos k))
-
-negative-fits : (k : ℕ) → SFits w32 (pos k) → SFits w32 (negℤ (pos k))
-negative-fits zero f = f
-negative-fits (suc n) f = let h : suc n < 2 ^ 31 = f .sfits in sfits-of (omega arith)
-
-pub minus-fits : {k : ℕ} → SFits w32 (pos k) → SFits w32 (pos 0 -ℤ toZ w32 k)
-minus-fits {k} f = subst (SFits w32) (sym (minus-is f)) (negative-fits k f)
 
 -- ---- by the writer's answer w
 

@@ -1,6 +1,7 @@
 -- `recorder::tell` meets its contract. Assumes nothing.
 use denote.Ref.{now}
-use Rattle.recorder.proofs.Told.{bytes-fit, bytes-told, refused-told, minus-fits}
+use Rattle.recorder.proofs.Told.{bytes-fit, bytes-told, refused-told}
+use Rattle.numbers.proofs.Minus.{minus-fits}
 use borrow.Author.Needs.{needs}
 use Rattle.recorder.proofs.tell.Statement.{statement}
 use Rattle.recorder.proofs.tell.Tie as tie
