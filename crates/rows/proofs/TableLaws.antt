@@ -107,11 +107,17 @@ module _ {A : Type 0} (L : Layout A) where
   unused-match true b e = e
   unused-match false b e = refl
 
-  pub seek-unused : (q : A → Bool) (rs ms : List ℕ) (w : ℕ) → getD ms w 0 ≡ 0 → word ≡ lowest (in-word (passes L q (table rs ms)) w) word
+  unused-fails : (q : A → Bool) (rs ms : List ℕ) (w i : ℕ) → getD ms w 0 ≡ 0 → i < word → passes L q (table rs ms) (w * word + i) ≡ false
   unfolding in-word passes
-  seek-unused q rs ms w z =
-      lowest-none (in-word (passes L q (table rs ms)) w) word
-      (λ i l. unused-match (matches L q rs (w * word + i)) (used ms (w * word + i)) (word-unused ms w i z l))
+  unused-fails q rs ms w i z l = unused-match (matches L q rs (w * word + i)) (used ms (w * word + i)) (word-unused ms w i z l)
+
+  pub seek-unused : (q : A → Bool) (rs ms : List ℕ) (w : ℕ) → getD ms w 0 ≡ 0 → word ≡ lowest (in-word (passes L q (table rs ms)) w) word
+  unfolding in-word
+  seek-unused q rs ms w z = lowest-none (in-word (passes L q (table rs ms)) w) word (λ i l. unused-fails q rs ms w i z l)
+
+  pub sum-unused : (q : A → Bool) (rs ms : List ℕ) (w : ℕ) → getD ms w 0 ≡ 0 → 0 ≡ how-many (in-word (passes L q (table rs ms)) w) word
+  unfolding in-word
+  sum-unused q rs ms w z = sym (none-passes (in-word (passes L q (table rs ms)) w) word (λ i l. unused-fails q rs ms w i z l))
 
   -- ---- row after row of the whole room
   pub counted-all : (q : A → Bool) (T : Table) (s n r : ℕ) → n ≡ room L T → r ≤ n → n ≤ r → s ≡ how-many (passes L q T) r → s ≡ counted L q T
@@ -164,6 +170,9 @@ module _ {A : Type 0} (L : Layout A) where
       → table rs ms ≡ ended-from L q (table rs ms) (w * word) word
   unfolding in-word
   ended-unmatched q rs ms w k e z = sym (ended-none q (table rs ms) (w * word) word (λ i l. fails-in q q rs ms w k i (λ x f. f) e z l))
+
+  pub ended-unused : (q : A → Bool) (rs ms : List ℕ) (w : ℕ) → getD ms w 0 ≡ 0 → table rs ms ≡ ended-from L q (table rs ms) (w * word) word
+  ended-unused q rs ms w z = sym (ended-none q (table rs ms) (w * word) word (λ i l. unused-fails q rs ms w i z l))
 
   -- the rows from a on, and then those from a + m on
   ended-add : (q : A → Bool) (T : Table) (a m n : ℕ) → ended-from L q (ended-from L q T a m) (a + m) n ≡ ended-from L q T a (m + n)

@@ -177,11 +177,14 @@ fn find_first(rows: &[Number], marks: &[u64], w: usize, m: usize, t: Number, h: 
     m
 }
 
-// The lowest such row of word w, or 64; looked at row by row only where a handle is h.
+// The lowest such row of word w, or 64; looked at row by row only where a handle is h. A word of which no row is used is passed over at once.
 fn find_in(rows: &[Number], marks: &[u64], w: usize, t: Number, h: Number) -> usize
     requires { ⌜ w * word + word ≤ room references (table (now rows) (now marks)) ⌝ }
     ensures { λ i. ⌜ i ≡ lowest (in-word (passes references (is-handle t h) (table (now (rows .entry)) (now (marks .entry)))) w) word ⌝ }
 {
+    if marks[w] == 0 {
+        return WORD;
+    }
     if handles(rows, w, h) == 0 {
         return WORD;
     }
@@ -250,6 +253,9 @@ fn count_in(rows: &[Number], marks: &[u64], w: usize, t: Number, f: Number) -> N
     requires { ⌜ w * word + word ≤ room references (table (now rows) (now marks)) ⌝ }
     ensures { λ k. ⌜ (k ≡ how-many (in-word (passes references (in-frame t f) (table (now (rows .entry)) (now (marks .entry)))) w) word) × (k ≤ word) ⌝ }
 {
+    if marks[w] == 0 {
+        return 0;
+    }
     let k = frames(rows, w, t, f);
     if k == 0 {
         return 0;
@@ -354,6 +360,9 @@ fn end_in(rows: &mut [Number], marks: &mut [u64], w: usize, t: Number, f: Number
     requires { ⌜ w * word + word ≤ room references (table (now rows) (now marks)) ⌝ }
     ensures { λ _. ⌜ table (now (rows .exit)) (now (marks .exit)) ≡ ended-from references (from-frame t f) (table (now (rows .entry)) (now (marks .entry))) (w * word) word ⌝ }
 {
+    if marks[w] == 0 {
+        return;
+    }
     if above(rows, w, t, f) != 0 {
         end_first(rows, marks, w, WORD, t, f);
     }
