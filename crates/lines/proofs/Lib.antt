@@ -6,13 +6,13 @@ pub mod Refusals
 pub mod Meant
 pub mod Worked
 pub mod Good
+pub mod Content
 mod Cut
 mod Field
 mod Gathering
 mod Counts
 mod InRange
 mod Raw
-mod Content
 mod I32
 mod Slots
 mod Held

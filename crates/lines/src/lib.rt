@@ -15,7 +15,7 @@ pub const TAB: u8 = b'\t';
 
 pub const LINE_FEED: u8 = b'\n';
 // A line has at most 128 bytes before LF.
-const LONGEST: usize = 128;
+pub const LONGEST: usize = 128;
 
 // Thread, env and eight handles.
 pub const MOST_FIELDS: usize = 10;

@@ -1,0 +1,5 @@
+pub mod Sizes
+pub mod Shifts
+pub mod Cuts
+pub mod Runs
+mod FirstLf
