@@ -127,10 +127,10 @@ pub capacity-held : (T : Table) (b b' : List ℕ) (t k n : ℕ) → k ≡ held T
 capacity-held T b b' t k n e q = q ∙ ap (λ (j : ℕ). capacity-raised b t (j + n)) e
 
 -- the test of a status is one of its bits
-zero-status : (s : ℤ) → SFits w32 s → ofZ w32 s ≡ 0 → is-zero s ≡ true
+pub zero-status : (s : ℤ) → SFits w32 s → ofZ w32 s ≡ 0 → is-zero s ≡ true
 zero-status s f h = ap is-zero (sym (toZ-ofZ f) ∙ ap (toZ w32) h)
 
-other-status : (s : ℤ) → (ofZ w32 s ≡ 0 → ⊥) → is-zero s ≡ false
+pub other-status : (s : ℤ) → (ofZ w32 s ≡ 0 → ⊥) → is-zero s ≡ false
 other-status (pos n) h = ne-eqb n 0 (λ e. h (ap (λ (k : ℕ). ofZ w32 (pos k)) e))
 other-status (negsuc n) h = refl
 

@@ -45,7 +45,7 @@ fn kind_rule(rows: &[u32], marks: &[u64], kind: u32, t: u32, h: u32) -> u32
 }
 
 // A handle or null.
-pub fn handle_or_null_rule(rows: &[u32], marks: &[u64], t: u32, h: u32) -> u32
+pub(crate) fn handle_or_null_rule(rows: &[u32], marks: &[u64], t: u32, h: u32) -> u32
     ensures { λ r. ⌜ r ≡ rule-number (place-rule Place.HandleOrNull t 0 h (seen-in (tables (now (rows .entry)) (now (marks .entry)) [] [] []))) ⌝ }
 {
     if h == 0 {
@@ -86,7 +86,7 @@ fn buffer_rule(pins: &[u32], pinmarks: &[u64], t: u32, f: u32, b: u32) -> u32
 }
 
 // A value at a place of function f, called by thread t.
-pub fn place_rule(
+pub(crate) fn place_rule(
     rows: &[u32],
     marks: &[u64],
     pins: &[u32],

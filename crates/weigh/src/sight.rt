@@ -12,7 +12,7 @@ const FIRST_CRITICAL: u32 = 10;
 const LAST_CRITICAL: u32 = 11;
 
 // A local is alive in the thread.
-pub fn local_alive(rows: &[u32], marks: &[u64], t: u32, h: u32) -> bool
+pub(crate) fn local_alive(rows: &[u32], marks: &[u64], t: u32, h: u32) -> bool
     ensures { λ r. ⌜ r ≡ ltb 0 (handles-in (table (now (rows .entry)) (now (marks .entry))) (is-local t h)) ⌝ }
 {
     if t == 0 {
@@ -22,14 +22,14 @@ pub fn local_alive(rows: &[u32], marks: &[u64], t: u32, h: u32) -> bool
 }
 
 // A global or a weak is alive.
-pub fn shared_alive(rows: &[u32], marks: &[u64], h: u32) -> bool
+pub(crate) fn shared_alive(rows: &[u32], marks: &[u64], h: u32) -> bool
     ensures { λ r. ⌜ r ≡ ltb 0 (handles-in (table (now (rows .entry)) (now (marks .entry))) (is-shared h)) ⌝ }
 {
     rows::references::find(rows, marks, 0, h) < rows::references::room(rows, marks)
 }
 
 // How many locals are alive in a frame of the thread.
-pub fn alive_in(rows: &[u32], marks: &[u64], t: u32, d: u32) -> usize
+pub(crate) fn alive_in(rows: &[u32], marks: &[u64], t: u32, d: u32) -> usize
     ensures { λ r. ⌜ r ≡ handles-in (table (now (rows .entry)) (now (marks .entry))) (in-frame t d) ⌝ }
 {
     if t == 0 {
@@ -39,14 +39,14 @@ pub fn alive_in(rows: &[u32], marks: &[u64], t: u32, d: u32) -> usize
 }
 
 // How many globals and weaks are alive.
-pub fn globals_alive(rows: &[u32], marks: &[u64]) -> usize
+pub(crate) fn globals_alive(rows: &[u32], marks: &[u64]) -> usize
     ensures { λ r. ⌜ r ≡ handles-in (table (now (rows .entry)) (now (marks .entry))) global-or-weak ⌝ }
 {
     rows::references::globals(rows, marks)
 }
 
 // A critical buffer of the thread is outstanding.
-pub fn in_critical(rows: &[u32], marks: &[u64], t: u32) -> bool
+pub(crate) fn in_critical(rows: &[u32], marks: &[u64], t: u32) -> bool
     ensures { λ r. ⌜ r ≡ ltb 0 (buffers-in (table (now (rows .entry)) (now (marks .entry))) (critical-of t)) ⌝ }
 {
     if t == 0 {
@@ -56,7 +56,7 @@ pub fn in_critical(rows: &[u32], marks: &[u64], t: u32) -> bool
 }
 
 // The buffer that function f of the thread releases is outstanding.
-pub fn is_outstanding(rows: &[u32], marks: &[u64], t: u32, f: u32, b: u32) -> bool
+pub(crate) fn is_outstanding(rows: &[u32], marks: &[u64], t: u32, f: u32, b: u32) -> bool
     ensures { λ r. ⌜ r ≡ ltb 0 (buffers-in (table (now (rows .entry)) (now (marks .entry))) (same-pin (pin t f b))) ⌝ }
 {
     let k = facts::family(f);

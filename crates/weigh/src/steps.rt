@@ -29,14 +29,14 @@ fn is_call_of(f: u32, top: Top) -> bool
 }
 
 // C and X want a native.
-pub fn in_native(book: &[u64], top: Top) -> bool
+pub(crate) fn in_native(book: &[u64], top: Top) -> bool
     ensures { λ r. ⌜ r ≡ (not (closed-in (now (book .entry))) && is-native (top-is top)) ⌝ }
 {
     !book::is_closed(book) & is_native(top)
 }
 
 // R wants an open call of the same function.
-pub fn in_call(book: &[u64], f: u32, top: Top) -> bool
+pub(crate) fn in_call(book: &[u64], f: u32, top: Top) -> bool
     ensures { λ r. ⌜ r ≡ (not (closed-in (now (book .entry))) && is-call-of f (top-is top)) ⌝ }
 {
     !book::is_closed(book) & is_call_of(f, top)

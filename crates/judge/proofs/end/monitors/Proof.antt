@@ -1,0 +1,13 @@
+-- `judge::end::monitors` meets its contract. Assumes nothing.
+use native.Mathlib.Omega.{arith}
+use denote.Ref.{now}
+use Rattle.judge.proofs.Dispatch.{monitors-fit}
+use borrow.Author.Needs.{needs}
+use Rattle.judge.proofs.end.monitors.Statement.{statement}
+use Rattle.judge.proofs.end.monitors.Tie as tie
+
+pub monitors-spec : {M : Type 1} → statement M
+monitors-spec = tie.close (tie.spec
+    (λ c κs. search needs)
+    (λ c. omega (arith, monitors-fit (now (c .before .before .args .book)), c .all-monitors .ensures))
+    (λ c. search needs))

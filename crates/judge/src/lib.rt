@@ -1,0 +1,145 @@
+// The judge over lent tables: a start, and one step.
+mod call;
+mod end;
+mod enter;
+mod give;
+mod leave;
+
+use answers::Answer;
+use lines::Event;
+ghost use mathlib.Core.Path.{_≡_};
+ghost use mathlib.Core.Bool.{false};
+ghost use Prim.Native.Nat.{suc, _≤_};
+ghost use Rattle.lines.specs.Line.{most-handles};
+ghost use Rattle.book.specs.Threads.{lines-in};
+ghost use Rattle.book.specs.Unfit.{unfit};
+ghost use Rattle.tables.specs.Tables.{tables};
+ghost use Rattle.tables.specs.Stepping.{start-of};
+ghost use Rattle.judge.specs.Outcome.{leaves, step-outcome, slots-told, event-outcome, by-book};
+
+const MOST_LINES: u64 = 1000000;
+
+// Clears all rows, marks and book.
+pub fn start(
+    rows: &mut [u32],
+    marks: &mut [u64],
+    pins: &mut [u32],
+    pinmarks: &mut [u64],
+    book: &mut [u64],
+)
+    ensures { λ _. ⌜ tables (now (rows .exit)) (now (marks .exit)) (now (pins .exit)) (now (pinmarks .exit)) (now (book .exit)) ≡ start-of (tables (now (rows .entry)) (now (marks .entry)) (now (pins .entry)) (now (pinmarks .entry)) (now (book .entry))) ⌝ }
+{
+    rows::clear(rows, marks);
+    rows::clear(pins, pinmarks);
+    book::clear(book);
+}
+
+// 8 where the book is not fit, then 1 for line 1,000,001; else 0.
+fn refused_by_book(book: &[u64]) -> u8
+    ensures { λ r. ⌜ r ≡ by-book (now (book .entry)) ⌝ }
+{
+    if book::unfit(book) {
+        return 8;
+    }
+    if MOST_LINES <= book::lines_of(book) {
+        return 1;
+    }
+    0
+}
+
+// The number of the next accepted line.
+fn next_number(book: &[u64]) -> u32
+    requires { ⌜ by-book (now book) ≡ 0 ⌝ }
+    ensures { λ r. ⌜ r ≡ suc (lines-in (now (book .entry))) ⌝ }
+{
+    book::lines_of(book) as u32 + 1
+}
+
+// A line that was read, or the number given instead of it. Line number `line`.
+fn on_event(
+    event: Event,
+    handles: [u32; 8],
+    rows: &mut [u32],
+    marks: &mut [u64],
+    pins: &mut [u32],
+    pinmarks: &mut [u64],
+    book: &mut [u64],
+    line: u32,
+) -> Answer
+    requires { ⌜ (line ≡ suc (lines-in (now book))) × (unfit (now book) ≡ false) × (slots-told event ≤ most-handles) ⌝ }
+    ensures { λ r. ⌜ leaves r (tables (now (rows .exit)) (now (marks .exit)) (now (pins .exit)) (now (pinmarks .exit)) (now (book .exit))) ≡ event-outcome (tables (now (rows .entry)) (now (marks .entry)) (now (pins .entry)) (now (pinmarks .entry)) (now (book .entry))) event handles ⌝ }
+{
+    match event {
+        Event::Enter { thread, env, count } => {
+            enter::enter(rows, marks, book, thread, env, &handles[..count as usize])
+        }
+        Event::Leave { thread, result } => {
+            leave::leave(rows, marks, pins, pinmarks, book, line, thread, result)
+        }
+        Event::Call {
+            thread,
+            env,
+            function,
+            a,
+            b,
+            c,
+            n,
+        } => call::call(
+            rows,
+            marks,
+            pins,
+            pinmarks,
+            book,
+            line,
+            thread,
+            env,
+            function,
+            a,
+            b,
+            c,
+            n,
+        ),
+        Event::Return {
+            thread,
+            function,
+            result,
+            status,
+            pending,
+        } => give::give(
+            rows,
+            marks,
+            pins,
+            pinmarks,
+            book,
+            line,
+            thread,
+            function,
+            result,
+            status,
+            pending,
+        ),
+        Event::End => end::end(rows, marks, pins, pinmarks, book, line),
+        Event::Refused(k) => answers::refused(k),
+    }
+}
+
+// One line of the trace, all its bytes with the LF: the number given instead of it, or its findings.
+pub fn step(
+    line: &[u8],
+    rows: &mut [u32],
+    marks: &mut [u64],
+    pins: &mut [u32],
+    pinmarks: &mut [u64],
+    book: &mut [u64],
+) -> Answer
+    ensures { λ r. ⌜ leaves r (tables (now (rows .exit)) (now (marks .exit)) (now (pins .exit)) (now (pinmarks .exit)) (now (book .exit))) ≡ step-outcome (tables (now (rows .entry)) (now (marks .entry)) (now (pins .entry)) (now (pinmarks .entry)) (now (book .entry))) (now (line .entry)) ⌝ }
+{
+    let k = refused_by_book(book);
+    if k != 0 {
+        return answers::refused(k);
+    }
+    let number = next_number(book);
+    let mut handles = [0; 8];
+    let event = lines::read_line(line, &mut handles);
+    on_event(event, handles, rows, marks, pins, pinmarks, book, number)
+}
