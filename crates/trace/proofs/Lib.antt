@@ -1,0 +1,5 @@
+pub mod Following
+pub mod Answering
+pub mod Cutting
+pub mod Going
+pub mod Reporting

@@ -1,0 +1,3 @@
+pub mod Following
+pub mod Whole
+pub mod Running
