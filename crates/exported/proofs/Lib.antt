@@ -1,0 +1,2 @@
+mod Fronts
+mod Answered

@@ -1,0 +1,23 @@
+-- `exported::weir_step` meets its contract. Assumes nothing.
+use mathlib.Core.Path.{_∙_}
+use mir.Syntax.{w32}
+use mir.Facts.{toZ-ofZ}
+use Rattle.exported.proofs.Answered.{few-found, step-told}
+use borrow.Author.Needs.{needs}
+use Rattle.exported.proofs.weir_step.Statement.{statement}
+use Rattle.exported.proofs.weir_step.Tie as tie
+
+pub weir-step-spec : {M : Type 1} → statement M
+weir-step-spec =
+    tie.close
+    (tie.spec
+    (λ c κs. search needs)
+    (λ c κs. few-found _ _ (c .before .before .before .before .before .before .before .before .before .before .before .step .ensures))
+    (λ c κs. few-found _ _ (c .before .before .before .before .before .before .before .before .before .before .before .before .before .before .step .ensures))
+    (λ c. search needs)
+    (λ c. search needs)
+    (λ c. search needs)
+    (λ c. search needs)
+    (λ c. search needs)
+    (λ c. search needs)
+    (λ c. step-told _ _ (c .before .before .before .before .before .before .before .before .before .before .before .before .before .before .before .step .ensures) _ (c .before .before .before .list .ensures) (toZ-ofZ {w = w32} {z = c .number-told .result} (search needs) ∙ c .number-told .ensures)))
