@@ -1,0 +1,11 @@
+-- That the promises of the exported judge are tight. Assumes nothing.
+use Rattle.exported.proofs as exported
+use Rattle.exported.specs.Told.{Told}
+use Rattle.tight.specs.Tight.{given, Tight}
+use Rattle.tight.proofs.Shapes.{by, by-tables, with-tables}
+
+pub weir-start-tight : Tight exported.weir_start.ended exported.weir_start.Reads.Asked exported.weir_start.Reads.Learnt
+weir-start-tight κs args = (tt, by-tables)
+
+pub weir-step-tight : Tight exported.weir_step.ended exported.weir_step.Reads.Asked exported.weir_step.Reads.Learnt
+weir-step-tight κs args = (tt, λ x y. by (λ (o : Told). given (o .number) (tt, with-tables (o .left) (o .found, tt))))

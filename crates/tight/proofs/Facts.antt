@@ -1,0 +1,25 @@
+-- That the promises of the function facts are tight. Assumes nothing.
+use Rattle.facts.proofs as facts
+use Rattle.tight.specs.Tight.{Tight}
+use Rattle.tight.proofs.Shapes.{by-reply}
+
+pub place-a-tight : Tight facts.place_a.ended facts.place_a.Reads.Asked facts.place_a.Reads.Learnt
+place-a-tight κs args = (tt, by-reply)
+
+pub place-b-tight : Tight facts.place_b.ended facts.place_b.Reads.Asked facts.place_b.Reads.Learnt
+place-b-tight κs args = (tt, by-reply)
+
+pub place-c-tight : Tight facts.place_c.ended facts.place_c.Reads.Asked facts.place_c.Reads.Learnt
+place-c-tight κs args = (tt, by-reply)
+
+pub result-of-tight : Tight facts.result_of.ended facts.result_of.Reads.Asked facts.result_of.Reads.Learnt
+result-of-tight κs args = (tt, by-reply)
+
+pub allowed-pending-tight : Tight facts.allowed_pending.ended facts.allowed_pending.Reads.Asked facts.allowed_pending.Reads.Learnt
+allowed-pending-tight κs args = (tt, by-reply)
+
+pub allowed-critical-tight : Tight facts.allowed_critical.ended facts.allowed_critical.Reads.Asked facts.allowed_critical.Reads.Learnt
+allowed-critical-tight κs args = (tt, by-reply)
+
+pub family-tight : Tight facts.family.ended facts.family.Reads.Asked facts.family.Reads.Learnt
+family-tight κs args = (tt, by-reply)

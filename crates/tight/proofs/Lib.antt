@@ -1,0 +1,17 @@
+pub mod Shapes
+pub mod Facts
+pub mod Numbers
+pub mod Lines
+pub mod Writer
+pub mod Recorder
+pub mod Reader
+pub mod Rows
+pub mod Book
+pub mod Answers
+pub mod Report
+pub mod Weigh
+pub mod Act
+pub mod Judge
+pub mod Exported
+pub mod Pieces
+pub mod Trace

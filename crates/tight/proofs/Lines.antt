@@ -1,0 +1,13 @@
+-- That the promises of the line reader are tight. Assumes nothing.
+use Rattle.lines.proofs as lines
+use Rattle.tight.specs.Tight.{given, Tight}
+use Rattle.tight.proofs.Shapes.{by-two, by-reply}
+
+pub read-line-tight : Tight lines.read_line.ended lines.read_line.Reads.Asked lines.read_line.Reads.Learnt
+read-line-tight κs args = (tt, λ x y. by-two (λ r slots. given r (tt, (slots, tt))))
+
+pub gives-status-tight : Tight lines.ranges.gives_status.ended lines.ranges.gives_status.Reads.Asked lines.ranges.gives_status.Reads.Learnt
+gives-status-tight κs args = (tt, by-reply)
+
+pub is-good-tight : Tight lines.ranges.is_good.ended lines.ranges.is_good.Reads.Asked lines.ranges.is_good.Reads.Learnt
+is-good-tight κs args = (tt, by-reply)

@@ -1,0 +1,19 @@
+-- That the promises of the exported writers are tight. Assumes nothing.
+use Rattle.recorder.proofs as recorder
+use Rattle.tight.specs.Tight.{Tight}
+use Rattle.tight.proofs.Shapes.{by-reply-and-slice}
+
+pub weir-enter-tight : Tight recorder.weir_enter.ended recorder.weir_enter.Reads.Asked recorder.weir_enter.Reads.Learnt
+weir-enter-tight κs args = (tt, by-reply-and-slice)
+
+pub weir-leave-tight : Tight recorder.weir_leave.ended recorder.weir_leave.Reads.Asked recorder.weir_leave.Reads.Learnt
+weir-leave-tight κs args = (tt, by-reply-and-slice)
+
+pub weir-call-tight : Tight recorder.weir_call.ended recorder.weir_call.Reads.Asked recorder.weir_call.Reads.Learnt
+weir-call-tight κs args = (tt, by-reply-and-slice)
+
+pub weir-return-tight : Tight recorder.weir_return.ended recorder.weir_return.Reads.Asked recorder.weir_return.Reads.Learnt
+weir-return-tight κs args = (tt, by-reply-and-slice)
+
+pub weir-end-tight : Tight recorder.weir_end.ended recorder.weir_end.Reads.Asked recorder.weir_end.Reads.Learnt
+weir-end-tight κs args = (tt, by-reply-and-slice)

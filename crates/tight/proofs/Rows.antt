@@ -1,0 +1,61 @@
+-- That the promises of the lent rows and marks are tight. Assumes nothing.
+use Rattle.rows.proofs as rows
+use Rattle.tight.specs.Tight.{Tight}
+use Rattle.tight.proofs.Shapes.{by-reply, by-table, by-reply-and-table}
+
+pub clear-tight : Tight rows.clear.ended rows.clear.Reads.Asked rows.clear.Reads.Learnt
+clear-tight κs args = (tt, by-table)
+
+pub references-room-tight : Tight rows.references.room.ended rows.references.room.Reads.Asked rows.references.room.Reads.Learnt
+references-room-tight κs args = (tt, by-reply)
+
+pub references-lowest-free-tight : Tight rows.references.lowest_free.ended rows.references.lowest_free.Reads.Asked rows.references.lowest_free.Reads.Learnt
+references-lowest-free-tight κs args = (tt, by-reply)
+
+pub references-alive-tight : Tight rows.references.alive.ended rows.references.alive.Reads.Asked rows.references.alive.Reads.Learnt
+references-alive-tight κs args = (tt, by-reply)
+
+pub references-store-tight : Tight rows.references.store.ended rows.references.store.Reads.Asked rows.references.store.Reads.Learnt
+references-store-tight κs args = (tt, by-table)
+
+pub references-take-tight : Tight rows.references.take.ended rows.references.take.Reads.Asked rows.references.take.Reads.Learnt
+references-take-tight κs args = (tt, by-reply-and-table)
+
+pub references-end-tight : Tight rows.references.end.ended rows.references.end.Reads.Asked rows.references.end.Reads.Learnt
+references-end-tight κs args = (tt, by-table)
+
+pub references-find-tight : Tight rows.references.find.ended rows.references.find.Reads.Asked rows.references.find.Reads.Learnt
+references-find-tight κs args = (tt, by-reply)
+
+pub references-count-tight : Tight rows.references.count.ended rows.references.count.Reads.Asked rows.references.count.Reads.Learnt
+references-count-tight κs args = (tt, by-reply)
+
+pub references-globals-tight : Tight rows.references.globals.ended rows.references.globals.Reads.Asked rows.references.globals.Reads.Learnt
+references-globals-tight κs args = (tt, by-reply)
+
+pub references-end-frames-tight : Tight rows.references.end_frames.ended rows.references.end_frames.Reads.Asked rows.references.end_frames.Reads.Learnt
+references-end-frames-tight κs args = (tt, by-table)
+
+pub pins-room-tight : Tight rows.pins.room.ended rows.pins.room.Reads.Asked rows.pins.room.Reads.Learnt
+pins-room-tight κs args = (tt, by-reply)
+
+pub pins-lowest-free-tight : Tight rows.pins.lowest_free.ended rows.pins.lowest_free.Reads.Asked rows.pins.lowest_free.Reads.Learnt
+pins-lowest-free-tight κs args = (tt, by-reply)
+
+pub pins-alive-tight : Tight rows.pins.alive.ended rows.pins.alive.Reads.Asked rows.pins.alive.Reads.Learnt
+pins-alive-tight κs args = (tt, by-reply)
+
+pub pins-store-tight : Tight rows.pins.store.ended rows.pins.store.Reads.Asked rows.pins.store.Reads.Learnt
+pins-store-tight κs args = (tt, by-table)
+
+pub pins-take-tight : Tight rows.pins.take.ended rows.pins.take.Reads.Asked rows.pins.take.Reads.Learnt
+pins-take-tight κs args = (tt, by-reply-and-table)
+
+pub pins-end-tight : Tight rows.pins.end.ended rows.pins.end.Reads.Asked rows.pins.end.Reads.Learnt
+pins-end-tight κs args = (tt, by-table)
+
+pub pins-find-tight : Tight rows.pins.find.ended rows.pins.find.Reads.Asked rows.pins.find.Reads.Learnt
+pins-find-tight κs args = (tt, by-reply)
+
+pub pins-outstanding-tight : Tight rows.pins.outstanding.ended rows.pins.outstanding.Reads.Asked rows.pins.outstanding.Reads.Learnt
+pins-outstanding-tight κs args = (tt, by-reply)

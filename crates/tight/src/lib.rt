@@ -1,0 +1,1 @@
+// That each public function's promise leaves nothing open. There is no code here.
