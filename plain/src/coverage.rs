@@ -37,7 +37,7 @@ const REFUSALS: [(u8, &str); 25] = [
 ];
 
 /// The line letters, rules and places of all findings there can be.
-const BREACHES: [(&str, u8, u8); 26] = [
+pub(crate) const BREACHES: [(&str, u8, u8); 26] = [
     ("C", 1, 0),
     ("C", 2, 0),
     ("C", 3, 0),
@@ -157,13 +157,13 @@ impl fmt::Display for Coverage {
 }
 
 /// The sum of some counts, and each of them by its name.
-fn parts(named: Vec<(String, u64)>) -> String {
+pub(crate) fn parts(named: Vec<(String, u64)>) -> String {
     let sum: u64 = named.iter().map(|(_, count)| count).sum();
     let each = named.iter().map(|(name, count)| format!("{name} {count}"));
     format!("{sum} ({})", each.collect::<Vec<_>>().join(", "))
 }
 
-fn letter(line: &[u8]) -> &'static str {
+pub(crate) fn letter(line: &[u8]) -> &'static str {
     match line.first() {
         Some(b'N') => "N",
         Some(b'X') => "X",

@@ -1,7 +1,11 @@
-//! Helpers of the tests: traces written with spaces for tabs, judged to their end.
+//! Helpers of the tests: traces written with spaces for tabs, judged to their end, and lent tables.
 
 use plain::findings::Findings;
 use plain::judge::Judge;
+use plain::lent::book::WIDTH;
+use plain::lent::rows::{Row, STRIDE, WORD};
+use plain::lent::slices::Slices;
+use plain::lent::step;
 
 /// A line given with spaces for tabs and without its LF.
 pub fn line(text: &str) -> Vec<u8> {
@@ -61,4 +65,79 @@ pub fn refusal_with(reference_rows: usize, pin_rows: usize, lines: &[&str]) -> u
     let (last, before) = lines.split_last().expect("a line");
     let (mut judge, _) = judged_with(reference_rows, pin_rows, before);
     judge.step(&line(last)).expect_err("a refused last line")
+}
+
+/// What the tests do with lent tables.
+pub trait Lent {
+    /// Tables of so many rows that have accepted these lines.
+    fn after(reference_rows: usize, pin_rows: usize, lines: &[&str]) -> Self;
+
+    /// A step, which must leave everything untouched where it refuses.
+    fn step(&mut self, line: &[u8]) -> Result<Findings, u8>;
+
+    /// The findings of a line that is accepted.
+    fn accepts(&mut self, text: &str) -> Vec<String>;
+
+    /// The number by which a line is refused.
+    fn refuses(&mut self, text: &str) -> u8;
+
+    /// A number of the book.
+    fn at(&mut self, row: usize, column: usize) -> &mut u64;
+
+    /// Writes a reference row and marks it.
+    fn put_reference(&mut self, index: usize, row: Row);
+
+    /// Writes a pin row and marks it.
+    fn put_pin(&mut self, index: usize, row: Row);
+}
+
+impl Lent for Slices {
+    #[track_caller]
+    fn after(reference_rows: usize, pin_rows: usize, lines: &[&str]) -> Slices {
+        let mut lent = Slices::new(reference_rows, pin_rows);
+        for text in lines {
+            lent.accepts(text);
+        }
+        lent
+    }
+
+    #[track_caller]
+    fn step(&mut self, line: &[u8]) -> Result<Findings, u8> {
+        let before = self.clone();
+        let stepped = step(&mut self.lend(), line);
+        if stepped.is_err() {
+            assert_eq!(*self, before);
+        }
+        stepped
+    }
+
+    #[track_caller]
+    fn accepts(&mut self, text: &str) -> Vec<String> {
+        match self.step(&line(text)) {
+            Ok(findings) => told(&findings),
+            Err(refusal) => panic!("{text} is refused with {refusal}"),
+        }
+    }
+
+    #[track_caller]
+    fn refuses(&mut self, text: &str) -> u8 {
+        match self.step(&line(text)) {
+            Ok(findings) => panic!("{text} is accepted with {:?}", told(&findings)),
+            Err(refusal) => refusal,
+        }
+    }
+
+    fn at(&mut self, row: usize, column: usize) -> &mut u64 {
+        &mut self.book[row * WIDTH + column]
+    }
+
+    fn put_reference(&mut self, index: usize, row: Row) {
+        self.rows[index * STRIDE..][..STRIDE].copy_from_slice(&row);
+        self.marks[index / WORD] |= 1 << (index % WORD);
+    }
+
+    fn put_pin(&mut self, index: usize, row: Row) {
+        self.pins[index * STRIDE..][..STRIDE].copy_from_slice(&row);
+        self.pin_marks[index / WORD] |= 1 << (index % WORD);
+    }
 }

@@ -3,6 +3,9 @@
 mod acts;
 mod common;
 mod facts;
+mod foreign;
+mod foreign_maker;
+mod lent;
 mod lines;
 mod maker;
 mod programs;

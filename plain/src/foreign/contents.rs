@@ -1,0 +1,399 @@
+//! What foreign tables hold: any numbers, numbers that fit each other in part, or what a judge left with some numbers changed.
+
+use super::lengths::{great, of_book, of_rows};
+use crate::facts::{FIRST_FUNCTION, LAST_FUNCTION};
+use crate::judge::MOST_LINES;
+use crate::lent::book::*;
+use crate::lent::rows::{Row, STRIDE, WORD};
+use crate::lent::slices::Slices;
+use crate::lent::{start, step};
+use crate::line::THREADS;
+use crate::make;
+use crate::random::Random;
+use crate::thread::MOST_ITEMS;
+
+/// Tables, and lines of a trace that may follow.
+#[derive(Clone, Debug)]
+pub struct Foreign {
+    pub profile: &'static str,
+    pub slices: Slices,
+    pub lines: Vec<Vec<u8>>,
+}
+
+/// A number of more than 32 bits.
+const HIGH: u64 = 1 << 32;
+
+pub fn make(random: &mut Random) -> Foreign {
+    match random.below(100) {
+        0..4 => nothing(),
+        4..10 => wild(random),
+        10..59 => small(random),
+        59 => full(random),
+        60..65 => started(random),
+        _ => damaged(random),
+    }
+}
+
+/// Five empty slices.
+fn nothing() -> Foreign {
+    let mut slices = Slices::new(0, 0);
+    slices.book.clear();
+    Foreign {
+        profile: "nothing",
+        slices,
+        lines: Vec::new(),
+    }
+}
+
+/// Any numbers.
+fn wild(random: &mut Random) -> Foreign {
+    let mut slices = lengths(random);
+    for number in slices.rows.iter_mut().chain(&mut slices.pins) {
+        *number = random.number() as u32;
+    }
+    let words = slices.marks.iter_mut().chain(&mut slices.pin_marks);
+    for number in words.chain(&mut slices.book) {
+        *number = random.number();
+    }
+    Foreign {
+        profile: "wild",
+        slices,
+        lines: Vec::new(),
+    }
+}
+
+/// Small numbers, so that counts, tops, threads and handles meet; the book is mostly fit.
+fn small(random: &mut Random) -> Foreign {
+    let mut slices = lengths(random);
+    let threads = random.pick(&[1, 2, 4, THREADS]);
+    for row in slices.rows.chunks_mut(STRIDE) {
+        row.copy_from_slice(&small_reference(random, threads)[..row.len()]);
+    }
+    for row in slices.pins.chunks_mut(STRIDE) {
+        row.copy_from_slice(&small_pin(random, threads)[..row.len()]);
+    }
+    some_marks(random, &mut slices.marks);
+    some_marks(random, &mut slices.pin_marks);
+    small_book(random, &mut slices.book, threads);
+    if random.percent(15) && slices.book.len() >= WHOLE {
+        spoil_book(random, &mut slices.book);
+    }
+    Foreign {
+        profile: "small",
+        slices,
+        lines: Vec::new(),
+    }
+}
+
+/// About as many rows as a room can have, all of them used but some at its end.
+fn full(random: &mut Random) -> Foreign {
+    let mut slices = Slices::new(great(random), great(random));
+    for row in slices.rows.chunks_mut(STRIDE) {
+        row.copy_from_slice(&[0, 2, 0]);
+    }
+    let (rows, pins) = (slices.rows.len(), slices.pins.len());
+    for row in slices.rows[rows - 8 * STRIDE..].chunks_mut(STRIDE) {
+        row.copy_from_slice(&small_reference(random, 2));
+    }
+    for row in slices.pins[pins - 8 * STRIDE..].chunks_mut(STRIDE) {
+        row.copy_from_slice(&small_pin(random, 2));
+    }
+    for marks in [&mut slices.marks, &mut slices.pin_marks] {
+        marks.fill(u64::MAX);
+        let last = marks.len() - 1;
+        marks[last - 1] >>= random.below(5);
+        marks[last] = random.number();
+    }
+    small_book(random, &mut slices.book, 2);
+    Foreign {
+        profile: "full",
+        slices,
+        lines: Vec::new(),
+    }
+}
+
+/// Lengths of every sort, and a start over any numbers.
+fn started(random: &mut Random) -> Foreign {
+    let mut foreign = wild(random);
+    start(&mut foreign.slices.lend());
+    Foreign {
+        profile: "started",
+        ..foreign
+    }
+}
+
+/// What the step leaves of a trace from a start, with some numbers changed.
+fn damaged(random: &mut Random) -> Foreign {
+    let (mut slices, lines) = traced(random);
+    for _ in 0..random.below(7) {
+        match random.below(9) {
+            0 => damage_row(random, &mut slices.rows),
+            1 => damage_row(random, &mut slices.pins),
+            2 => damage_marks(random, &mut slices.marks),
+            3 => damage_marks(random, &mut slices.pin_marks),
+            _ => damage_book(random, &mut slices.book),
+        }
+    }
+    Foreign {
+        profile: "damaged",
+        slices,
+        lines,
+    }
+}
+
+/// Tables from a start and some lines of a made trace, and the rest of the trace.
+fn traced(random: &mut Random) -> (Slices, Vec<Vec<u8>>) {
+    let mut slices = lengths(random);
+    slices.book.resize(WHOLE, 0);
+    let tables = slices.lend();
+    let (references, pins) = (tables.references.rows().room(), tables.pins.rows().room());
+    let profile = &make::PROFILES[random.below(make::PROFILES.len())];
+    let lines = random.between(2, 120) as usize;
+    let trace = make::make(profile, random.number(), lines, references, pins);
+    let mut lines: Vec<Vec<u8>> = trace
+        .split_inclusive(|&byte| byte == b'\n')
+        .map(Vec::from)
+        .collect();
+    let rest = lines.split_off(random.below(lines.len() + 1));
+    let mut tables = slices.lend();
+    for line in lines {
+        // A refused line leaves the tables as they are.
+        let _ = step(&mut tables, &line);
+    }
+    (slices, rest)
+}
+
+/// Slices of some lengths, every number 0.
+fn lengths(random: &mut Random) -> Slices {
+    let (rows, marks) = of_rows(random);
+    let (pins, pin_marks) = of_rows(random);
+    Slices {
+        rows: vec![0; rows],
+        marks: vec![0; marks],
+        pins: vec![0; pins],
+        pin_marks: vec![0; pin_marks],
+        book: vec![0; of_book(random)],
+    }
+}
+
+// ---- rows and marks
+
+fn small_number(random: &mut Random) -> u32 {
+    random.between(0, 20)
+}
+
+fn small_reference(random: &mut Random, threads: u32) -> Row {
+    let frame = match random.below(8) {
+        0 => random.pick(&[63, 64, 65, u32::MAX]),
+        _ => alike(random, 4),
+    };
+    [owner(random, threads), alike(random, 60), frame]
+}
+
+fn small_pin(random: &mut Random, threads: u32) -> Row {
+    [owner(random, threads), alike(random, 13), alike(random, 9)]
+}
+
+/// A number up to the greatest, or sometimes one that is like it in its low bits.
+fn alike(random: &mut Random, greatest: u32) -> u32 {
+    let number = random.between(0, greatest);
+    if random.percent(5) {
+        number + random.pick(&[1 << 8, 1 << 16, 1 << 31])
+    } else {
+        number
+    }
+}
+
+/// The thread in a row: none, one of the first so many, or one that there is not.
+fn owner(random: &mut Random, threads: u32) -> u32 {
+    match random.below(20) {
+        0..=5 => 0,
+        6 => random.pick(&[17, 100, u32::MAX]),
+        7 => alike(random, THREADS),
+        _ => random.between(1, threads),
+    }
+}
+
+/// Marks of one density.
+fn some_marks(random: &mut Random, marks: &mut [u64]) {
+    let chance = random.pick(&[0, 10, 50, 90, 99, 100]);
+    for word in marks {
+        for bit in 0..WORD {
+            *word |= u64::from(random.percent(chance)) << bit;
+        }
+    }
+}
+
+fn damage_row(random: &mut Random, rows: &mut [u32]) {
+    if rows.is_empty() {
+        return;
+    }
+    let at = if random.percent(70) {
+        random.below(rows.len().min(60))
+    } else {
+        random.below(rows.len())
+    };
+    rows[at] = match random.below(4) {
+        0 => random.number() as u32,
+        1 => rows[at].wrapping_add(random.pick(&[1, u32::MAX])),
+        2 => rows[random.below(rows.len())],
+        _ => small_number(random),
+    };
+}
+
+fn damage_marks(random: &mut Random, marks: &mut [u64]) {
+    if marks.is_empty() {
+        return;
+    }
+    let at = random.below(marks.len());
+    match random.below(8) {
+        0 => marks[at] = random.pick(&[0, u64::MAX]),
+        1 => marks[at] = random.number(),
+        _ => marks[at] ^= 1 << random.below(WORD),
+    }
+}
+
+// ---- the book
+
+/// A book of which most threads could be those of a judge, with other numbers in the cells that nothing should read.
+fn small_book(random: &mut Random, book: &mut [u64], threads: u32) {
+    let unread = random.below(3);
+    for number in book.iter_mut() {
+        *number = match unread {
+            0 => 0,
+            1 => small_number(random).into(),
+            _ => random.number(),
+        };
+    }
+    if book.len() < WHOLE {
+        return;
+    }
+    book[LINES] = random.pick(&[
+        0,
+        0,
+        1,
+        7,
+        1_000,
+        u64::from(MOST_LINES) - 2,
+        u64::from(MOST_LINES) - 1,
+    ]);
+    book[CLOSED] = 0;
+    if random.percent(4) {
+        book[CLOSED] = random.pick(&[1, 2, HIGH, u64::MAX]);
+    }
+    if random.percent(4) {
+        book[LINES] = MOST_LINES.into();
+    }
+    for (number, row) in (0..=THREADS).zip(book.chunks_mut(WIDTH)).skip(1) {
+        small_thread(random, row, number, number <= threads);
+    }
+}
+
+fn small_thread(random: &mut Random, row: &mut [u64], number: u32, is_open: bool) {
+    let own = u64::from(100 * number);
+    row[ENV] = match random.below(20) {
+        0 => random.pick(&[100, 200, 300, 400]),
+        1 => HIGH + own,
+        2 => random.pick(&[1, u64::from(u32::MAX), HIGH, u64::MAX]),
+        3..=6 => 0,
+        _ => own,
+    };
+    row[PENDING] = random.pick(&[0, 0, 0, 0, 1, 1, 2, HIGH + 1, u64::MAX]);
+    row[MONITORS] = random.pick(&[0, 0, 0, 1, 2, u64::from(MOST_LINES) - 1, MOST_LINES.into()]);
+    let depth = random.pick(&[1, 1, 2, 3, 4, 8, 63, 64]);
+    row[FRAMES] = if is_open || random.percent(20) {
+        depth
+    } else {
+        0
+    };
+    row[ITEMS] = match row[FRAMES] {
+        0 => 0,
+        _ => random.pick(&[0, 1, 1, 2, 2, 3, 4, 8, 63, 64, 64]),
+    };
+    row[NATIVES] = match random.below(3) {
+        0 => row[FRAMES],
+        1 => row[FRAMES].min(row[ITEMS].div_ceil(2)),
+        _ => random.below(row[FRAMES] as usize + 1) as u64,
+    };
+    for index in 0..row[FRAMES] as usize {
+        row[CAPACITIES + index] = random.pick(&[0, 1, 2, 3, 16, 16, HIGH, HIGH + 1, u64::MAX]);
+        row[PUSHED + index] = random.pick(&[0, 0, 0, 1, 1, 2, HIGH, u64::MAX]);
+    }
+    for index in 0..row[ITEMS] as usize {
+        row[FUNCTIONS + index] = item_function(random);
+        row[ASKED + index] = random.pick(&[
+            0,
+            0,
+            1,
+            3,
+            16,
+            0x7fff_ffff,
+            0xffff_ffff,
+            HIGH,
+            HIGH + 3,
+            u64::MAX,
+        ]);
+    }
+}
+
+/// A native, an open call, or what is neither from a start.
+fn item_function(random: &mut Random) -> u64 {
+    let called = match random.below(3) {
+        0 => random.between(FIRST_FUNCTION, LAST_FUNCTION),
+        1 => random.pick(&[6, 20, 21, 25, 226, 31, 165, 183, 222, 224]),
+        _ => random.pick(&[19, 19, 26, 217, 218]),
+    };
+    match random.below(20) {
+        0 => HIGH * random.pick(&[1, 7, HIGH - 1]) + u64::from(called),
+        1 => random.pick(&[1, 3, 233, HIGH, HIGH - 1, u64::MAX]),
+        2..=9 => 0,
+        _ => called.into(),
+    }
+}
+
+/// Gives one thread, or the trace, a count that makes the book unfit.
+fn spoil_book(random: &mut Random, book: &mut [u64]) {
+    let row = random.between(1, THREADS) as usize * WIDTH;
+    let most = u64::from(MOST_LINES);
+    match random.below(6) {
+        0 => {
+            book[row + FRAMES] = book[row + FRAMES].max(1);
+            book[row + ITEMS] = random.pick(&[MOST_ITEMS as u64 + 1, HIGH, u64::MAX]);
+        }
+        1 => book[row + FRAMES] = random.pick(&[65, HIGH, HIGH + 1, u64::MAX]),
+        2 => book[row + NATIVES] = book[row + FRAMES] + random.pick(&[1, HIGH]),
+        3 => {
+            book[row + FRAMES] = 0;
+            book[row + NATIVES] = 0;
+            book[row + ITEMS] = random.pick(&[1, 2, 64]);
+        }
+        4 => book[row + MONITORS] = random.pick(&[most + 1, HIGH, u64::MAX]),
+        _ => book[LINES] = random.pick(&[most + 1, HIGH, u64::MAX]),
+    }
+}
+
+/// Changes a number of the trace or of a thread, the columns with a meaning of their own more often.
+fn damage_book(random: &mut Random, book: &mut [u64]) {
+    let row = random.between(0, THREADS) as usize * WIDTH;
+    let column = match random.below(12) {
+        0 => LINES,
+        1 => CLOSED,
+        2 => ENV,
+        3 => PENDING,
+        4 => MONITORS,
+        5 => FRAMES,
+        6 => ITEMS,
+        7 => NATIVES,
+        8 => CAPACITIES + random.below(4),
+        9 => PUSHED + random.below(4),
+        10 => FUNCTIONS + random.below(4),
+        _ => random.below(WIDTH),
+    };
+    let at = row + column;
+    book[at] = match random.below(5) {
+        0 => random.number(),
+        1 => book[at].wrapping_add(random.pick(&[1, HIGH, u64::MAX])),
+        2 => random.pick(&[63, 64, 65, u64::from(MOST_LINES) - 1, u64::from(MOST_LINES)]),
+        _ => random.between(0, 3).into(),
+    };
+}

@@ -1,0 +1,43 @@
+//! The lengths of lent slices: whole rows with their marks, and every other sort.
+
+use crate::lent::book::WHOLE;
+use crate::lent::rows::{STRIDE, WORD};
+use crate::random::Random;
+use crate::rows::MOST_ROOM;
+
+/// How many numbers of rows and how many words of marks are lent.
+pub fn of_rows(random: &mut Random) -> (usize, usize) {
+    let rows = match random.below(200) {
+        0 => great(random),
+        1..=9 => random.between(600, 3_000) as usize,
+        10..=29 => 0,
+        30..=79 => random.pick(&[1, 2, 63, 64, 65, 127, 128, 129]),
+        80..=139 => random.below(20),
+        _ => random.below(200),
+    };
+    let numbers = rows * STRIDE;
+    let words = rows.div_ceil(WORD);
+    match random.below(10) {
+        0 => (numbers + 1, words),
+        1 => (numbers + 2, words),
+        2 => (numbers, words + random.below(4)),
+        3 => (numbers, words.saturating_sub(1)),
+        4 => (random.below(numbers + 1), random.below(words + 2)),
+        _ => (numbers, words),
+    }
+}
+
+/// About as many rows as a room can have.
+pub fn great(random: &mut Random) -> usize {
+    MOST_ROOM - 2 + random.below(5)
+}
+
+/// How many numbers of a thread book are lent: mostly a whole one.
+pub fn of_book(random: &mut Random) -> usize {
+    match random.below(40) {
+        0 => random.pick(&[0, 1, WHOLE - 1, WHOLE / 2]),
+        1 => random.below(WHOLE),
+        2..=5 => WHOLE + 1 + random.below(600),
+        _ => WHOLE,
+    }
+}

@@ -1,0 +1,241 @@
+//! Lines to step over foreign tables: those of a trace, damaged and odd ones, and lines aimed at what stands in the tables.
+
+use crate::damage::{damage_bytes, damage_fields, odd_line};
+use crate::edge::edge_line;
+use crate::facts::*;
+use crate::judge::MOST_LINES;
+use crate::lent::book::Top;
+use crate::lent::rows::{Row, Rows};
+use crate::lent::Tables;
+use crate::line::{write, Event, MOST_BYTES, MOST_HANDLES, THREADS};
+use crate::random::Random;
+
+/// The releases of the families in their order.
+const RELEASES: [u32; 12] = [166, 170, 191, 192, 193, 194, 195, 196, 197, 198, 223, 225];
+
+/// Whether every line is refused over these tables, whatever it says.
+pub fn is_over(tables: &Tables) -> bool {
+    let book = &tables.book;
+    book.is_unfit() || book.is_closed() || book.lines() == MOST_LINES.into()
+}
+
+/// The next line: of the lines that may follow the first is taken out, as long as there are any.
+pub fn line(tables: &Tables, follow: &mut Vec<Vec<u8>>, random: &mut Random) -> Vec<u8> {
+    match random.below(100) {
+        0..3 => odd_line(random),
+        3..6 => edge_line(random),
+        6..14 => damaged(tables, random),
+        14..40 if !follow.is_empty() => follow.remove(0),
+        _ => aimed(tables, random),
+    }
+}
+
+fn damaged(tables: &Tables, random: &mut Random) -> Vec<u8> {
+    let mut lines = vec![aimed(tables, random)];
+    if random.percent(50) {
+        damage_fields(&mut lines, random);
+    } else {
+        damage_bytes(&mut lines, random);
+    }
+    lines.swap_remove(0)
+}
+
+/// A line that the tables' open items mostly allow, its numbers mostly such as stand in the tables.
+fn aimed(tables: &Tables, random: &mut Random) -> Vec<u8> {
+    if random.percent(2) {
+        return b"Z\n".to_vec();
+    }
+    let aim = Aim {
+        tables,
+        is_unfit: tables.book.is_unfit(),
+    };
+    let thread = aim.thread(random);
+    let mut written = [0; MOST_BYTES + 1];
+    let length = loop {
+        // A number from the tables may be one that no line can have.
+        if let Ok(length) = write(&aim.event(thread, random), &mut written) {
+            break length;
+        }
+    };
+    written[..length].to_vec()
+}
+
+struct Aim<'a, 'b> {
+    tables: &'a Tables<'b>,
+    /// Nothing is asked of the book then.
+    is_unfit: bool,
+}
+
+impl Aim<'_, '_> {
+    /// One with open items, if some tries give one.
+    fn thread(&self, random: &mut Random) -> u32 {
+        let mut thread = random.between(1, THREADS);
+        for _ in 0..8 {
+            if self.top(thread) != Top::Nothing || random.percent(15) {
+                break;
+            }
+            thread = random.between(1, THREADS);
+        }
+        thread
+    }
+
+    fn top(&self, thread: u32) -> Top {
+        if self.is_unfit {
+            return Top::Nothing;
+        }
+        self.tables.book.top(thread)
+    }
+
+    fn event(&self, thread: u32, random: &mut Random) -> Event {
+        let choice = random.below(100);
+        match self.top(thread) {
+            _ if choice < 4 => self.enter(thread, random),
+            _ if choice < 7 => self.leave(thread, random),
+            _ if choice < 10 => self.call(thread, random),
+            _ if choice < 13 => self.answer(thread, a_function(random), random),
+            Top::Nothing => self.enter(thread, random),
+            Top::Native if choice < 25 => self.leave(thread, random),
+            Top::Native => self.call(thread, random),
+            Top::Call { .. } if choice < 30 => self.enter(thread, random),
+            Top::Call { function, .. } if facts(function).is_some() => {
+                self.answer(thread, function, random)
+            }
+            Top::Call { .. } => self.enter(thread, random),
+        }
+    }
+
+    fn enter(&self, thread: u32, random: &mut Random) -> Event {
+        let count = match random.below(4) {
+            0 => random.below(MOST_HANDLES + 1),
+            _ => random.below(3),
+        };
+        let mut handles = [0; MOST_HANDLES];
+        for handle in &mut handles[..count] {
+            *handle = self.handle(thread, random) / 4 * 4 + LOCAL;
+        }
+        Event::N {
+            thread,
+            env: self.env(thread, random),
+            count,
+            handles,
+        }
+    }
+
+    fn leave(&self, thread: u32, random: &mut Random) -> Event {
+        Event::X {
+            thread,
+            result: self.handle(thread, random),
+        }
+    }
+
+    fn call(&self, thread: u32, random: &mut Random) -> Event {
+        // Now and then the release of what stands in some pin row.
+        let pin = any_row(self.tables.pins.rows(), random).filter(|_| random.percent(10));
+        let release = pin.and_then(|[_, family, _]| RELEASES.get(family as usize % 256).copied());
+        let function = release.unwrap_or_else(|| a_function(random));
+        let facts = known(function);
+        let places = facts.places.map(|kind| match (kind, pin) {
+            (PlaceKind::Unused, _) => 0,
+            (PlaceKind::Identity, _) if random.percent(60) => 8,
+            (PlaceKind::Buffer(_), Some([_, _, buffer])) => buffer,
+            (PlaceKind::Buffer(family), None) => self.buffer(thread, family, random),
+            _ => self.handle(thread, random),
+        });
+        let capacity = if facts.uses_capacity {
+            random.pick(&[i32::MIN, -1, 0, 1, 2, 16, i32::MAX])
+        } else {
+            0
+        };
+        Event::C {
+            thread,
+            env: self.env(thread, random),
+            function,
+            places,
+            capacity,
+        }
+    }
+
+    fn answer(&self, thread: u32, function: u32, random: &mut Random) -> Event {
+        let handle = self.handle(thread, random);
+        let null = random.percent(10);
+        let result = match known(function).result {
+            ResultKind::Status => random.pick(&[0, 0, 0, 0, -1, 1]),
+            ResultKind::Nothing => 0,
+            _ if null => 0,
+            ResultKind::Local => i64::from(handle / 4 * 4 + LOCAL),
+            ResultKind::Global => i64::from(handle / 4 * 4 + GLOBAL),
+            ResultKind::Weak => i64::from(handle / 4 * 4 + WEAK),
+            ResultKind::Identity => i64::from(handle / 4 * 4),
+            ResultKind::Buffer(_) => random.between(0, 9).into(),
+        };
+        Event::R {
+            thread,
+            function,
+            result,
+            pending: random.percent(30).into(),
+        }
+    }
+
+    /// Mostly the thread's own, as far as a line can name it.
+    fn env(&self, thread: u32, random: &mut Random) -> u32 {
+        let other = random.between(1, THREADS);
+        if self.is_unfit || random.percent(8) {
+            return 100 * other;
+        }
+        let of = if random.percent(90) { thread } else { other };
+        match self.tables.book.env(of) as u32 {
+            0 => 100 * thread,
+            env => env,
+        }
+    }
+
+    /// A handle that stands in some row, or a small number.
+    fn handle(&self, thread: u32, random: &mut Random) -> u32 {
+        let rows = self.tables.references.rows();
+        let wanted = random.pick(&[thread, thread, 0]);
+        match random.below(10) {
+            0..4 => row_of(rows, wanted, random).map(|[_, handle, _]| handle),
+            4..6 => any_row(rows, random).map(|[_, handle, _]| handle),
+            6 => Some(random.pick(&[0, 0, 4, u32::MAX, u32::MAX - 1, u32::MAX - 2])),
+            7 => Some(random.between(61, 200)),
+            _ => None,
+        }
+        .unwrap_or_else(|| random.between(0, 60))
+    }
+
+    fn buffer(&self, thread: u32, family: Family, random: &mut Random) -> u32 {
+        let rows = self.tables.pins.rows();
+        let wanted = if family.is_critical() { thread } else { 0 };
+        match random.below(4) {
+            0 => row_of(rows, wanted, random).map(|[_, _, buffer]| buffer),
+            1 => any_row(rows, random).map(|[_, _, buffer]| buffer),
+            _ => None,
+        }
+        .unwrap_or_else(|| random.between(0, 9))
+    }
+}
+
+/// Each function as often, or one of those that do more or take a rare place.
+fn a_function(random: &mut Random) -> u32 {
+    if random.percent(40) {
+        return random.between(FIRST_FUNCTION, LAST_FUNCTION);
+    }
+    random.pick(&[
+        6, 19, 20, 20, 20, 21, 22, 22, 23, 23, 24, 26, 64, 104, 154, 165, 166, 170, 191, 218, 222,
+        223, 225, 226, 227, 227,
+    ])
+}
+
+/// A row of the room, used or not; the last ones more often.
+fn any_row(rows: &Rows, random: &mut Random) -> Option<Row> {
+    let span = if random.percent(20) { 4 } else { rows.room() };
+    let last = rows.room().checked_sub(1)?;
+    Some(rows.row(last - random.below(span.min(rows.room()))))
+}
+
+/// A row of this thread, if some tries give one.
+fn row_of(rows: &Rows, thread: u32, random: &mut Random) -> Option<Row> {
+    (0..12)
+        .filter_map(|_| any_row(rows, random))
+        .find(|row| row[0] == thread)
+}

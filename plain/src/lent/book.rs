@@ -1,0 +1,262 @@
+//! The lent thread book: row 0 for the trace and a row for each thread, whatever they hold.
+
+use crate::judge::MOST_LINES;
+use crate::line::THREADS;
+use crate::thread::{MOST_FRAMES, MOST_ITEMS};
+
+/// Numbers to a row, and to a book.
+pub const WIDTH: usize = 264;
+pub const WHOLE: usize = (1 + THREADS as usize) * WIDTH;
+
+/// The columns of row 0.
+pub const LINES: usize = 0;
+pub const CLOSED: usize = 1;
+/// The columns of a thread's row; the lowest frame and the lowest open item stand first.
+pub const ENV: usize = 2;
+pub const PENDING: usize = 3;
+pub const MONITORS: usize = 4;
+pub const FRAMES: usize = 5;
+pub const CAPACITIES: usize = 6;
+pub const PUSHED: usize = 70;
+pub const ITEMS: usize = 134;
+pub const NATIVES: usize = 135;
+pub const FUNCTIONS: usize = 136;
+pub const ASKED: usize = 200;
+
+/// What stands for a native among the functions of open items.
+pub const NATIVE: u64 = 0;
+
+/// The top of a thread's open items.
+#[derive(Clone, Copy, Debug, PartialEq, Eq)]
+pub enum Top {
+    Nothing,
+    Native,
+    /// A call's function, and max(n,0) of its C.
+    Call {
+        function: u32,
+        asked: u32,
+    },
+}
+
+/// What makes a book unfit.
+#[derive(Clone, Copy, Debug, PartialEq, Eq)]
+pub enum Fault {
+    /// The book is short.
+    Short,
+    /// Over 1,000,000 lines.
+    Lines,
+    /// Over 64 open items.
+    Items,
+    /// Over 64 frames.
+    Frames,
+    /// More natives than frames.
+    Natives,
+    /// Open items in a thread without a frame.
+    ItemsWithoutFrame,
+    /// Over 1,000,000 monitors.
+    Monitors,
+}
+
+pub struct Book<'a>(&'a mut [u64]);
+
+impl<'a> Book<'a> {
+    pub fn new(book: &'a mut [u64]) -> Book<'a> {
+        Book(book)
+    }
+
+    pub fn clear(&mut self) {
+        self.0.fill(0);
+    }
+
+    /// Refusal 8. All that is asked below is asked of a book that is fit.
+    pub fn is_unfit(&self) -> bool {
+        !self.faults().is_empty()
+    }
+
+    /// All that makes the book unfit, by the counts that stand in it; row 0 has none but its lines.
+    pub fn faults(&self) -> Vec<Fault> {
+        if self.0.len() < WHOLE {
+            return vec![Fault::Short];
+        }
+        let mut faults = Vec::new();
+        if self.lines() > MOST_LINES.into() {
+            faults.push(Fault::Lines);
+        }
+        for thread in 1..=THREADS {
+            let items = self.number(thread, ITEMS);
+            let frames = self.number(thread, FRAMES);
+            if items > MOST_ITEMS as u64 {
+                faults.push(Fault::Items);
+            }
+            if frames > MOST_FRAMES as u64 {
+                faults.push(Fault::Frames);
+            }
+            if self.number(thread, NATIVES) > frames {
+                faults.push(Fault::Natives);
+            }
+            if items > 0 && frames == 0 {
+                faults.push(Fault::ItemsWithoutFrame);
+            }
+            if self.monitors(thread) > MOST_LINES.into() {
+                faults.push(Fault::Monitors);
+            }
+        }
+        faults
+    }
+
+    // ---- the trace
+
+    pub fn lines(&self) -> u64 {
+        self.number(0, LINES)
+    }
+
+    pub fn count_line(&mut self) {
+        self.put(0, LINES, self.lines() + 1);
+    }
+
+    /// Any number but 0 says that Z has come.
+    pub fn is_closed(&self) -> bool {
+        self.number(0, CLOSED) != 0
+    }
+
+    pub fn close(&mut self) {
+        self.put(0, CLOSED, 1);
+    }
+
+    // ---- a thread
+
+    /// All 64 bits of it; 0 before the first N.
+    pub fn env(&self, thread: u32) -> u64 {
+        self.number(thread, ENV)
+    }
+
+    pub fn set_env(&mut self, thread: u32, env: u32) {
+        self.put(thread, ENV, env.into());
+    }
+
+    /// Only the number 1 says that an exception is pending.
+    pub fn is_pending(&self, thread: u32) -> bool {
+        self.number(thread, PENDING) == 1
+    }
+
+    pub fn set_pending(&mut self, thread: u32, pending: u32) {
+        self.put(thread, PENDING, pending.into());
+    }
+
+    pub fn monitors(&self, thread: u32) -> u64 {
+        self.number(thread, MONITORS)
+    }
+
+    pub fn add_monitor(&mut self, thread: u32) {
+        self.put(thread, MONITORS, self.monitors(thread) + 1);
+    }
+
+    pub fn take_monitor(&mut self, thread: u32) {
+        self.put(thread, MONITORS, self.monitors(thread).saturating_sub(1));
+    }
+
+    // ---- its frames, numbered from 1
+
+    /// How many frames, which is also the number of the top one.
+    pub fn frames(&self, thread: u32) -> u32 {
+        self.number(thread, FRAMES) as u32
+    }
+
+    pub fn set_frames(&mut self, thread: u32, frames: u32) {
+        self.put(thread, FRAMES, frames.into());
+    }
+
+    /// Any number but 0 says that the frame was pushed.
+    pub fn is_pushed(&self, thread: u32, frame: u32) -> bool {
+        self.number(thread, PUSHED + frame as usize - 1) != 0
+    }
+
+    /// A thread without frames has no pushed one on top.
+    pub fn is_top_pushed(&self, thread: u32) -> bool {
+        let top = self.frames(thread);
+        top > 0 && self.is_pushed(thread, top)
+    }
+
+    /// The frames below the top native's: pushed ones are left out from the top, then the native's own, if there is one.
+    pub fn frames_below_native(&self, thread: u32) -> u32 {
+        let mut frame = self.frames(thread);
+        while frame > 0 && self.is_pushed(thread, frame) {
+            frame -= 1;
+        }
+        frame.saturating_sub(1)
+    }
+
+    /// All 64 bits of it.
+    pub fn capacity(&self, thread: u32, frame: u32) -> u64 {
+        self.number(thread, CAPACITIES + frame as usize - 1)
+    }
+
+    pub fn set_capacity(&mut self, thread: u32, frame: u32, capacity: u64) {
+        self.put(thread, CAPACITIES + frame as usize - 1, capacity);
+    }
+
+    pub fn push_frame(&mut self, thread: u32, capacity: u32, pushed: bool) {
+        let frames = self.frames(thread);
+        self.put(thread, CAPACITIES + frames as usize, capacity.into());
+        self.put(thread, PUSHED + frames as usize, pushed.into());
+        self.set_frames(thread, frames + 1);
+    }
+
+    // ---- its open items
+
+    pub fn items(&self, thread: u32) -> usize {
+        self.number(thread, ITEMS) as usize
+    }
+
+    /// The number 0 is a native; of any other, and of what was asked, the lowest 32 bits count.
+    pub fn top(&self, thread: u32) -> Top {
+        let items = self.items(thread);
+        if items == 0 {
+            return Top::Nothing;
+        }
+        let function = self.number(thread, FUNCTIONS + items - 1);
+        let asked = self.number(thread, ASKED + items - 1);
+        if function == NATIVE {
+            return Top::Native;
+        }
+        Top::Call {
+            function: function as u32,
+            asked: asked as u32,
+        }
+    }
+
+    pub fn push_native(&mut self, thread: u32) {
+        self.push_item(thread, NATIVE, 0);
+        self.put(thread, NATIVES, self.number(thread, NATIVES) + 1);
+    }
+
+    pub fn push_call(&mut self, thread: u32, function: u32, asked: u32) {
+        self.push_item(thread, function.into(), asked.into());
+    }
+
+    /// The top item ends; its two numbers stay. A foreign book may count too few natives.
+    pub fn pop_item(&mut self, thread: u32) {
+        if self.top(thread) == Top::Native {
+            let natives = self.number(thread, NATIVES);
+            self.put(thread, NATIVES, natives.saturating_sub(1));
+        }
+        self.put(thread, ITEMS, self.number(thread, ITEMS) - 1);
+    }
+
+    fn push_item(&mut self, thread: u32, function: u64, asked: u64) {
+        let items = self.items(thread);
+        self.put(thread, FUNCTIONS + items, function);
+        self.put(thread, ASKED + items, asked);
+        self.put(thread, ITEMS, items as u64 + 1);
+    }
+
+    // ---- numbers
+
+    fn number(&self, row: u32, column: usize) -> u64 {
+        self.0[row as usize * WIDTH + column]
+    }
+
+    fn put(&mut self, row: u32, column: usize, number: u64) {
+        self.0[row as usize * WIDTH + column] = number;
+    }
+}

@@ -1,0 +1,306 @@
+//! Holds the proved judge to the plain one over foreign tables: each reply, the findings, every number of every slice and those around it.
+
+use plain::findings::Findings;
+use plain::foreign::coverage::Coverage;
+use plain::foreign::{is_over, line, make, Foreign};
+use plain::lent::reply::{reply, FINDING};
+use plain::lent::{start, step, Tables};
+use plain::random::Random;
+use plain::rows::MOST_ROOM;
+use std::fmt::Debug;
+use std::ops::Range;
+use std::process::ExitCode;
+use std::time::{Duration, Instant};
+
+const USAGE: &str = "usage: foreign [--seed S] [--cases N] [--seconds T]";
+
+/// The numbers before and after each slice, which are nobody's: a row of the book and more.
+const GUARD: usize = 300;
+/// The numbers of six findings, and some more.
+const MOST_FOUND: usize = 6 * FINDING + 4;
+/// The most steps of a case, and of one with a great room.
+const STEPS: usize = 24;
+const GREAT_STEPS: usize = 8;
+
+extern "C" {
+    fn weir_start(
+        rows: *mut u32,
+        rows_length: usize,
+        marks: *mut u64,
+        marks_length: usize,
+        pins: *mut u32,
+        pins_length: usize,
+        pin_marks: *mut u64,
+        pin_marks_length: usize,
+        book: *mut u64,
+        book_length: usize,
+    );
+    fn weir_step(
+        line: *const u8,
+        line_length: usize,
+        rows: *mut u32,
+        rows_length: usize,
+        marks: *mut u64,
+        marks_length: usize,
+        pins: *mut u32,
+        pins_length: usize,
+        pin_marks: *mut u64,
+        pin_marks_length: usize,
+        book: *mut u64,
+        book_length: usize,
+        found: *mut u32,
+        found_length: usize,
+    ) -> i32;
+}
+
+struct Wish {
+    seed: u64,
+    cases: u64,
+    time: Duration,
+}
+
+fn main() -> ExitCode {
+    let arguments: Vec<String> = std::env::args().skip(1).collect();
+    let Some(wish) = wish(&arguments) else {
+        eprintln!("{USAGE}");
+        return ExitCode::from(2);
+    };
+    let begun = Instant::now();
+    let mut coverage = Coverage::default();
+    let mut cases = 0;
+    while cases < wish.cases && begun.elapsed() < wish.time {
+        let seed = wish.seed.wrapping_add(cases);
+        if let Err(difference) = compare(seed, &mut coverage) {
+            println!("a difference: foreign --seed {seed} --cases 1");
+            println!("{difference}");
+            return ExitCode::FAILURE;
+        }
+        cases += 1;
+    }
+    println!("foreign: {cases} cases; {coverage}");
+    if !coverage.is_whole() {
+        println!("foreign: something of this never came up, so nothing is said");
+        return ExitCode::FAILURE;
+    }
+    println!("foreign: the proved judge and the plain one agree");
+    ExitCode::SUCCESS
+}
+
+/// Without a number of cases as many as 20 seconds give.
+fn wish(arguments: &[String]) -> Option<Wish> {
+    let (mut seed, mut cases, mut seconds) = (1, None, None);
+    for option in arguments.chunks(2) {
+        let [name, value] = option else {
+            return None;
+        };
+        let number = value.parse().ok()?;
+        match name.as_str() {
+            "--seed" => seed = number,
+            "--cases" => cases = Some(number),
+            "--seconds" => seconds = Some(number),
+            _ => return None,
+        }
+    }
+    let time = match (cases, seconds) {
+        (_, Some(seconds)) => Duration::from_secs(seconds),
+        (Some(_), None) => Duration::MAX,
+        (None, None) => Duration::from_secs(20),
+    };
+    Some(Wish {
+        seed,
+        cases: cases.unwrap_or(u64::MAX),
+        time,
+    })
+}
+
+/// Both judges take the same steps over tables of their own, from the same numbers; what first differs.
+fn compare(seed: u64, coverage: &mut Coverage) -> Result<(), String> {
+    let mut random = Random::new(seed);
+    let Foreign {
+        profile,
+        slices,
+        mut lines,
+    } = make(&mut random);
+    let most = if slices.rows.len() + slices.pins.len() > MOST_ROOM {
+        GREAT_STEPS
+    } else {
+        STEPS
+    };
+    let mut plain = Lent {
+        rows: Guarded::new(slices.rows, &mut random),
+        marks: Guarded::new(slices.marks, &mut random),
+        pins: Guarded::new(slices.pins, &mut random),
+        pin_marks: Guarded::new(slices.pin_marks, &mut random),
+        book: Guarded::new(slices.book, &mut random),
+    };
+    let mut proved = plain.clone();
+    for number in 1..=1 + random.below(most) {
+        let (told, same) = if random.percent(4) {
+            start(&mut plain.tables());
+            proved_start(&mut proved);
+            coverage.add_start();
+            ("a start".to_string(), Ok(()))
+        } else {
+            let line = line(&plain.tables(), &mut lines, &mut random);
+            let stepped = step(&mut plain.tables(), &line);
+            coverage.add(&plain.tables(), &line, &stepped);
+            let same = compare_replies(&mut proved, &line, &stepped, &mut random);
+            (shown(&line), same)
+        };
+        same.and_then(|()| proved.compare(&plain))
+            .map_err(|what| format!("tables {profile}, step {number}, {told}: {what}"))?;
+        if is_over(&plain.tables()) && random.percent(40) {
+            break;
+        }
+    }
+    Ok(())
+}
+
+/// Takes the proved step and holds its reply and its findings to what the plain step gave.
+fn compare_replies(
+    proved: &mut Lent,
+    line: &[u8],
+    stepped: &Result<Findings, u8>,
+    random: &mut Random,
+) -> Result<(), String> {
+    let length = if random.percent(70) {
+        MOST_FOUND
+    } else {
+        random.below(MOST_FOUND)
+    };
+    let mut wanted_found = Guarded::new(vec![7; length], random);
+    let mut found = wanted_found.clone();
+    let wanted = reply(stepped, wanted_found.lent());
+    let wanted_line = Guarded::new(line.to_vec(), random);
+    let mut line = wanted_line.clone();
+    let given = proved_step(proved, line.lent(), found.lent());
+    if given != wanted {
+        return Err(format!("the reply is {given}, not {wanted}"));
+    }
+    found.compare("found", &wanted_found)?;
+    line.compare("line", &wanted_line)
+}
+
+fn proved_start(lent: &mut Lent) {
+    let (rows, marks) = (lent.rows.lent(), lent.marks.lent());
+    let (pins, pin_marks) = (lent.pins.lent(), lent.pin_marks.lent());
+    let book = lent.book.lent();
+    // SAFETY: each pointer is that of a slice of the length that follows it.
+    unsafe {
+        weir_start(
+            rows.as_mut_ptr(),
+            rows.len(),
+            marks.as_mut_ptr(),
+            marks.len(),
+            pins.as_mut_ptr(),
+            pins.len(),
+            pin_marks.as_mut_ptr(),
+            pin_marks.len(),
+            book.as_mut_ptr(),
+            book.len(),
+        )
+    }
+}
+
+fn proved_step(lent: &mut Lent, line: &[u8], found: &mut [u32]) -> i32 {
+    let (rows, marks) = (lent.rows.lent(), lent.marks.lent());
+    let (pins, pin_marks) = (lent.pins.lent(), lent.pin_marks.lent());
+    let book = lent.book.lent();
+    // SAFETY: each pointer is that of a slice of the length that follows it.
+    unsafe {
+        weir_step(
+            line.as_ptr(),
+            line.len(),
+            rows.as_mut_ptr(),
+            rows.len(),
+            marks.as_mut_ptr(),
+            marks.len(),
+            pins.as_mut_ptr(),
+            pins.len(),
+            pin_marks.as_mut_ptr(),
+            pin_marks.len(),
+            book.as_mut_ptr(),
+            book.len(),
+            found.as_mut_ptr(),
+            found.len(),
+        )
+    }
+}
+
+/// A line as it is told, cut if it is very long.
+fn shown(line: &[u8]) -> String {
+    const MOST: usize = 200;
+    let start = String::from_utf8_lossy(&line[..line.len().min(MOST)]);
+    format!("{start:?} ({} bytes)", line.len())
+}
+
+/// Five slices, each guarded.
+#[derive(Clone)]
+struct Lent {
+    rows: Guarded<u32>,
+    marks: Guarded<u64>,
+    pins: Guarded<u32>,
+    pin_marks: Guarded<u64>,
+    book: Guarded<u64>,
+}
+
+impl Lent {
+    fn tables(&mut self) -> Tables<'_> {
+        Tables::new(
+            self.rows.lent(),
+            self.marks.lent(),
+            self.pins.lent(),
+            self.pin_marks.lent(),
+            self.book.lent(),
+        )
+    }
+
+    fn compare(&self, wanted: &Lent) -> Result<(), String> {
+        self.rows.compare("rows", &wanted.rows)?;
+        self.marks.compare("marks", &wanted.marks)?;
+        self.pins.compare("pins", &wanted.pins)?;
+        self.pin_marks.compare("pin marks", &wanted.pin_marks)?;
+        self.book.compare("book", &wanted.book)
+    }
+}
+
+/// A slice to lend, with numbers before and after it that are nobody's: small ones, which could be taken for the slice's own.
+#[derive(Clone)]
+struct Guarded<T>(Vec<T>);
+
+impl<T: Copy + PartialEq + Debug + From<u8>> Guarded<T> {
+    fn new(lent: Vec<T>, random: &mut Random) -> Guarded<T> {
+        let mut guard = || -> Vec<T> {
+            let kind = random.pick(&[1, 2, 20, 256]);
+            let number = |_| T::from(random.below(kind) as u8);
+            (0..GUARD).map(number).collect()
+        };
+        Guarded([guard(), lent, guard()].concat())
+    }
+
+    fn place(&self) -> Range<usize> {
+        GUARD..self.0.len() - GUARD
+    }
+
+    fn lent(&mut self) -> &mut [T] {
+        let place = self.place();
+        &mut self.0[place]
+    }
+
+    /// The first number that is not the wanted one, the guards among them.
+    fn compare(&self, name: &str, wanted: &Guarded<T>) -> Result<(), String> {
+        if self.0 == wanted.0 {
+            return Ok(());
+        }
+        let numbers = self.0.iter().zip(&wanted.0);
+        let at = numbers
+            .take_while(|(number, wanted)| number == wanted)
+            .count();
+        let (number, wanted) = (self.0[at], wanted.0[at]);
+        let length = self.place().len();
+        let index = at as isize - GUARD as isize;
+        Err(format!(
+            "{name}[{index}], of length {length}, is {number:?}, not {wanted:?}"
+        ))
+    }
+}
