@@ -1,0 +1,232 @@
+//! Holds the proved step to the plain judge's on every line of the given traces, then times both over the rows that the program lends.
+
+use plain::judge::Judge;
+use plain::lent::reply::{reply, FINDING};
+use plain::lent::slices::Slices;
+use plain::report::{PIN_ROWS, REFERENCE_ROWS};
+use std::hint::black_box;
+use std::path::Path;
+use std::process::ExitCode;
+
+/// The judges take turns after so many lines.
+const TURN: usize = 10_000;
+/// The numbers of six findings.
+const FOUND: usize = 6 * FINDING;
+
+extern "C" {
+    fn weir_start(
+        rows: *mut u32,
+        rows_length: usize,
+        marks: *mut u64,
+        marks_length: usize,
+        pins: *mut u32,
+        pins_length: usize,
+        pin_marks: *mut u64,
+        pin_marks_length: usize,
+        book: *mut u64,
+        book_length: usize,
+    );
+    fn weir_step(
+        line: *const u8,
+        line_length: usize,
+        rows: *mut u32,
+        rows_length: usize,
+        marks: *mut u64,
+        marks_length: usize,
+        pins: *mut u32,
+        pins_length: usize,
+        pin_marks: *mut u64,
+        pin_marks_length: usize,
+        book: *mut u64,
+        book_length: usize,
+        found: *mut u32,
+        found_length: usize,
+    ) -> i32;
+    fn clock_gettime(clock: i32, time: *mut Time) -> i32;
+}
+
+fn main() -> ExitCode {
+    let arguments: Vec<String> = std::env::args().skip(1).collect();
+    let (rounds, files) = match arguments.split_first() {
+        Some((rounds, files)) if !files.is_empty() => (rounds.parse().unwrap_or(0), files),
+        _ => (0, &arguments[..]),
+    };
+    if rounds == 0 {
+        eprintln!("usage: judge ROUNDS TRACE..");
+        return ExitCode::from(2);
+    }
+    println!("the step, processor time in ns a line");
+    println!(
+        "{:10} {:>8} {:>8} {:>8} {:>8} {:>6}",
+        "trace", "lines", "findings", "proved", "plain", "ratio"
+    );
+    for file in files {
+        let trace = match std::fs::read(file) {
+            Ok(trace) => trace,
+            Err(error) => {
+                eprintln!("judge: {file}: {error}");
+                return ExitCode::FAILURE;
+            }
+        };
+        let lines: Vec<&[u8]> = trace.split_inclusive(|&byte| byte == b'\n').collect();
+        let findings = match compare(&lines) {
+            Ok(findings) => findings,
+            Err(difference) => {
+                println!("the judges differ on {difference}");
+                return ExitCode::FAILURE;
+            }
+        };
+        let (proved, plain) = times(&lines, rounds);
+        let name = Path::new(file).file_stem().unwrap_or_default();
+        println!(
+            "{:10} {:8} {findings:8} {proved:8.1} {plain:8.1} {:6.2}",
+            name.to_string_lossy(),
+            lines.len(),
+            proved / plain
+        );
+    }
+    ExitCode::SUCCESS
+}
+
+/// Both judges on every line: how many findings, or the line on which they differ.
+fn compare(lines: &[&[u8]]) -> Result<usize, String> {
+    let (mut proved, mut plain) = (Proved::new(), Judge::new(REFERENCE_ROWS, PIN_ROWS));
+    let mut findings = 0;
+    for (line, number) in lines.iter().zip(1..) {
+        let mut wanted_found = [0; FOUND];
+        let wanted = reply(&plain.step(line), &mut wanted_found);
+        proved.found = [0; FOUND];
+        let given = proved.step(line);
+        if (given, proved.found) != (wanted, wanted_found) {
+            let line = String::from_utf8_lossy(line);
+            return Err(format!(
+                "line {number}, {line:?}: proved {given} {:?}, plain {wanted} {wanted_found:?}",
+                proved.found
+            ));
+        }
+        findings += wanted.max(0) as usize;
+    }
+    Ok(findings)
+}
+
+/// The nanoseconds a line takes the proved and the plain judge, medians of so many rounds over the whole trace.
+fn times(lines: &[&[u8]], rounds: usize) -> (f64, f64) {
+    let mut taken = (Vec::new(), Vec::new());
+    for _ in 0..rounds {
+        let (mut proved, mut plain) = (Proved::new(), Judge::new(REFERENCE_ROWS, PIN_ROWS));
+        let (mut proved_time, mut plain_time) = (0.0, 0.0);
+        for turn in lines.chunks(TURN) {
+            proved_time += time(|| {
+                for line in turn {
+                    black_box(proved.step(black_box(line)));
+                    black_box(&proved.found);
+                }
+            });
+            plain_time += time(|| {
+                for line in turn {
+                    let _ = black_box(plain.step(black_box(line)));
+                }
+            });
+        }
+        taken.0.push(proved_time / lines.len() as f64);
+        taken.1.push(plain_time / lines.len() as f64);
+    }
+    (median(taken.0), median(taken.1))
+}
+
+fn median(mut numbers: Vec<f64>) -> f64 {
+    numbers.sort_by(f64::total_cmp);
+    numbers[numbers.len() / 2]
+}
+
+/// The proved judge and its tables.
+struct Proved {
+    slices: Slices,
+    found: [u32; FOUND],
+}
+
+impl Proved {
+    fn new() -> Proved {
+        let mut slices = Slices::new(REFERENCE_ROWS, PIN_ROWS);
+        let Slices {
+            rows,
+            marks,
+            pins,
+            pin_marks,
+            book,
+        } = &mut slices;
+        // SAFETY: each pointer is that of a slice of the length that follows it.
+        unsafe {
+            weir_start(
+                rows.as_mut_ptr(),
+                rows.len(),
+                marks.as_mut_ptr(),
+                marks.len(),
+                pins.as_mut_ptr(),
+                pins.len(),
+                pin_marks.as_mut_ptr(),
+                pin_marks.len(),
+                book.as_mut_ptr(),
+                book.len(),
+            );
+        }
+        Proved {
+            slices,
+            found: [0; FOUND],
+        }
+    }
+
+    fn step(&mut self, line: &[u8]) -> i32 {
+        let Slices {
+            rows,
+            marks,
+            pins,
+            pin_marks,
+            book,
+        } = &mut self.slices;
+        // SAFETY: each pointer is that of a slice of the length that follows it.
+        unsafe {
+            weir_step(
+                line.as_ptr(),
+                line.len(),
+                rows.as_mut_ptr(),
+                rows.len(),
+                marks.as_mut_ptr(),
+                marks.len(),
+                pins.as_mut_ptr(),
+                pins.len(),
+                pin_marks.as_mut_ptr(),
+                pin_marks.len(),
+                book.as_mut_ptr(),
+                book.len(),
+                self.found.as_mut_ptr(),
+                self.found.len(),
+            )
+        }
+    }
+}
+
+/// What `clock_gettime` writes on a 64-bit Linux.
+#[repr(C)]
+struct Time {
+    seconds: i64,
+    nanoseconds: i64,
+}
+
+/// The processor time that this thread has taken, in nanoseconds.
+fn taken() -> f64 {
+    const CLOCK_THREAD_CPUTIME_ID: i32 = 3;
+    let mut time = Time {
+        seconds: 0,
+        nanoseconds: 0,
+    };
+    // SAFETY: the function writes one time where it is told to.
+    unsafe { clock_gettime(CLOCK_THREAD_CPUTIME_ID, &mut time) };
+    time.seconds as f64 * 1e9 + time.nanoseconds as f64
+}
+
+fn time(turn: impl FnOnce()) -> f64 {
+    let start = taken();
+    turn();
+    taken() - start
+}
