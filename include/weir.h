@@ -9,7 +9,7 @@
  *
  *   above 0     how many bytes the line has, LF included: d[0] to d[r - 1]. There is no NUL after them.
  *   WEIR_BAD    -3: the numbers are no line that a judge would take: one is out of its range, or is not what the function's
- *               row in the table of JNI functions has.
+ *               row in the table of JNI functions (crates/facts/specs/Table.antt) has.
  *   WEIR_SHORT  -7: the line has more bytes than the buffer. Given only where the numbers are good.
  *
  * and nothing else. On a refusal (WEIR_BAD, WEIR_SHORT) nothing is written. Bytes past a written line stay as they were.
@@ -22,6 +22,8 @@
  *   function    4 to 232, the function's place in the JNI function table
  *   handles     0 to 4294967295, 0 being null. In a handle the remainder by 4 is its kind: 1 local, 2 global, 3 weak.
  *               Method and field identities have remainder 0. Buffers may have each remainder.
+ *
+ * Array releases in commit mode (JNI_COMMIT) are not recorded: they free nothing, and a judge would take them for releases.
  */
 #ifndef WEIR_H
 #define WEIR_H
