@@ -1,5 +1,8 @@
 //! Holds the proved step to the plain judge's on every line of the given traces, then times both over the rows that the program lends.
 
+mod exported;
+
+use exported::{weir_start, weir_step};
 use plain::judge::Judge;
 use plain::lent::reply::{reply, FINDING};
 use plain::lent::slices::Slices;
@@ -14,34 +17,6 @@ const TURN: usize = 10_000;
 const FOUND: usize = 6 * FINDING;
 
 extern "C" {
-    fn weir_start(
-        rows: *mut u32,
-        rows_length: usize,
-        marks: *mut u64,
-        marks_length: usize,
-        pins: *mut u32,
-        pins_length: usize,
-        pin_marks: *mut u64,
-        pin_marks_length: usize,
-        book: *mut u64,
-        book_length: usize,
-    );
-    fn weir_step(
-        line: *const u8,
-        line_length: usize,
-        rows: *mut u32,
-        rows_length: usize,
-        marks: *mut u64,
-        marks_length: usize,
-        pins: *mut u32,
-        pins_length: usize,
-        pin_marks: *mut u64,
-        pin_marks_length: usize,
-        book: *mut u64,
-        book_length: usize,
-        found: *mut u32,
-        found_length: usize,
-    ) -> i32;
     fn clock_gettime(clock: i32, time: *mut Time) -> i32;
 }
 

@@ -1,5 +1,9 @@
 //! Holds the proved judge to the plain one over foreign tables: each reply, the findings, every number of every slice and those around it.
 
+#[path = "../bench/exported.rs"]
+mod exported;
+
+use exported::{weir_start, weir_step};
 use plain::findings::Findings;
 use plain::foreign::coverage::Coverage;
 use plain::foreign::{is_over, line, make, Foreign};
@@ -21,37 +25,6 @@ const MOST_FOUND: usize = 6 * FINDING + 4;
 /// The most steps of a case, and of one with a great room.
 const STEPS: usize = 24;
 const GREAT_STEPS: usize = 8;
-
-extern "C" {
-    fn weir_start(
-        rows: *mut u32,
-        rows_length: usize,
-        marks: *mut u64,
-        marks_length: usize,
-        pins: *mut u32,
-        pins_length: usize,
-        pin_marks: *mut u64,
-        pin_marks_length: usize,
-        book: *mut u64,
-        book_length: usize,
-    );
-    fn weir_step(
-        line: *const u8,
-        line_length: usize,
-        rows: *mut u32,
-        rows_length: usize,
-        marks: *mut u64,
-        marks_length: usize,
-        pins: *mut u32,
-        pins_length: usize,
-        pin_marks: *mut u64,
-        pin_marks_length: usize,
-        book: *mut u64,
-        book_length: usize,
-        found: *mut u32,
-        found_length: usize,
-    ) -> i32;
-}
 
 struct Wish {
     seed: u64,
