@@ -1,6 +1,6 @@
 -- `judge::leave::leave` meets its contract. Assumes nothing.
 use Rattle.judge.proofs.Following.{leave-stays, leave-goes}
-use borrow.Author.Needs.{needs}
+use mathlib.Core.Path.{refl, _∙_}
 use Rattle.judge.proofs.leave.leave.Statement.{statement}
 use Rattle.judge.proofs.leave.leave.Tie as tie
 
@@ -8,15 +8,15 @@ pub leave-spec : {M : Type 1} → statement M
 leave-spec =
     tie.close
     (tie.spec
-    (λ c κs. search needs)
-    (λ c κs. search needs)
-    (λ c. search needs)
-    (λ c. search needs)
-    (λ c. search needs)
+    (λ c κs. tt)
+    (λ c κs. tt)
+    (λ c. refl)
+    (λ c. refl)
+    (λ c. refl)
     (λ c. leave-stays _ _ _ _ _ _ (c .before .before .before .before .before .before .before .before .before .before .before .before .before .pre) (c .before .before .before .before .before .before .top-item .ensures) (c .before .before .leave .ensures) (c .if1 .taken))
-    (λ c κs. search needs)
-    (λ c κs. search needs)
-    (λ c. search needs)
-    (λ c. search needs)
-    (λ c. search needs)
+    (λ c κs. tt)
+    (λ c κs. tt)
+    (λ c. c .before .before .before .before .before .before .before .before .before .before .leave2 .kept .0)
+    (λ c. c .before .before .before .before .before .before .before .before .before .before .leave2 .kept .1 .0)
+    (λ c. c .before .before .pop-item .kept .0 ∙ c .before .before .before .before .before .before .before .before .before .before .leave2 .kept .1 .1 .0)
     (λ c. leave-goes _ _ _ _ _ _ (c .before .before .before .before .before .before .before .before .before .before .before .before .before .before .before .before .before .before .before .before .before .before .before .before .before .before .before .pre) (c .before .before .before .before .before .before .before .before .before .before .before .before .before .before .before .before .before .before .before .before .top-item .ensures) (c .before .before .before .before .before .before .before .before .before .before .before .before .before .before .before .before .leave .ensures) _ _ _ _ _ _ (c .before .before .before .before .before .before .before .before .before .before .before .before .before .before .if1 .left) (λ n. c .before .before .before .before .before .before .before .before .before .before .leave2 .ensures _ _ n _) (c .before .before .pop-item .ensures)))
