@@ -3,17 +3,9 @@ ghost use mathlib.Core.Path.{_≡_};
 ghost use Rattle.words.specs.Choice.{if_then_else_};
 ghost use Rattle.facts.specs.Table.{is-critical};
 
-const FIRST_CRITICAL: u32 = 10;
-
-const LAST_CRITICAL: u32 = 11;
-
 // The thread in the row of a buffer of family k.
 pub(crate) fn pin_owner(t: u32, k: u32) -> u32
     ensures { λ r. ⌜ r ≡ (if is-critical k then t else 0) ⌝ }
 {
-    if (FIRST_CRITICAL <= k) & (k <= LAST_CRITICAL) {
-        t
-    } else {
-        0
-    }
+    if facts::is_critical(k) { t } else { 0 }
 }

@@ -1,22 +1,21 @@
 -- Findings put one behind another are the answer of their list.
 use Prim.Native.Nat.{ℕ, zero, suc, _+_, _≤_, _<_, min}
-use mathlib.Core.Path.{_≡_, refl, sym, ap, ap₂, _∙_}
+use mathlib.Core.Path.{_≡_, refl, sym, ap, _∙_}
 use mathlib.Core.Bool.{Bool, true, false}
 use mathlib.Core.List.{List, [], _∷_, _++_, append-assoc, append-nil}
-use mathlib.Core.Option.{Option, none, some}
+use mathlib.Core.Option.{Option}
 use native.Mathlib.Omega.{arith}
 use native.Mathlib.Decide.{decLt}
-use borrow.Author.Tests.{le-leb, lt-leb}
-use lib.Dec.{leb, eqb}
+use borrow.Author.Tests.{lt-leb}
+use lib.Dec.{eqb}
 use lib.ListN.{length, set, take, replicate, length-append}
-use Rattle.words.specs.Choice.{if_then_else_}
 use Rattle.words.specs.Lists.{joined}
 use Rattle.history.specs.Breaches.{when}
 use Rattle.history.specs.Findings.{rules, places, found}
 use Rattle.history.specs.declared.Finding.{Finding}
 use Rattle.answers.specs.declared.Answer.{Answer}
 use Rattle.answers.specs.declared.Judged.{Judged}
-use Rattle.answers.specs.Answer.{most-found, no-finding, no-findings, answer-of, with-found, found-if}
+use Rattle.answers.specs.Answer.{most-found, no-finding, answer-of, with-found, found-if}
 use Rattle.answers.specs.Listed.{of-rule, listed, whole-of, breach-of}
 
 module _ {A : Type 0} (z : A) where

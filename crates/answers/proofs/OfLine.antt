@@ -1,18 +1,17 @@
 -- What is judged of a line lists the line's findings, and nothing judged lists none.
-use Prim.Native.Nat.{ℕ, zero, suc, _+_}
-use mathlib.Core.Path.{_≡_, refl, sym, ap, ap₂, _∙_}
+use Prim.Native.Nat.{ℕ, suc, _+_}
+use mathlib.Core.Path.{_≡_, refl, _∙_}
 use mathlib.Core.Bool.{Bool, true, false, not, _&&_, _||_, false≢true}
-use mathlib.Core.List.{List, [], _∷_, _++_, append-nil}
+use mathlib.Core.List.{List, [], _++_, append-nil}
 use mathlib.Core.Option.{Option, none, some}
 use native.Mathlib.Omega.{arith}
 use borrow.Author.Tests.{ne-eqb, eqb-true, not-true}
-use lib.Dec.{eqb, ltb}
+use lib.Dec.{eqb}
 use lib.IntN.{ℤ}
-use Rattle.words.specs.Choice.{if_then_else_}
 use Rattle.words.specs.Lists.{joined, sum}
 use Rattle.facts.specs.Table.{fact-of}
 use Rattle.facts.specs.declared.Place.the-variants as Place
-use Rattle.lines.specs.Line.{Line, N, X, C, R, Z}
+use Rattle.lines.specs.Line.{N, X, C, R, Z}
 use Rattle.lines.specs.Reading.{size}
 use Rattle.history.specs.Thread.{all-threads}
 use Rattle.history.specs.Handles.{global-or-weak}
@@ -22,7 +21,7 @@ use Rattle.history.specs.Breaches.{when, is-rule, some-of, place-rule, rule-at,
 use Rattle.history.specs.Findings.{rules, places, found, of-line}
 use Rattle.history.specs.declared.Finding.{Finding}
 use Rattle.answers.specs.declared.Judged.{Judged}
-use Rattle.answers.specs.Listed.{rule-number, listed, breach-of, is-clean}
+use Rattle.answers.specs.Listed.{rule-number, listed, is-clean}
 use Rattle.answers.specs.Judging.{judged-call, judged-leave}
 use Rattle.answers.proofs.Found.{of-one-rule}
 

@@ -1,7 +1,7 @@
 -- The answer to a line as the code has it, and the reply that it is. Assumes nothing.
 use Prim.Native.Nat.{ℕ, _+_, min}
 use mathlib.Core.Bool.{Bool}
-use mathlib.Core.List.{List, [], _∷_, _++_}
+use mathlib.Core.List.{List, _++_}
 use lib.Dec.{leb}
 use lib.ListN.{length, set, take, replicate}
 use Rattle.words.specs.Choice.{if_then_else_}

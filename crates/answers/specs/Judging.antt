@@ -1,7 +1,6 @@
 -- What is judged of C and of X, line number `line`, as the code keeps it. Assumes nothing.
 use Prim.Native.Nat.{ℕ}
-use mathlib.Core.Bool.{Bool, false, not, _&&_}
-use mathlib.Core.Option.{Option}
+use mathlib.Core.Bool.{false, not, _&&_}
 use lib.Dec.{eqb}
 use Rattle.facts.specs.Table.{fact-of, is-allowed-pending, is-allowed-critical}
 use Rattle.facts.specs.Named.{PopLocalFrame, MonitorExit}

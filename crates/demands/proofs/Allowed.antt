@@ -8,9 +8,10 @@ use lib.Dec.{eqb, leb}
 use lib.IntN.{ℤ, pos, negsuc}
 use borrow.Author.Tests.{eqb-true, ne-eqb, leb-true}
 use Rattle.words.specs.Choice.{if_then_else_}
+use Rattle.numbers.specs.Signed.{is-i32, largest-i32}
 use Rattle.facts.specs.Table.{fact-of, family, is-critical, is-function, first-function, last-function}
 use Rattle.facts.specs.Named.{PushLocalFrame, EnsureLocalCapacity}
-use Rattle.lines.specs.Line.{Line, N, X, C, R, Z, is-allowed, is-thread, is-env, is-value, threads, place-allows, capacity-allows, is-i32, is-zero, largest-i32}
+use Rattle.lines.specs.Line.{Line, N, X, C, R, Z, is-allowed, is-thread, is-env, is-value, threads, place-allows, capacity-allows, is-zero}
 use Rattle.lines.specs.Reading.{size}
 use Rattle.history.specs.Past.{History, thread-of, is-of}
 use Rattle.history.specs.Frames.{depth}

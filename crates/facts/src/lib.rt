@@ -2,12 +2,16 @@
 use columns::NONE;
 use columns::letter;
 ghost use mathlib.Core.Path.{_≡_};
-ghost use Rattle.facts.specs.Table.{place, result, fact-of, is-allowed-pending, is-allowed-critical, family};
+ghost use Rattle.facts.specs.Table.{place, result, fact-of, is-allowed-pending, is-allowed-critical, family, is-critical};
 ghost use Rattle.facts.specs.Letters.{family-in};
 
 mod columns; // columns.rt: the table of functions
 
 const NO_FAMILY: u32 = 12;
+
+const FIRST_CRITICAL: u32 = 10;
+
+const LAST_CRITICAL: u32 = 11;
 
 // What stands at a place of a function.
 pub enum Place {
@@ -134,4 +138,11 @@ pub fn family(f: u32) -> u32
     ensures { λ r. ⌜ r ≡ family f ⌝ }
 {
     as_family(letter(columns::FAMILY, f))
+}
+
+// The last two families are critical.
+pub fn is_critical(k: u32) -> bool
+    ensures { λ r. ⌜ r ≡ is-critical k ⌝ }
+{
+    (FIRST_CRITICAL <= k) & (k <= LAST_CRITICAL)
 }

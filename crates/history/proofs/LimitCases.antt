@@ -1,14 +1,13 @@
 -- The limits that only long traces reach: 64 open items, 64 frames, 1,000,000 lines. Assumes nothing.
 use Prim.Native.Nat.{ℕ, zero, suc}
 use mathlib.Core.Path.{_≡_, refl, ap}
-use mathlib.Core.Bool.{Bool, true, false}
 use mathlib.Core.List.{List, [], _∷_, map}
 use lib.Dec.{leb}
 use lib.IntN.{pos, negsuc}
 use lib.ListN.{length}
 use Rattle.words.specs.Choice.{if_then_else_}
 use Rattle.lines.specs.Line.{Line, N, X, C, R, Z}
-use Rattle.lines.specs.Reading.{Read, refused, read}
+use Rattle.lines.specs.Reading.{refused, read}
 use Rattle.history.specs.Past.{History}
 use Rattle.history.specs.Acceptance.{Room}
 use Rattle.history.specs.Replies.{most-lines, weighed, verdict}

@@ -12,8 +12,9 @@ use lib.ListN.{length, getD, take}
 use Rattle.words.specs.Choice.{if_then_else_}
 use Rattle.words.specs.Lists.{any}
 use Rattle.words.specs.Text.{line-feed}
+use Rattle.numbers.specs.Signed.{is-negative}
 use Rattle.lines.specs.Line.{Line, N, X, C, R, Z, is-allowed, longest, most-handles}
-use Rattle.lines.specs.Reading.{Read, says, refused, fields, numbers, size, is-negative, if-allowed, enter-of, leave-of, call-of, return-of, end-of, line-of, if-numbers, of-fields, read}
+use Rattle.lines.specs.Reading.{Read, says, refused, fields, numbers, size, if-allowed, enter-of, leave-of, call-of, return-of, end-of, line-of, if-numbers, of-fields, read}
 use Rattle.history.proofs.Tests.{and-right}
 
 abbrev Sound : Read → Type 0

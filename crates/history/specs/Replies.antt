@@ -1,11 +1,9 @@
 -- The reply to the next line after any calls, refused ones among them. Assumes nothing.
 use Prim.Native.Nat.{ℕ}
-use mathlib.Core.Bool.{Bool}
 use mathlib.Core.List.{List, [], _∷_}
 use lib.Dec.{eqb, leb}
 use lib.ListN.{length}
 use Rattle.words.specs.Choice.{if_then_else_}
-use Rattle.lines.specs.Line.{Line}
 use Rattle.lines.specs.Reading.{Read, says, refused, read}
 use Rattle.history.specs.Past.{History}
 use Rattle.history.specs.Seen.{seen}

@@ -1,6 +1,6 @@
 -- A thread's pending exception, its monitors and its env. Assumes nothing.
 use Prim.Native.Nat.{ℕ, suc, pred}
-use mathlib.Core.Bool.{Bool, true, false, not}
+use mathlib.Core.Bool.{not}
 use mathlib.Core.List.{List, [], _∷_}
 use lib.Dec.{eqb}
 use Rattle.words.specs.Choice.{if_then_else_}

@@ -11,8 +11,9 @@ use lib.ListN.{length}
 use borrow.Author.Tests.{le-leb, lt-leb, leb-true, leb-false, eqb-true}
 use Rattle.words.specs.Choice.{if_then_else_}
 use Rattle.words.specs.Lists.{any}
+use Rattle.numbers.specs.Signed.{is-negative}
 use Rattle.lines.specs.Line.{Line, N, X, C, R, is-allowed, most-handles}
-use Rattle.lines.specs.Reading.{Read, says, refused, size, is-negative, enter-of, leave-of, call-of, return-of, end-of, line-of}
+use Rattle.lines.specs.Reading.{Read, says, refused, size, enter-of, leave-of, call-of, return-of, end-of, line-of}
 use Rattle.lines.specs.Gathered.{most-fields, right-count}
 use Rattle.lines.proofs.Tests.{both, neither, or-false}
 

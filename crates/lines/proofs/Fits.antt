@@ -13,12 +13,13 @@ use Rattle.words.specs.Lists.{any}
 use Rattle.words.specs.Text.{line-feed}
 use Rattle.numbers.specs.Decimal.{shown}
 use Rattle.numbers.proofs.Digits.{length-below}
+use Rattle.numbers.specs.Signed.{is-i32, largest-i32}
 use Rattle.facts.specs.Table.{fact-of, is-function, first-function, last-function}
 use Rattle.facts.specs.declared.Place.{Place}
 use Rattle.facts.specs.declared.Place.the-variants as Place
 use Rattle.facts.specs.declared.Result.{Result}
 use Rattle.facts.specs.declared.Result.the-variants as Result
-use Rattle.lines.specs.Line.{Line, N, X, C, R, Z, is-allowed, is-thread, is-env, is-value, is-argument, is-made, is-i32, is-zero, kind, threads, largest, largest-i32, longest, most-handles, place-allows, capacity-allows, value-allows, result-allows}
+use Rattle.lines.specs.Line.{Line, N, X, C, R, Z, is-allowed, is-thread, is-env, is-value, is-argument, is-made, is-zero, kind, threads, largest, longest, most-handles, place-allows, capacity-allows, value-allows, result-allows}
 use Rattle.lines.specs.Writing.{tabbed, written}
 use Rattle.lines.proofs.Tests.{both, all4, all7, neither}
 use Rattle.lines.proofs.Numbered.{numbers-of, written-numbers}

@@ -19,8 +19,9 @@ use Rattle.numbers.specs.Writing.{put}
 use Rattle.numbers.specs.declared.Field.{Field}
 use Rattle.numbers.specs.declared.Field.the-variants as Field
 use Rattle.numbers.proofs.Put.{put-none, put-cons}
+use Rattle.numbers.specs.Signed.{is-negative}
 use Rattle.lines.specs.Line.{largest}
-use Rattle.lines.specs.Reading.{and-number, numbers, is-negative}
+use Rattle.lines.specs.Reading.{and-number, numbers}
 use Rattle.lines.specs.Gathered.{fields-from, most-fields, tally, wrong, Gathered, gathered-as, and-field, taken, gathered}
 use Rattle.lines.specs.declared.Tally.{Tally}
 use Rattle.lines.proofs.Field.{field-fits, next-field, past-end}

@@ -9,9 +9,10 @@ use mir.Syntax.{w32}
 use mir.Val.{SFits}
 use borrow.Author.Tests.{le-leb, ne-eqb}
 use Rattle.words.specs.Choice.{if_then_else_}
+use Rattle.numbers.specs.Signed.{largest-i32, is-i32}
 use Rattle.facts.specs.declared.Result.{Result}
 use Rattle.facts.specs.declared.Result.the-variants as Result
-use Rattle.lines.specs.Line.{largest-i32, is-i32, is-zero, capacity-allows, result-allows}
+use Rattle.lines.specs.Line.{is-zero, capacity-allows, result-allows}
 use Rattle.lines.specs.Events.{is-status}
 use Rattle.lines.specs.Good.{return-allows}
 use Rattle.lines.proofs.Tests.{and-true}

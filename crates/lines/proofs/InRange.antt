@@ -9,8 +9,9 @@ use lib.IntN.{ℤ, pos, negsuc, natAbs}
 use lib.ListN.{length}
 use borrow.Author.Tests.{le-ltb, ne-eqb}
 use Rattle.words.specs.Lists.{any}
+use Rattle.numbers.specs.Signed.{is-negative}
 use Rattle.lines.specs.Line.{Line, N, X, C, R, Z, is-allowed, largest}
-use Rattle.lines.specs.Reading.{says, refused, is-negative, line-of}
+use Rattle.lines.specs.Reading.{says, refused, line-of}
 use Rattle.lines.specs.Gathered.{right-count, signed-place}
 use Rattle.lines.proofs.Tests.{neither}
 use Rattle.lines.proofs.Numbered.{letter-of, numbers-of, line-said}

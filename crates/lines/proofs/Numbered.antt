@@ -11,8 +11,9 @@ use lib.ListN.{length, length-map}
 use borrow.Author.Tests.{eqb-true}
 use Rattle.words.specs.Choice.{if_then_else_}
 use Rattle.words.specs.Lists.{any}
+use Rattle.numbers.specs.Signed.{is-negative}
 use Rattle.lines.specs.Line.{Line, N, X, C, R, Z, is-allowed, is-thread, is-env, is-argument, most-handles}
-use Rattle.lines.specs.Reading.{Read, says, refused, size, is-negative, if-allowed, enter-of, leave-of, call-of, return-of, end-of, line-of}
+use Rattle.lines.specs.Reading.{Read, says, refused, size, if-allowed, enter-of, leave-of, call-of, return-of, end-of, line-of}
 use Rattle.lines.specs.Writing.{lettered, written}
 use Rattle.lines.proofs.Tests.{neither, all4}
 

@@ -17,12 +17,12 @@ use Rattle.words.specs.Lists.{any}
 use Rattle.facts.specs.Table.{fact-of, is-function}
 use Rattle.facts.specs.declared.Result.{Result}
 use Rattle.facts.specs.declared.Result.the-variants as Result
-use Rattle.numbers.specs.Signed.{signed, as-int}
+use Rattle.numbers.specs.Signed.{signed, as-int, is-i32, is-negative}
 use Rattle.numbers.specs.declared.Int.{Int}
 use Rattle.numbers.specs.declared.Int.the-variants as Int
 use Rattle.numbers.proofs.Signed.{signed-size}
-use Rattle.lines.specs.Line.{N, X, C, R, Z, is-allowed, is-thread, is-env, is-i32, is-zero, place-allows, capacity-allows, result-allows, most-handles}
-use Rattle.lines.specs.Reading.{Read, says, refused, size, is-negative, numbers, enter-of, leave-of, call-of, return-of, end-of, line-of, if-numbers}
+use Rattle.lines.specs.Line.{N, X, C, R, Z, is-allowed, is-thread, is-env, is-zero, place-allows, capacity-allows, result-allows, most-handles}
+use Rattle.lines.specs.Reading.{Read, says, refused, size, numbers, enter-of, leave-of, call-of, return-of, end-of, line-of, if-numbers}
 use Rattle.lines.specs.Events.{is-status, gives-status, padded, not-zero, meant}
 use Rattle.lines.specs.Gathered.{most-fields, tally, nothing-yet, no-values, Gathered, gathered-as, gathered, signed-place, right-count, call-with, raw-call, status-with, raw-return, raw-event, raw-says}
 use Rattle.lines.specs.declared.Event.{Event}

@@ -12,8 +12,9 @@ use lib.ListN.{length, getD, take}
 use Rattle.words.specs.Choice.{if_then_else_}
 use Rattle.words.specs.Lists.{any}
 use Rattle.words.specs.Text.{line-feed}
+use Rattle.numbers.specs.Signed.{is-negative}
 use Rattle.lines.specs.Line.{Line, N, X, C, R, is-allowed, longest, most-handles}
-use Rattle.lines.specs.Reading.{Read, says, refused, fields, numbers, if-allowed, is-negative, size, enter-of, leave-of, call-of, return-of, end-of, line-of, if-numbers, of-fields, read}
+use Rattle.lines.specs.Reading.{Read, says, refused, fields, numbers, if-allowed, size, enter-of, leave-of, call-of, return-of, end-of, line-of, if-numbers, of-fields, read}
 
 abbrev Low : Read → Type 0
 Low (says e) = Unit

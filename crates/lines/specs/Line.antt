@@ -1,12 +1,13 @@
 -- A line of a trace, and which lines document 01 allows by themselves. Assumes nothing.
-use Prim.Native.Nat.{ℕ, suc, _%_}
+use Prim.Native.Nat.{ℕ, _%_}
 use mathlib.Core.Bool.{Bool, true, false, not, _&&_, _||_}
-use mathlib.Core.List.{List, [], _∷_}
+use mathlib.Core.List.{List}
 use lib.Dec.{eqb, leb}
 use lib.IntN.{ℤ, pos, negsuc}
 use lib.ListN.{length}
 use Rattle.words.specs.Choice.{if_then_else_, within}
 use Rattle.words.specs.Lists.{any}
+use Rattle.numbers.specs.Signed.{is-i32}
 use Rattle.facts.specs.Table.{fact-of, is-function}
 use Rattle.facts.specs.Named.{PushLocalFrame, EnsureLocalCapacity}
 use Rattle.facts.specs.declared.Place.{Place}
@@ -75,9 +76,6 @@ module _ {ℓ} {A : Type ℓ} where
 abbrev pub largest : ℕ
 largest = 4294967295
 
-abbrev pub largest-i32 : ℕ
-largest-i32 = 2147483647
-
 abbrev pub threads : ℕ
 threads = 16
 
@@ -105,11 +103,6 @@ is-value v = leb v largest
 -- N handles are local kind; null arguments are left out
 abbrev pub is-argument : ℕ → Bool
 is-argument h = eqb (kind h) 1 && is-value h
-
--- a signed 32-bit number
-abbrev pub is-i32 : ℤ → Bool
-is-i32 (pos n) = leb n largest-i32
-is-i32 (negsuc n) = leb n largest-i32
 
 abbrev pub is-zero : ℤ → Bool
 is-zero (pos n) = eqb n 0

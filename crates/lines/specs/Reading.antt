@@ -1,7 +1,7 @@
 -- What the bytes of a line say, or why they say nothing. Assumes nothing.
 use Prim.Native.Nat.{ℕ, suc, _-_}
 use Prim.Native.Char.{code}
-use mathlib.Core.Bool.{Bool, true, false, not, _&&_, _||_}
+use mathlib.Core.Bool.{not, _&&_, _||_}
 use mathlib.Core.List.{List, [], _∷_, map}
 use mathlib.Core.Option.{Option, none, some}
 use lib.Dec.{eqb, leb, ltb}
@@ -11,6 +11,7 @@ use Rattle.words.specs.Choice.{if_then_else_}
 use Rattle.words.specs.Lists.{any}
 use Rattle.words.specs.Text.{tab, line-feed}
 use Rattle.numbers.specs.Decimal.{number}
+use Rattle.numbers.specs.Signed.{is-negative}
 use Rattle.lines.specs.Line.{Line, N, X, C, R, Z, is-allowed, longest, most-handles}
 
 -- an event, or a number given instead of one
@@ -44,10 +45,6 @@ numbers (w ∷ ws) = and-number (number w) (numbers ws)
 abbrev pub size : ℤ → ℕ
 size (pos n) = n
 size (negsuc n) = 0
-
-abbrev pub is-negative : ℤ → Bool
-is-negative (pos n) = false
-is-negative (negsuc n) = true
 
 -- the line, if none of these fields is negative and all is in range
 abbrev pub if-allowed : List ℤ → Line → Read

@@ -4,7 +4,7 @@ use mathlib.Core.Path.{_≡_, refl, sym, ap, ap₂, _∙_}
 use mathlib.Core.Bool.{Bool, true, false, _&&_}
 use native.Mathlib.Decide.{ℕ-discrete}
 use borrow.Author.Tests.{eq-eqb, ne-eqb}
-use lib.Dec.{eqb, leb, ltb}
+use lib.Dec.{eqb, ltb}
 use Rattle.words.specs.Choice.{if_then_else_}
 use Rattle.rows.specs.Table.{Table, room, found, counted, some-row}
 use Rattle.rows.specs.References.{references, is-handle}
@@ -186,19 +186,19 @@ module _ (x : PinRow) (k b : ℕ) where
       go (yes q) = rw (eq-eqb (x .thread) 0 q) refl
       go (no q) = rw (ne-eqb (x .thread) 0 q) (ap (λ (o : Bool). o && eqb k (x .family) && eqb b (x .buffer)) (ne-eqb 0 (x .thread) (λ p. q (sym p))))
 
-module _ (T : Table) (t f b k r n : ℕ) (e : k ≡ family f) where
+module _ (T : Table) (t f b k r n : ℕ) (e : k ≡ family f) (o : Bool) (i : o ≡ is-critical k) where
   abbrev released : ℕ
   released = buffers-in T (same-pin (pin t f b))
 
-  pin-critical : (leb 10 k && leb k 11) ≡ true → pin t f b ≡ critical t k b
-  unfolding pin is-critical
-  pin-critical c = rw (sym e, c) refl
+  pin-critical : o ≡ true → pin t f b ≡ critical t k b
+  unfolding pin
+  pin-critical c = rw (sym e, sym i ∙ c) refl
 
-  pin-ordinary : (leb 10 k && leb k 11) ≡ false → pin t f b ≡ ordinary k b
-  unfolding pin is-critical
-  pin-ordinary c = rw (sym e, c) refl
+  pin-ordinary : o ≡ false → pin t f b ≡ ordinary k b
+  unfolding pin
+  pin-ordinary c = rw (sym e, sym i ∙ c) refl
 
-  pub own-found : (leb 10 k && leb k 11) ≡ true → (t ≡ 0 → ⊥) → r ≡ found pins (is-buffer t k b) T → n ≡ room pins T → ltb r n ≡ ltb 0 released
+  pub own-found : o ≡ true → (t ≡ 0 → ⊥) → r ≡ found pins (is-buffer t k b) T → n ≡ room pins T → ltb r n ≡ ltb 0 released
   unfolding buffers-in
   own-found c z er en =
       ap₂ ltb er en
@@ -206,14 +206,14 @@ module _ (T : Table) (t f b k r n : ℕ) (e : k ≡ family f) where
       ∙ ap (ltb 0) (sym (counted-same pins (λ x. same-pin (critical t k b) (pin-of x)) (is-buffer t k b) T (λ x. row-of-own x k b t z)))
       ∙ ap (λ (p : Pin). ltb 0 (buffers-in T (same-pin p))) (sym (pin-critical c))
 
-  pub no-own-found : (leb 10 k && leb k 11) ≡ true → t ≡ 0 → false ≡ ltb 0 released
+  pub no-own-found : o ≡ true → t ≡ 0 → false ≡ ltb 0 released
   unfolding buffers-in
   no-own-found c z =
       ap (ltb 0) (sym (counted-none pins (λ x. same-pin (critical 0 k b) (pin-of x)) T (λ x. no-own-row x k b)))
       ∙ ap (λ (s : ℕ). ltb 0 (buffers-in T (same-pin (critical s k b)))) (sym z)
       ∙ ap (λ (p : Pin). ltb 0 (buffers-in T (same-pin p))) (sym (pin-critical c))
 
-  pub ordinary-found : (leb 10 k && leb k 11) ≡ false → r ≡ found pins (is-buffer 0 k b) T → n ≡ room pins T → ltb r n ≡ ltb 0 released
+  pub ordinary-found : o ≡ false → r ≡ found pins (is-buffer 0 k b) T → n ≡ room pins T → ltb r n ≡ ltb 0 released
   unfolding buffers-in
   ordinary-found c er en =
       ap₂ ltb er en

@@ -23,3 +23,6 @@ allowed-critical-tight κs args = (tt, by-reply)
 
 pub family-tight : Tight facts.family.ended facts.family.Reads.Asked facts.family.Reads.Learnt
 family-tight κs args = (tt, by-reply)
+
+pub is-critical-tight : Tight facts.is_critical.ended facts.is_critical.Reads.Asked facts.is_critical.Reads.Learnt
+is-critical-tight κs args = (tt, by-reply)

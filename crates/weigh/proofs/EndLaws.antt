@@ -1,19 +1,17 @@
 -- What the code's counts at Z say.
-use Prim.Native.Nat.{ℕ, _≤_, _<_}
-use mathlib.Core.Path.{_≡_, refl, sym, ap, ap₂, _∙_}
+use Prim.Native.Nat.{ℕ, _≤_}
+use mathlib.Core.Path.{_≡_, sym, ap, ap₂, _∙_}
 use mathlib.Core.Bool.{Bool, true, false}
-use mathlib.Core.List.{List, [], _∷_, _++_, append-assoc}
+use mathlib.Core.List.{[], _++_, append-assoc}
 use native.Mathlib.Omega.{arith}
 use lib.Dec.{ltb}
-use Rattle.words.specs.Choice.{if_then_else_}
 use Rattle.rows.specs.Table.{Table, alive, most}
 use Rattle.rows.specs.References.{references}
 use Rattle.rows.specs.Pins.{pins}
 use Rattle.history.specs.Handles.{global-or-weak}
 use Rattle.history.specs.Acceptance.{everything}
-use Rattle.history.specs.Breaches.{when, some-of}
+use Rattle.history.specs.Breaches.{some-of}
 use Rattle.history.specs.Findings.{found}
-use Rattle.history.specs.declared.Finding.{Finding}
 use Rattle.book.specs.Threads.{closed-in}
 use Rattle.answers.specs.declared.Answer.{Answer}
 use Rattle.answers.specs.Answer.{refused-with, answer-of, found-if}

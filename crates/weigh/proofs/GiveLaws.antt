@@ -1,5 +1,5 @@
 -- What the code's tests of R say.
-use Prim.Native.Nat.{ℕ, suc, _+_, _≤_, _<_}
+use Prim.Native.Nat.{ℕ}
 use mathlib.Core.Path.{_≡_, refl, sym, ap, ap₂, _∙_}
 use mathlib.Core.Bool.{Bool, true, false, not, _&&_, _||_}
 use mathlib.Core.List.{List, []}
@@ -7,17 +7,15 @@ use mathlib.Core.Option.{Option}
 use borrow.Author.Tests.{eq-eqb, ne-eqb, not-true, not-false}
 use lib.Dec.{eqb, leb, ltb}
 use lib.ListN.{length}
-use Rattle.words.specs.Choice.{if_then_else_}
 use Rattle.facts.specs.Table.{fact-of}
 use Rattle.facts.specs.Named.{PushLocalFrame}
 use Rattle.facts.specs.declared.Result.{Result}
 use Rattle.facts.specs.declared.Result.the-variants as Result
-use Rattle.rows.specs.Table.{Table, room, free-row}
+use Rattle.rows.specs.Table.{Table}
 use Rattle.history.specs.Items.{Item, is-call-of}
 use Rattle.history.specs.Handles.{in-frame}
 use Rattle.history.specs.Acceptance.{deepest}
-use Rattle.history.specs.Breaches.{when, is-local-result}
-use Rattle.history.specs.Findings.{found}
+use Rattle.history.specs.Breaches.{is-local-result}
 use Rattle.book.specs.Threads.{thread-in, closed-in, top-capacity}
 use Rattle.answers.specs.declared.Answer.{Answer}
 use Rattle.answers.specs.Answer.{refused-with, answer-of, found-if}

@@ -1,13 +1,11 @@
 -- What the code's tests of X say.
 use Prim.Native.Nat.{ℕ}
-use mathlib.Core.Path.{_≡_, refl, sym, ap, _∙_}
+use mathlib.Core.Path.{_≡_, sym, ap, _∙_}
 use mathlib.Core.Bool.{Bool, true, false, not, _&&_}
 use mathlib.Core.List.{[]}
 use mathlib.Core.Option.{Option}
 use borrow.Author.Tests.{not-true, not-false}
 use lib.Dec.{ltb}
-use Rattle.words.specs.Choice.{if_then_else_}
-use Rattle.rows.specs.Table.{Table}
 use Rattle.facts.specs.declared.Place.the-variants as Place
 use Rattle.history.specs.Items.{Item, is-native}
 use Rattle.history.specs.Buffers.{critical-of}

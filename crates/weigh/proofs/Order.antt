@@ -1,7 +1,6 @@
 -- The numbers 4 to 7 are tested in this order: what each test that the code makes leaves to be said.
-use Prim.Native.Nat.{ℕ}
 use mathlib.Core.Path.{_≡_, refl, sym, ap, _∙_}
-use mathlib.Core.Bool.{Bool, true, false, not, _&&_, false≢true}
+use mathlib.Core.Bool.{Bool, true, false, not, _&&_}
 use borrow.Author.Tests.{not-true, not-false}
 use Rattle.history.specs.Acceptance.{first-refusal}
 

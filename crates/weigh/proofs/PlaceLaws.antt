@@ -1,18 +1,17 @@
 -- The rule that a value breaks at a place, by the tests that the code makes.
 use Prim.Native.Nat.{ℕ, _%_}
 use mathlib.Core.Path.{_≡_, refl, sym, ap, _∙_}
-use mathlib.Core.Bool.{Bool, true, false, not}
+use mathlib.Core.Bool.{Bool, true, false}
 use mathlib.Core.List.{List, []}
-use mathlib.Core.Option.{Option, none, some}
 use borrow.Author.Tests.{eq-eqb, ne-eqb}
-use lib.Dec.{eqb, ltb}
+use lib.Dec.{ltb}
 use Rattle.answers.specs.Listed.{rule-number}
 use Rattle.facts.specs.declared.Place.{Place}
 use Rattle.facts.specs.declared.Place.the-variants as Place
 use Rattle.history.specs.Handles.{is-local, is-shared}
 use Rattle.history.specs.Buffers.{pin, same-pin}
 use Rattle.history.specs.Seen.{Seen}
-use Rattle.history.specs.Breaches.{when, handle-rule, kind-rule, place-rule}
+use Rattle.history.specs.Breaches.{handle-rule, kind-rule, place-rule}
 use Rattle.tables.specs.Tables.{Tables, tables, handles-in, buffers-in, seen-in}
 
 module _ (T : Tables) (t h : ℕ) where

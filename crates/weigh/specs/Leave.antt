@@ -1,6 +1,6 @@
 -- The answer to X, by the tests that the code makes. Assumes nothing.
 use Prim.Native.Nat.{ℕ}
-use mathlib.Core.Bool.{Bool, not, _&&_}
+use mathlib.Core.Bool.{not, _&&_}
 use mathlib.Core.Option.{Option}
 use Rattle.words.specs.Choice.{if_then_else_}
 use Rattle.history.specs.Items.{Item, is-native}

@@ -1,8 +1,7 @@
 // Z: what is answered to it.
 use answers::Answer;
 ghost use mathlib.Core.Path.{_≡_};
-ghost use Prim.Native.Nat.{_≤_};
-ghost use Rattle.rows.specs.Table.{table, most};
+ghost use Rattle.rows.specs.Table.{table};
 ghost use Rattle.history.specs.Handles.{global-or-weak};
 ghost use Rattle.history.specs.Acceptance.{everything};
 ghost use Rattle.tables.specs.Tables.{tables, handles-in, buffers-in};

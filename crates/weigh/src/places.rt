@@ -3,7 +3,6 @@ use facts::Place;
 ghost use mathlib.Core.Path.{_≡_};
 ghost use mathlib.Core.List.{List, []};
 ghost use Prim.Native.Nat.{ℕ};
-ghost use Rattle.rows.specs.Table.{table};
 ghost use Rattle.answers.specs.Listed.{rule-number};
 ghost use Rattle.history.specs.Seen.{Seen};
 ghost use Rattle.history.specs.Breaches.{handle-rule, kind-rule, place-rule};

@@ -7,10 +7,6 @@ ghost use Rattle.history.specs.Handles.{is-local, is-shared, in-frame, global-o
 ghost use Rattle.history.specs.Buffers.{pin, same-pin, critical-of};
 ghost use Rattle.tables.specs.Tables.{handles-in, buffers-in};
 
-const FIRST_CRITICAL: u32 = 10;
-
-const LAST_CRITICAL: u32 = 11;
-
 // A local is alive in the thread.
 pub(crate) fn local_alive(rows: &[u32], marks: &[u64], t: u32, h: u32) -> bool
     ensures { λ r. ⌜ r ≡ ltb 0 (handles-in (table (now (rows .entry)) (now (marks .entry))) (is-local t h)) ⌝ }
@@ -60,7 +56,7 @@ pub(crate) fn is_outstanding(rows: &[u32], marks: &[u64], t: u32, f: u32, b: u32
     ensures { λ r. ⌜ r ≡ ltb 0 (buffers-in (table (now (rows .entry)) (now (marks .entry))) (same-pin (pin t f b))) ⌝ }
 {
     let k = facts::family(f);
-    if (FIRST_CRITICAL <= k) & (k <= LAST_CRITICAL) {
+    if facts::is_critical(k) {
         if t == 0 {
             return false;
         }

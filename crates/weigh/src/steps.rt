@@ -6,7 +6,7 @@ ghost use Rattle.history.specs.Items.{is-native, is-call-of};
 ghost use Rattle.book.specs.Threads.{top-is, closed-in};
 
 // The most open items, and frames, of a thread.
-pub const DEEPEST: u32 = 64;
+pub(crate) const DEEPEST: u32 = 64;
 
 fn is_native(top: Top) -> bool
     ensures { λ r. ⌜ r ≡ is-native (top-is top) ⌝ }

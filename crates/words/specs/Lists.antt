@@ -1,6 +1,6 @@
 -- Lists by a test on their elements. Assumes nothing.
 use Prim.Native.Nat.{ℕ, suc, _+_}
-use mathlib.Core.Bool.{Bool, true, false, _||_}
+use mathlib.Core.Bool.{Bool, false, _||_}
 use mathlib.Core.List.{List, [], _∷_, _++_}
 use Rattle.words.specs.Choice.{if_then_else_}
 

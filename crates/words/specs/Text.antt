@@ -1,7 +1,7 @@
 -- A quoted text as bytes. Assumes nothing.
 use Prim.Native.Nat.{ℕ}
 use Prim.Native.String.{String, [] as empty, _∷_ as _then_}
-use Prim.Native.Char.{Char, code}
+use Prim.Native.Char.{code}
 use mathlib.Core.List.{List, [], _∷_}
 use lib.Dec.{eqb}
 use Rattle.words.specs.Choice.{if_then_else_}

@@ -1,7 +1,6 @@
 -- `answers::and_found` meets its contract. Assumes nothing.
-use mathlib.Core.Path.{_∙_}
 use borrow.Author.Tests.{le-leb, lt-leb}
-use Rattle.answers.specs.Answer.{answer-of, with-found, found-if}
+use Rattle.answers.specs.Answer.{with-found}
 use borrow.Author.Needs.{needs}
 use Rattle.answers.proofs.and_found.Statement.{statement}
 use Rattle.answers.proofs.and_found.Tie as tie

@@ -1,7 +1,6 @@
 -- `answers::and_found_if` meets its contract. Assumes nothing.
 use mathlib.Core.Path.{_∙_}
-use borrow.Author.Tests.{le-leb, lt-leb}
-use Rattle.answers.specs.Answer.{answer-of, with-found, found-if}
+use Rattle.answers.specs.Answer.{found-if}
 use borrow.Author.Needs.{needs}
 use Rattle.answers.proofs.and_found_if.Statement.{statement}
 use Rattle.answers.proofs.and_found_if.Tie as tie

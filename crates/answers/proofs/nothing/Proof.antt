@@ -1,7 +1,5 @@
 -- `answers::nothing` meets its contract. Assumes nothing.
-use mathlib.Core.Path.{_∙_}
-use borrow.Author.Tests.{le-leb, lt-leb}
-use Rattle.answers.specs.Answer.{answer-of, with-found, found-if}
+use Rattle.answers.specs.Answer.{answer-of}
 use borrow.Author.Needs.{needs}
 use Rattle.answers.proofs.nothing.Statement.{statement}
 use Rattle.answers.proofs.nothing.Tie as tie

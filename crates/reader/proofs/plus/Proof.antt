@@ -1,5 +1,4 @@
 -- `reader::plus` meets its contract. Assumes nothing.
-use Prim.Native.Nat.{_^_}
 use mir.Syntax.{w64}
 use mir.ValLaws.{toZ-pos}
 use borrow.Author.Needs.{needs}

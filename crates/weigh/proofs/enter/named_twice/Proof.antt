@@ -1,9 +1,8 @@
 -- `weigh::enter::named_twice` meets its contract. Assumes nothing.
 use mathlib.Core.Path.{_≡_, refl, sym, _∙_}
-use Prim.Native.Nat.{ℕ, _+_, _-_, _≤_}
+use Prim.Native.Nat.{_-_, _≤_}
 use native.Mathlib.Omega.{arith}
 use lib.ListN.{length, drop}
-use Rattle.words.specs.Lists.{any}
 use borrow.Author.Needs.{needs}
 use Rattle.weigh.proofs.EnterLaws.{twice-hit, twice-next, twice-end}
 use Rattle.weigh.specs.Enter.{named-twice}

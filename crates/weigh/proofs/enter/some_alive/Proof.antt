@@ -7,9 +7,8 @@ use Rattle.history.specs.Handles.{is-local}
 use Rattle.tables.specs.Tables.{handles-in}
 use Rattle.weigh.specs.Enter.{some-alive}
 use mathlib.Core.Path.{_≡_, refl, sym, _∙_}
-use Prim.Native.Nat.{ℕ, _+_, _-_, _≤_}
+use Prim.Native.Nat.{ℕ, _-_, _≤_}
 use native.Mathlib.Omega.{arith}
-use lib.Dec.{eqb}
 use lib.ListN.{length, drop}
 use Rattle.words.specs.Lists.{any}
 use Rattle.weigh.proofs.enter.some_alive.Statement.{statement}

@@ -1,8 +1,6 @@
 -- `weigh::give::frame_free` meets its contract. Assumes nothing.
 use Rattle.weigh.proofs.GiveLaws.{frame-left}
 use Rattle.facts.specs.declared.Result.the-variants as Result
-use mathlib.Core.Path.{refl, ap}
-use lib.Dec.{ltb}
 use borrow.Author.Needs.{needs}
 use Rattle.weigh.proofs.give.frame_free.Statement.{statement}
 use Rattle.weigh.proofs.give.frame_free.Tie as tie

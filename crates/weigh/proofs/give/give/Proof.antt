@@ -1,8 +1,6 @@
 -- `weigh::give::give` meets its contract. Assumes nothing.
 use Rattle.weigh.proofs.GiveLaws.{give-4, give-6, give-7, give-found, row-there}
 use Rattle.facts.specs.declared.Result.the-variants as Result
-use mathlib.Core.Path.{refl, ap}
-use lib.Dec.{ltb}
 use borrow.Author.Needs.{needs}
 use Rattle.weigh.proofs.give.give.Statement.{statement}
 use Rattle.weigh.proofs.give.give.Tie as tie

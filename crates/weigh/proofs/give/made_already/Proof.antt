@@ -1,8 +1,7 @@
 -- `weigh::give::made_already` meets its contract. Assumes nothing.
 use Rattle.weigh.proofs.GiveLaws.{none-already, already}
 use Rattle.facts.specs.declared.Result.the-variants as Result
-use mathlib.Core.Path.{refl, ap}
-use lib.Dec.{ltb}
+use mathlib.Core.Path.{refl}
 use borrow.Author.Needs.{needs}
 use Rattle.weigh.proofs.give.made_already.Statement.{statement}
 use Rattle.weigh.proofs.give.made_already.Tie as tie

@@ -1,8 +1,6 @@
 -- `weigh::give::over_capacity` meets its contract. Assumes nothing.
 use Rattle.weigh.proofs.GiveLaws.{capacity-left}
 use Rattle.facts.specs.declared.Result.the-variants as Result
-use mathlib.Core.Path.{refl, ap}
-use lib.Dec.{ltb}
 use borrow.Author.Needs.{needs}
 use Rattle.weigh.proofs.give.over_capacity.Statement.{statement}
 use Rattle.weigh.proofs.give.over_capacity.Tie as tie

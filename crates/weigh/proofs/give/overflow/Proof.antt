@@ -1,8 +1,6 @@
 -- `weigh::give::overflow` meets its contract. Assumes nothing.
 use Rattle.weigh.proofs.GiveLaws.{overflow-there, overflow-none}
 use Rattle.facts.specs.declared.Result.the-variants as Result
-use mathlib.Core.Path.{refl, ap}
-use lib.Dec.{ltb}
 use borrow.Author.Needs.{needs}
 use Rattle.weigh.proofs.give.overflow.Statement.{statement}
 use Rattle.weigh.proofs.give.overflow.Tie as tie

@@ -1,8 +1,7 @@
 -- `weigh::give::row_for` meets its contract. Assumes nothing.
 use Rattle.weigh.proofs.GiveLaws.{no-row, its-row}
 use Rattle.facts.specs.declared.Result.the-variants as Result
-use mathlib.Core.Path.{refl, ap}
-use lib.Dec.{ltb}
+use mathlib.Core.Path.{refl}
 use borrow.Author.Needs.{needs}
 use Rattle.weigh.proofs.give.row_for.Statement.{statement}
 use Rattle.weigh.proofs.give.row_for.Tie as tie

@@ -9,10 +9,11 @@ is-outstanding-spec =
     tie.close
     (tie.spec
     (λ c κs. search needs)
-    (λ c. no-own-found _ _ _ _ _ 0 0 (c .before .before .family .ensures) (c .before .if1 .taken) (c .if2 .taken))
+    (λ c κs. search needs)
+    (λ c. no-own-found _ _ _ _ _ 0 0 (c .before .before .before .family .ensures) _ (c .before .before .is-critical .ensures) (c .before .if1 .taken) (c .if2 .taken))
     (λ c κs. search needs)
     (λ c κs. search needs)
-    (λ c. own-found _ _ _ _ _ _ _ (c .before .before .before .before .family .ensures) (c .before .before .before .if1 .taken) (c .before .before .if2 .left) (c .before .find .ensures) (c .room .ensures))
+    (λ c. own-found _ _ _ _ _ _ _ (c .before .before .before .before .before .family .ensures) _ (c .before .before .before .before .is-critical .ensures) (c .before .before .before .if1 .taken) (c .before .before .if2 .left) (c .before .find .ensures) (c .room .ensures))
     (λ c κs. search needs)
     (λ c κs. search needs)
-    (λ c. ordinary-found _ _ _ _ _ _ _ (c .before .before .before .family .ensures) (c .before .before .if1 .left) (c .before .find2 .ensures) (c .room2 .ensures)))
+    (λ c. ordinary-found _ _ _ _ _ _ _ (c .before .before .before .before .family .ensures) _ (c .before .before .before .is-critical .ensures) (c .before .before .if1 .left) (c .before .find2 .ensures) (c .room2 .ensures)))

@@ -1,9 +1,7 @@
 -- `weigh::steps::in_native` meets its contract. Assumes nothing.
-use mathlib.Core.Path.{sym, ap, ap₂}
+use mathlib.Core.Path.{ap₂}
 use mathlib.Core.Bool.{Bool, not, _&&_}
-use Rattle.history.specs.Items.{is-native, is-call-of}
-use Rattle.book.specs.Threads.{top-is}
-use Rattle.book.specs.declared.Top.{Top}
+use Rattle.history.specs.Items.{is-native}
 use borrow.Author.Needs.{needs}
 use Rattle.weigh.proofs.steps.in_native.Statement.{statement}
 use Rattle.weigh.proofs.steps.in_native.Tie as tie

@@ -1,7 +1,6 @@
 -- `weigh::steps::is_native` meets its contract. Assumes nothing.
-use mathlib.Core.Path.{sym, ap, ap₂}
-use mathlib.Core.Bool.{Bool, not, _&&_}
-use Rattle.history.specs.Items.{is-native, is-call-of}
+use mathlib.Core.Path.{sym, ap}
+use Rattle.history.specs.Items.{is-native}
 use Rattle.book.specs.Threads.{top-is}
 use Rattle.book.specs.declared.Top.{Top}
 use borrow.Author.Needs.{needs}
