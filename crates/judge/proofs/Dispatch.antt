@@ -1,15 +1,15 @@
 -- The step by what the book and the reader tell. Assumes nothing.
-use Prim.Native.Nat.{ℕ, _*_, _<_, _≤_, min}
+use Prim.Native.Nat.{ℕ, suc, _<_, _≤_}
 use mathlib.Core.Path.{_≡_, refl, sym, ap, subst, _∙_}
 use mathlib.Core.Bool.{Bool, true, false, not}
-use mathlib.Core.List.{List, [], _∷_}
+use mathlib.Core.List.{List}
 use native.Mathlib.Omega.{arith}
 use borrow.Author.Tests.{le-leb, lt-leb, leb-true, leb-false}
 use lib.Dec.{leb}
 use lib.IntN.{ℤ, pos}
 use lib.ListN.{length, take}
 use Rattle.words.specs.Choice.{if_then_else_}
-use Rattle.words.specs.Lists.{any, sum}
+use Rattle.words.specs.Lists.{any}
 use Rattle.lines.specs.Line.{Line, N, X, C, R, Z, most-handles, is-thread, is-env, is-argument}
 use Rattle.lines.specs.Reading.{Read, says, refused, read, size}
 use Rattle.lines.specs.Events.{gives-status, event-of, slots-of}
@@ -17,9 +17,8 @@ use Rattle.lines.specs.declared.Event.{Event}
 use Rattle.lines.specs.declared.Event.the-variants as Event
 use Rattle.lines.proofs.Tests.{all4}
 use Rattle.lines.proofs.RoundTrip.{read-exactly}
-use Rattle.history.specs.Thread.{all-threads}
 use Rattle.history.specs.Replies.{most-lines}
-use Rattle.book.specs.Threads.{thread-in, lines-in, all-monitors}
+use Rattle.book.specs.Threads.{lines-in}
 use Rattle.book.specs.Moves.{cleared as book-cleared}
 use Rattle.book.specs.Unfit.{unfit}
 use Rattle.rows.specs.Table.{table, cleared as rows-cleared}
@@ -28,8 +27,10 @@ use Rattle.answers.specs.Answer.{refused-with}
 use Rattle.tables.specs.Tables.{Tables, tables}
 use Rattle.tables.specs.Stepping.{on-read, untouched, step-of, start-of}
 use Rattle.act.specs.Returns.{result-in-line}
-use Rattle.judge.specs.Outcome.{Outcome, leaves, outcome, step-outcome, line-outcome, told, slots-told, event-outcome, by-book}
+use Rattle.kinds.specs.Outcome.{Outcome, leaves, enter-outcome, leave-outcome, call-outcome, give-outcome, end-outcome}
+use Rattle.judge.specs.Outcome.{outcome, step-outcome, line-outcome, told, slots-told, event-outcome, by-book}
 use Rattle.judge.proofs.Told.{is-told}
+use Rattle.judge.proofs.Outcomes.{enter-is, leave-is, call-is, give-is, end-is}
 
 -- ---- the book alone
 
@@ -102,23 +103,25 @@ module _ (T : Tables) (hs : List ℕ) (o : Outcome) (ev : Event) where
   unfolding line-outcome event-outcome
   of-line x t q = q ∙ sym (ap (λ (y : Read). outcome (on-read y T)) t)
 
-  pub of-enter : {t env n : ℕ} → ev ≡ Event.Enter t env n → o ≡ line-outcome T (N t env (take n hs)) → o ≡ event-outcome T ev hs
-  of-enter {t} {env} {n} p q = of-line (N t env (take n hs)) (ap (λ (v : Event). told v hs) p) q
+  pub of-enter : {t env n : ℕ} → ev ≡ Event.Enter t env n → o ≡ enter-outcome T t env (take n hs) → o ≡ event-outcome T ev hs
+  of-enter {t} {env} {n} p q = of-line (N t env (take n hs)) (ap (λ (v : Event). told v hs) p) (q ∙ enter-is T t env (take n hs))
 
-  pub of-leave : {t x : ℕ} → ev ≡ Event.Leave t x → o ≡ line-outcome T (X t x) → o ≡ event-outcome T ev hs
-  of-leave {t} {x} p q = of-line (X t x) (ap (λ (v : Event). told v hs) p) q
+  module _ (line : ℕ) (l : line ≡ suc (lines-in (T .book))) where
+    pub of-leave : {t x : ℕ} → ev ≡ Event.Leave t x → o ≡ leave-outcome T line t x → o ≡ event-outcome T ev hs
+    of-leave {t} {x} p q = of-line (X t x) (ap (λ (v : Event). told v hs) p) (q ∙ leave-is T line l t x)
 
-  -- passed on, a signed number is read from its bits
-  pub of-call : {t env f a b c : ℕ} {n : ℤ} (m : ℤ) → m ≡ n → ev ≡ Event.Call t env f a b c n → o ≡ line-outcome T (C t env f a b c m) → o ≡ event-outcome T ev hs
-  of-call {t} {env} {f} {a} {b} {c} {n} m w p q =
-      of-line (C t env f a b c n) (ap (λ (v : Event). told v hs) p) (q ∙ ap (λ (i : ℤ). line-outcome T (C t env f a b c i)) w)
+    -- passed on, a signed number is read from its bits
+    pub of-call : {t env f a b c : ℕ} {n : ℤ} (m : ℤ) → m ≡ n → ev ≡ Event.Call t env f a b c n → o ≡ call-outcome T line t env f a b c m → o ≡ event-outcome T ev hs
+    of-call {t} {env} {f} {a} {b} {c} {n} m w p q =
+        of-line (C t env f a b c n) (ap (λ (v : Event). told v hs) p) (q ∙ call-is T line l t env f a b c m ∙ ap (λ (i : ℤ). line-outcome T (C t env f a b c i)) w)
 
-  pub of-return : {t f h p : ℕ} {n : ℤ} (m : ℤ) → m ≡ n → ev ≡ Event.Return t f h n p → o ≡ line-outcome T (R t f (result-in-line f h m) p) → o ≡ event-outcome T ev hs
-  of-return {t} {f} {h} {p} {n} m w g q =
-      of-line (R t f (result-in-line f h n) p) (ap (λ (v : Event). told v hs) g) (q ∙ ap (λ (i : ℤ). line-outcome T (R t f (result-in-line f h i) p)) w)
+    pub of-return : {t f h p : ℕ} {n : ℤ} (m : ℤ) → m ≡ n → ev ≡ Event.Return t f h n p → o ≡ give-outcome T line t f h m p → o ≡ event-outcome T ev hs
+    of-return {t} {f} {h} {p} {n} m w g q =
+        of-line (R t f (result-in-line f h n) p) (ap (λ (v : Event). told v hs) g)
+        (q ∙ give-is T line l t f h m p ∙ ap (λ (i : ℤ). line-outcome T (R t f (result-in-line f h i) p)) w)
 
-  pub of-end : ev ≡ Event.End → o ≡ line-outcome T Z → o ≡ event-outcome T ev hs
-  of-end p q = of-line Z (ap (λ (v : Event). told v hs) p) q
+    pub of-end : unfit (T .book) ≡ false → ev ≡ Event.End → o ≡ end-outcome T line → o ≡ event-outcome T ev hs
+    of-end fit p q = of-line Z (ap (λ (v : Event). told v hs) p) (q ∙ end-is T line l fit)
 
   pub of-refused : {j : ℕ} (a : Answer) → ev ≡ Event.Refused j → a ≡ refused-with j → o ≡ leaves a T → o ≡ event-outcome T ev hs
   unfolding event-outcome
@@ -126,16 +129,6 @@ module _ (T : Tables) (hs : List ℕ) (o : Outcome) (ev : Event) where
 
 pub few-named : (ev : Event) {t env n : ℕ} → slots-told ev ≤ most-handles → ev ≡ Event.Enter t env n → n ≤ most-handles
 few-named ev h p = subst (λ (v : Event). slots-told v ≤ most-handles) p h
-
--- ---- monitors of all threads are a number of 32 bits
-
-sum-most : (f : ℕ → ℕ) (ts : List ℕ) → ((t : ℕ) → f t ≤ most-lines) → sum f ts ≤ most-lines * length ts
-sum-most f [] h = omega arith
-sum-most f (t ∷ ts) h = omega (arith, h t, sum-most f ts h)
-
-pub monitors-fit : (b : List ℕ) → all-monitors b ≤ most-lines * length all-threads
-unfolding all-monitors
-monitors-fit b = sum-most (λ (t : ℕ). min (thread-in b t .monitors) most-lines) all-threads (λ t. omega arith)
 
 -- ---- a start
 

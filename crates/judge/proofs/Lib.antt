@@ -1,6 +1,5 @@
 pub mod Weighing
 pub mod Returning
-pub mod Following
+pub mod Outcomes
 pub mod Told
 pub mod Dispatch
-pub mod Signs

@@ -12,19 +12,11 @@ use Rattle.history.specs.Past.{thread-of}
 use Rattle.history.specs.Replies.{most-lines}
 use Rattle.book.specs.Threads.{items-in, lines-in}
 use Rattle.book.specs.Unfit.{unfit}
-use Rattle.answers.specs.declared.Answer.{Answer}
 use Rattle.answers.specs.Answer.{answered}
 use Rattle.tables.specs.Tables.{Tables}
 use Rattle.tables.specs.Stepping.{Stepped, on-line, on-read, step-of}
 use Rattle.act.specs.Returns.{result-in-line}
-
--- an answer, and the tables that are left with it
-pub record Outcome : Type 0 where
-  pub answer : Answer
-  pub left : Tables
-
-abbrev pub leaves : Answer → Tables → Outcome
-leaves a T = record { answer = a; left = T }
+use Rattle.kinds.specs.Outcome.{Outcome, leaves}
 
 abbrev pub outcome : Stepped → Outcome
 outcome s = leaves (answered (s .reply)) (s .left)

@@ -1,10 +1,4 @@
 // The judge over lent tables: a start, and one step.
-mod call;
-mod end;
-mod enter;
-mod give;
-mod leave;
-
 use answers::Answer;
 use lines::Event;
 ghost use mathlib.Core.Path.{_≡_};
@@ -15,7 +9,8 @@ ghost use Rattle.book.specs.Threads.{lines-in};
 ghost use Rattle.book.specs.Unfit.{unfit};
 ghost use Rattle.tables.specs.Tables.{tables};
 ghost use Rattle.tables.specs.Stepping.{start-of};
-ghost use Rattle.judge.specs.Outcome.{leaves, step-outcome, slots-told, event-outcome, by-book};
+ghost use Rattle.kinds.specs.Outcome.{leaves};
+ghost use Rattle.judge.specs.Outcome.{step-outcome, slots-told, event-outcome, by-book};
 
 const MOST_LINES: u64 = 1000000;
 
@@ -71,10 +66,10 @@ fn on_event(
 {
     match event {
         Event::Enter { thread, env, count } => {
-            enter::enter(rows, marks, book, thread, env, &handles[..count as usize])
+            kinds::enter::enter(rows, marks, book, thread, env, &handles[..count as usize])
         }
         Event::Leave { thread, result } => {
-            leave::leave(rows, marks, pins, pinmarks, book, line, thread, result)
+            kinds::leave::leave(rows, marks, pins, pinmarks, book, line, thread, result)
         }
         Event::Call {
             thread,
@@ -84,7 +79,7 @@ fn on_event(
             b,
             c,
             n,
-        } => call::call(
+        } => kinds::call::call(
             rows,
             marks,
             pins,
@@ -105,7 +100,7 @@ fn on_event(
             result,
             status,
             pending,
-        } => give::give(
+        } => kinds::give::give(
             rows,
             marks,
             pins,
@@ -118,7 +113,7 @@ fn on_event(
             status,
             pending,
         ),
-        Event::End => end::end(rows, marks, pins, pinmarks, book, line),
+        Event::End => kinds::end::end(rows, marks, pins, pinmarks, book, line),
         Event::Refused(k) => answers::refused(k),
     }
 }

@@ -14,7 +14,8 @@ use Rattle.answers.specs.Answer.{most-found, answer-of, answered}
 use Rattle.tables.specs.Tables.{Tables}
 use Rattle.tables.specs.Stepping.{step-of, start-of}
 use Rattle.demands.specs.Calls.{Long}
-use Rattle.judge.specs.Outcome.{Outcome, leaves, step-outcome}
+use Rattle.kinds.specs.Outcome.{Outcome, leaves}
+use Rattle.judge.specs.Outcome.{step-outcome}
 use Rattle.trace.specs.Following.{Follows}
 use Rattle.trace.proofs.Following.{start-follows, next-follows}
 use Rattle.trace.proofs.Answering.{takes, refuses}

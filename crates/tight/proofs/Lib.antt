@@ -11,6 +11,7 @@ pub mod Answers
 pub mod Report
 pub mod Weigh
 pub mod Act
+pub mod LineKinds
 pub mod Judge
 pub mod Exported
 pub mod Pieces

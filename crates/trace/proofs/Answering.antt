@@ -25,7 +25,8 @@ use Rattle.tables.specs.Tables.{Tables, seen-in}
 use Rattle.tables.specs.Weighing.{refusal-in, weighed-in}
 use Rattle.tables.specs.Stepping.{untouched, follow, on-read, step-of}
 use Rattle.demands.proofs.Foreign.{refusal-keeps}
-use Rattle.judge.specs.Outcome.{Outcome, leaves, step-outcome}
+use Rattle.kinds.specs.Outcome.{Outcome, leaves}
+use Rattle.judge.specs.Outcome.{step-outcome}
 
 -- ---- a refusal has a number
 

@@ -23,7 +23,8 @@ use Rattle.report.proofs.Answered.{shown-accepted}
 use Rattle.tables.specs.Tables.{Tables}
 use Rattle.tables.specs.Stepping.{step-of}
 use Rattle.demands.specs.Calls.{Ran, ran, go-on-in, run-in}
-use Rattle.judge.specs.Outcome.{leaves, step-outcome}
+use Rattle.kinds.specs.Outcome.{leaves}
+use Rattle.judge.specs.Outcome.{step-outcome}
 use Rattle.trace.specs.declared.Run.{Run}
 use Rattle.trace.specs.Following.{Follows}
 use Rattle.trace.specs.Whole.{line-length, run-over}

@@ -12,16 +12,16 @@ returns : tie.Need-returns
 returns c = of-enter _ _ _ _ (c .before .before .before .before .before .before .before .before .before .before .before .before .event .given .1) (c .before .before .before .before .before .before .enter .ensures _ _)
 
 returns-2 : tie.Need-returns-2
-returns-2 c = of-leave _ _ _ _ (c .before .before .before .before .before .before .before .before .before .before .before .before .before .event2 .given .1) (c .before .before .before .before .before .before .leave .ensures)
+returns-2 c = of-leave _ _ _ _ _ (c .before .before .before .before .before .before .before .before .before .before .before .before .before .before .before .before .before .before .before .before .pre .0) (c .before .before .before .before .before .before .before .before .before .before .before .before .before .event2 .given .1) (c .before .before .before .before .before .before .leave .ensures)
 
 returns-3 : tie.Need-returns-3
-returns-3 c = of-call _ _ _ _ _ (toZ-ofZ (search needs)) (c .before .before .before .before .before .before .before .before .before .before .before .before .before .before .before .before .before .event3 .given .1) (c .before .before .before .before .before .before .before .before .before .before .call .ensures)
+returns-3 c = of-call _ _ _ _ _ (c .before .before .before .before .before .before .before .before .before .before .before .before .before .before .before .before .before .before .before .before .before .before .before .before .pre .0) _ (toZ-ofZ (search needs)) (c .before .before .before .before .before .before .before .before .before .before .before .before .before .before .before .before .before .event3 .given .1) (c .before .before .before .before .before .before .before .before .before .before .call .ensures)
 
 returns-4 : tie.Need-returns-4
-returns-4 c = of-return _ _ _ _ _ (toZ-ofZ (search needs)) (c .before .before .before .before .before .before .before .before .before .before .before .before .before .before .before .before .before .event4 .given .1) (c .before .before .before .before .before .before .before .before .before .before .give .ensures)
+returns-4 c = of-return _ _ _ _ _ (c .before .before .before .before .before .before .before .before .before .before .before .before .before .before .before .before .before .before .before .before .before .before .before .before .pre .0) _ (toZ-ofZ (search needs)) (c .before .before .before .before .before .before .before .before .before .before .before .before .before .before .before .before .before .event4 .given .1) (c .before .before .before .before .before .before .before .before .before .before .give .ensures)
 
 returns-5 : tie.Need-returns-5
-returns-5 c = of-end _ _ _ _ (c .before .before .before .before .before .before .before .before .enum-told .given .1) (c .before .before .end .ensures)
+returns-5 c = of-end _ _ _ _ _ (c .before .before .before .before .before .before .before .before .before .before .before .before .before .before .before .pre .0) (c .before .before .before .before .before .before .before .before .before .before .before .before .before .before .before .pre .1) (c .before .before .before .before .before .before .before .before .enum-told .given .1) (c .before .before .end .ensures)
 
 returns-6 : tie.Need-returns-6
 returns-6 c = of-refused _ _ _ _ _ (c .before .before .event5 .given .1) (c .refused .ensures) refl

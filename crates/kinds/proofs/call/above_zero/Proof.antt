@@ -1,0 +1,11 @@
+-- `kinds::call::above_zero` meets its contract. Assumes nothing.
+use Rattle.kinds.proofs.Signs.{below-zero, cast-fits, cast-size}
+use mir.Facts.{toZ-ofZ}
+use Rattle.kinds.proofs.call.above_zero.Statement.{statement}
+use Rattle.kinds.proofs.call.above_zero.Tie as tie
+
+pub above-zero-spec : {M : Type 1} → statement M
+above-zero-spec = tie.close (tie.spec
+    (λ c. cast-fits _ (toZ-ofZ (c .before .fits .n)) (c .before .fits .n) (c .if1 .left))
+    (λ c. below-zero _ (toZ-ofZ (c .before .fits .n)) (c .if1 .taken))
+    (λ c. cast-size _ (toZ-ofZ (c .before .fits .n)) (c .if1 .left)))
