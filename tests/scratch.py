@@ -1,4 +1,4 @@
-"""A repository in a temporary folder with this one's crates of definitions, for the prover to work in.
+"""A repository in a temporary folder with crates of this one, those of the definitions or all, for the prover to work in.
 
 Nothing is written in this repository. What is proved here already (target/) is not proved again there, as long as
 it is left unchanged.
@@ -6,7 +6,7 @@ it is left unchanged.
 import os, pathlib, shutil, subprocess, tempfile
 
 ROOT = pathlib.Path(__file__).resolve().parent.parent
-CRATES = ['words', 'facts', 'numbers', 'lines', 'history']
+DEFINITIONS = ['words', 'facts', 'numbers', 'lines', 'history']
 
 
 class Stopped(Exception):
@@ -14,20 +14,20 @@ class Stopped(Exception):
 
 
 class Repository:
-    def __init__(self, crate=None):
-        """The crates of definitions, and one more, which sees them all and is empty."""
-        self.folder = pathlib.Path(tempfile.mkdtemp(prefix='definitions.'))
+    def __init__(self, crates=DEFINITIONS, crate=None):
+        """These crates, and one more, which sees them all and is empty."""
+        self.folder = pathlib.Path(tempfile.mkdtemp(prefix='scratch.'))
         self.crates = self.folder / 'crates'
-        for name in CRATES:
+        for name in crates:
             shutil.copytree(ROOT / 'crates' / name, self.crates / name, ignore=shutil.ignore_patterns('must-fail'))
         if (ROOT / 'target' / 'stamp').is_dir():
             for part in ('rlib', 'stamp'):
                 shutil.copytree(ROOT / 'target' / part, self.folder / 'target' / part)
-        lines = [l for l in (ROOT / 'crates.txt').read_text().splitlines() if l.split(':')[0] in CRATES]
+        lines = [l for l in (ROOT / 'crates.txt').read_text().splitlines() if l.split(':')[0] in crates]
         if crate:
             (self.crates / crate / 'src').mkdir(parents=True)
             (self.crates / crate / 'src' / 'lib.rt').write_text('// There is no code here.\n')
-            lines.append(crate + ': ' + ' '.join(CRATES))
+            lines.append(crate + ': ' + ' '.join(crates))
         (self.folder / 'crates.txt').write_text('\n'.join(lines) + '\n')
 
     def write(self, crate, files):

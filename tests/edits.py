@@ -1,0 +1,34 @@
+"""Edits that plant an error: a heading `# what is wrong`, then `file:`, and `old:` and `new:` for each text that is changed in it."""
+
+
+class Misfit(Exception):
+    """An edit's text is not in its file, or not once."""
+
+
+def planted(edit):
+    """The files of an edit, each with its pairs of an old and a new text."""
+    files = {}
+    for line in edit.splitlines()[1:]:
+        word, _, text = line.partition(': ')
+        if word == 'file':
+            pairs = files.setdefault(text, [])
+        elif word == 'old':
+            old = text
+        elif word == 'new':
+            pairs.append((old, text))
+        else:
+            raise Misfit('no line of an edit: ' + line)
+    return files
+
+
+def changed(text, pairs, name):
+    """A text with these pairs changed."""
+    for old, new in pairs:
+        if text.count(old) != 1:
+            raise Misfit(f'{name}: {text.count(old)} times there: {old}')
+        text = text.replace(old, new)
+    return text
+
+
+def says(edit):
+    return edit.splitlines()[0].removeprefix('# ')
