@@ -1,13 +1,15 @@
 -- Rows of k numbers in one list, for any k. Assumes nothing.
-use mathlib.Core.Path.{_≡_, refl, ap, _∙_}
+use mathlib.Core.Path.{_≡_, refl, sym, ap, ap₂, _∙_}
 use mathlib.Core.Logic.{_⊎_, inl, inr, ⊎-elim}
-use mathlib.Core.List.{List, [], _∷_}
-use Prim.Native.Nat.{ℕ, zero, suc, _+_, _*_, _≤_, _<_}
+use mathlib.Core.List.{List, [], _∷_, _++_, append-assoc}
+use Prim.Native.Nat.{ℕ, zero, suc, _+_, _-_, _*_, _≤_, _<_}
 use native.Mathlib.Nat.{mul-le-mul-right, suc-mul, add-zero, not-suc-le-zero}
 use native.Mathlib.Decide.{decLt}
 use native.Mathlib.Omega.{arith}
-use lib.ListN.{length, getD, set, length-set}
-use lib.Seq.{sets, getD-set-same, getD-set-other}
+use lib.ListN.{length, getD, set, take, drop, replicate, length-set, length-replicate}
+use lib.Seq.{sets, sets-eq, getD-set-same, getD-set-other}
+use borrow.Rule.Slice.PartMut.{midOf, putMid, mid-len, post-is}
+use Rattle.rows.specs.Table.{put-row}
 
 -- what stands beside the numbers that are written is as it was
 sets-out : (vs l : List ℕ) (i m d : ℕ) → (m < i) ⊎ (i + length vs ≤ m) → getD (sets l i vs) m d ≡ getD l m d
@@ -38,3 +40,15 @@ module _ (k : ℕ) (vs : List ℕ) (long : length vs ≡ k) where
       go : Dec (q < r) → (q * k + j < r * k) ⊎ (r * k + length vs ≤ q * k + j)
       go (yes b) = inl (omega (arith, mul-le-mul-right k b, suc-mul q k))
       go (no b) = let c : r < q = omega arith in inr (omega (arith, mul-le-mul-right k c, suc-mul r k))
+
+-- row r of rows of k numbers, put back as zeros
+pub zeros-back : (k r : ℕ) (rs vs : List ℕ) → r * k + k ≤ length rs → vs ≡ replicate (length (midOf (r * k) (r * k + k - r * k) rs)) 0
+    → putMid (r * k) (r * k + k - r * k) rs vs ≡ put-row k rs r (replicate k 0)
+unfolding put-row
+zeros-back k r rs vs h e =
+    let l : length (midOf (r * k) (r * k + k - r * k) rs) ≡ k = omega (arith, mid-len (r * k) (r * k + k) rs h) in
+    let n = length-replicate {A = ℕ} k 0 in
+    ap₂ (λ (a b : List ℕ). take (r * k) rs ++ (a ++ b)) (e ∙ ap (λ (m : ℕ). replicate m 0) l) (post-is (r * k) (r * k + k) rs (omega arith))
+    ∙ sym (append-assoc (take (r * k) rs) (replicate k 0) (drop (r * k + k) rs))
+    ∙ ap (λ (m : ℕ). take (r * k) rs ++ replicate k 0 ++ drop (r * k + m) rs) (sym n)
+    ∙ sym (sets-eq (replicate k 0) rs (r * k) (omega (arith, n)))

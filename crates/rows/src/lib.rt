@@ -7,8 +7,9 @@ pub mod references;
 pub type Number = u32;
 
 ghost use mathlib.Core.Path.{_≡_};
+ghost use Prim.Native.Nat.{_+_, _*_, _≤_};
 ghost use lib.ListN.{length, replicate};
-ghost use Rattle.rows.specs.Table.{table, cleared};
+ghost use Rattle.rows.specs.Table.{table, put-row, cleared};
 
 // All numbers 0, of rows and of marks.
 fn clear_rows(a: &mut [Number])
@@ -19,6 +20,16 @@ fn clear_rows(a: &mut [Number])
         a[i] = 0;
         i += 1;
     }
+}
+
+// All numbers of row r 0, so many to a row.
+pub(crate) fn clear_row(rows: &mut [Number], stride: usize, r: usize)
+    requires { ⌜ r * stride + stride ≤ length (now rows) ⌝ }
+    ensures { λ _. ⌜ now (rows .exit) ≡ put-row stride (now (rows .entry)) r (replicate stride 0) ⌝ }
+{
+    let at = r * stride;
+    let next = at + stride;
+    clear_rows(&mut rows[at..next]);
 }
 
 fn clear_marks(a: &mut [u64])

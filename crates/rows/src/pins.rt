@@ -1,5 +1,6 @@
 // Pin rows: thread, family and buffer of each buffer that is outstanding.
 use super::Number;
+use super::clear_row;
 use super::marks::WORD;
 use super::marks::clear_mark;
 use super::marks::free_below;
@@ -13,11 +14,11 @@ ghost use Prim.Native.Nat.{_+_, _*_, _/_, _<_, _≤_};
 ghost use lib.ListN.{length};
 ghost use Rattle.rows.specs.Scan.{how-many, lowest};
 ghost use Rattle.rows.specs.Marks.{word, in-word};
-ghost use Rattle.rows.specs.Table.{table, put-row, room, row-at, matches, passes, free-row, alive, found, some-row, stored, taken, ended};
+ghost use Rattle.rows.specs.Table.{table, put-row, room, row-at, matches, passes, free-row, alive, found, some-row, stored, ended};
 ghost use Rattle.rows.specs.Pins.{pins, of-thread, is-buffer};
 
-// Numbers to a row.
-const STRIDE: usize = 3;
+// Numbers to a row: what a caller lends for so many rows.
+pub const STRIDE: usize = 3;
 
 // A row: thread is 0 unless the family is critical.
 pub struct Pin {
@@ -81,27 +82,12 @@ pub fn store(rows: &mut [Number], marks: &mut [u64], r: usize, row: Pin)
     }
 }
 
-// Takes the lowest free row, and answers it, or the room where all are used.
-pub fn take(rows: &mut [Number], marks: &mut [u64], row: Pin) -> usize
-    ensures answer { λ r. ⌜ r ≡ free-row pins (table (now (rows .entry)) (now (marks .entry))) ⌝ }
-    ensures left { λ _. ⌜ table (now (rows .exit)) (now (marks .exit)) ≡ taken pins (table (now (rows .entry)) (now (marks .entry))) row ⌝ }
-{
-    let r = lowest_free(rows, marks);
-    store(rows, marks, r, row);
-    r
-}
-
 // Ends row r; nothing where there is no row r.
 pub fn end(rows: &mut [Number], marks: &mut [u64], r: usize)
     ensures { λ _. ⌜ table (now (rows .exit)) (now (marks .exit)) ≡ ended pins (table (now (rows .entry)) (now (marks .entry))) r ⌝ }
 {
     if r < room(rows, marks) {
-        let row = Pin {
-            thread: 0,
-            family: 0,
-            buffer: 0,
-        };
-        write(rows, r, row);
+        clear_row(rows, STRIDE, r);
         clear_mark(marks, r);
     }
 }

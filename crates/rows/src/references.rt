@@ -1,5 +1,6 @@
 // Reference rows: thread, handle and frame of each handle that is alive.
 use super::Number;
+use super::clear_row;
 use super::marks::WORD;
 use super::marks::clear_mark;
 use super::marks::free_below;
@@ -17,8 +18,8 @@ ghost use Rattle.rows.specs.Marks.{word, in-word};
 ghost use Rattle.rows.specs.Table.{table, put-row, room, row-at, matches, passes, free-row, alive, found, counted, stored, taken, ended, ended-if, ended-from, ended-all};
 ghost use Rattle.rows.specs.References.{references, of-thread, has-handle, is-handle, in-frame, from-frame};
 
-// Numbers to a row.
-const STRIDE: usize = 3;
+// Numbers to a row: what a caller lends for so many rows.
+pub const STRIDE: usize = 3;
 
 // A row: thread and frame are 0 for global and weak handles, else from 1.
 pub struct Reference {
@@ -97,12 +98,7 @@ pub fn end(rows: &mut [Number], marks: &mut [u64], r: usize)
     ensures { λ _. ⌜ table (now (rows .exit)) (now (marks .exit)) ≡ ended references (table (now (rows .entry)) (now (marks .entry))) r ⌝ }
 {
     if r < room(rows, marks) {
-        let row = Reference {
-            thread: 0,
-            handle: 0,
-            frame: 0,
-        };
-        write(rows, r, row);
+        clear_row(rows, STRIDE, r);
         clear_mark(marks, r);
     }
 }

@@ -48,9 +48,6 @@ pins-alive-tight κs args = (tt, by-reply)
 pub pins-store-tight : Tight rows.pins.store.ended rows.pins.store.Reads.Asked rows.pins.store.Reads.Learnt
 pins-store-tight κs args = (tt, by-table)
 
-pub pins-take-tight : Tight rows.pins.take.ended rows.pins.take.Reads.Asked rows.pins.take.Reads.Learnt
-pins-take-tight κs args = (tt, by-reply-and-table)
-
 pub pins-end-tight : Tight rows.pins.end.ended rows.pins.end.Reads.Asked rows.pins.end.Reads.Learnt
 pins-end-tight κs args = (tt, by-table)
 
