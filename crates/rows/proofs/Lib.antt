@@ -6,5 +6,6 @@ mod CellLaws
 mod TableLaws
 mod SlotLaws
 mod RowLaws
+mod SoughtLaws
 pub mod ViewLaws
 pub mod ExactLaws

@@ -53,15 +53,13 @@ module _ {A : Type 0} (L : Layout A) where
   end-none rs ms n r a l = rw (le-ltb r (room L (table rs ms)) (omega arith))
 
   -- ---- a row's test: what stands there, then its mark
-  pub test-yes : (q : A → Bool) (rs ms : List ℕ) (r : ℕ) (x : A) (a b : Bool) → x ≡ row-at L rs r → a ≡ q x → a ≡ true → b ≡ used ms r
-      → b ≡ passes L q (table rs ms) r
-  unfolding passes matches
-  test-yes q rs ms r x a b e f g h = h ∙ rw (sym (ap q e) ∙ sym f ∙ g)
+  pub test-yes : (q : A → Bool) (rs ms : List ℕ) (r : ℕ) (a b : Bool) → a ≡ matches L q rs r → a ≡ true → b ≡ used ms r → b ≡ passes L q (table rs ms) r
+  unfolding passes
+  test-yes q rs ms r a b e f g = g ∙ rw (sym e ∙ f)
 
-  pub test-no : (q : A → Bool) (rs ms : List ℕ) (r : ℕ) (x : A) (a : Bool) → x ≡ row-at L rs r → a ≡ q x → a ≡ false
-      → false ≡ passes L q (table rs ms) r
-  unfolding passes matches
-  test-no q rs ms r x a e f g = rw (sym (ap q e) ∙ sym f ∙ g)
+  pub test-no : (q : A → Bool) (rs ms : List ℕ) (r : ℕ) (a : Bool) → a ≡ matches L q rs r → a ≡ false → false ≡ passes L q (table rs ms) r
+  unfolding passes
+  test-no q rs ms r a e f = rw (sym e ∙ f)
 
   pub match-next : (q : A → Bool) (rs : List ℕ) (w s i k : ℕ) (x : A) (b : Bool) → s ≡ how-many (in-word (matches L q rs) w) i
       → x ≡ row-at L rs (w * word + i) → b ≡ q x → k ≡ one b → s + k ≡ how-many (in-word (matches L q rs) w) (i + 1)
@@ -120,9 +118,11 @@ module _ {A : Type 0} (L : Layout A) where
   sum-unused q rs ms w z = sym (none-passes (in-word (passes L q (table rs ms)) w) word (λ i l. unused-fails q rs ms w i z l))
 
   -- ---- row after row of the whole room
-  pub counted-all : (q : A → Bool) (T : Table) (s n r : ℕ) → n ≡ room L T → r ≤ n → n ≤ r → s ≡ how-many (passes L q T) r → s ≡ counted L q T
-  unfolding counted
-  counted-all q T s n r a l g e = let x : r ≡ room L T = omega arith in cc
+  pub counted-all : (q : A → Bool) (T : Table) (s n : ℕ) → n ≡ room L T → s ≡ how-many (in-word (passes L q T) 0) n → s ≡ counted L q T
+  unfolding counted in-word
+  counted-all q T s n a e =
+      e ∙ how-many-ext (λ i. passes L q T (0 * word + i)) (passes L q T) n (λ i l. let x : 0 * word + i ≡ i = omega arith in ap (passes L q T) x)
+      ∙ ap (how-many (passes L q T)) a
 
   pub some-hit : (q : A → Bool) (T : Table) (w i n : ℕ) → w * word ≡ lowest (passes L q T) (w * word) → i ≡ lowest (in-word (passes L q T) w) word
       → i < word → w < n / word → n ≡ room L T → true ≡ some-row L q T

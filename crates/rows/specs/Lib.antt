@@ -7,3 +7,4 @@ pub mod View
 pub mod Exact
 pub mod References
 pub mod Pins
+pub mod Sought

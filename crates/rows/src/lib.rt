@@ -2,6 +2,7 @@
 mod marks;
 pub mod pins;
 pub mod references;
+mod sought;
 
 // What rows are made of.
 pub type Number = u32;

@@ -4,11 +4,12 @@ use super::clear_row;
 use super::marks::WORD;
 use super::marks::clear_mark;
 use super::marks::free_below;
-use super::marks::is_used;
 use super::marks::one;
 use super::marks::room_of;
 use super::marks::set_mark;
 use super::marks::used_below;
+use super::sought::Sought;
+use super::sought::find_first;
 ghost use mathlib.Core.Path.{_≡_};
 ghost use Prim.Native.Nat.{_+_, _*_, _/_, _<_, _≤_};
 ghost use lib.ListN.{length};
@@ -49,7 +50,7 @@ pub fn alive(rows: &[Number], marks: &[u64]) -> usize
 }
 
 // What stands in row r, used or not.
-fn read(rows: &[Number], r: usize) -> Pin
+pub(crate) fn read(rows: &[Number], r: usize) -> Pin
     requires { ⌜ r < length (now rows) / pins .stride ⌝ }
     ensures { λ x. ⌜ x ≡ row-at pins (now (rows .entry)) r ⌝ }
 {
@@ -93,14 +94,14 @@ pub fn end(rows: &mut [Number], marks: &mut [u64], r: usize)
 }
 
 // The row is of thread t.
-fn of_thread(row: Pin, t: Number) -> bool
+pub(crate) fn of_thread(row: Pin, t: Number) -> bool
     ensures { λ b. ⌜ b ≡ of-thread t row ⌝ }
 {
     row.thread == t
 }
 
 // The row is that of buffer b of family f, of thread t.
-fn is_buffer(row: Pin, t: Number, f: Number, b: Number) -> bool
+pub(crate) fn is_buffer(row: Pin, t: Number, f: Number, b: Number) -> bool
     ensures { λ y. ⌜ y ≡ is-buffer t f b row ⌝ }
 {
     (row.buffer == b) & (row.family == f) & (row.thread == t)
@@ -120,41 +121,6 @@ fn buffers(rows: &[Number], w: usize, t: Number, f: Number, b: Number) -> Number
     sum
 }
 
-// Row r is used and is that of buffer b of family f, of thread t.
-fn holds(rows: &[Number], marks: &[u64], r: usize, t: Number, f: Number, b: Number) -> bool
-    requires { ⌜ r < room pins (table (now rows) (now marks)) ⌝ }
-    ensures { λ y. ⌜ y ≡ passes pins (is-buffer t f b) (table (now (rows .entry)) (now (marks .entry))) r ⌝ }
-{
-    if is_buffer(read(rows, r), t, f, b) {
-        is_used(marks, r)
-    } else {
-        false
-    }
-}
-
-// The lowest such row among the first m of word w, or m.
-fn find_first(
-    rows: &[Number],
-    marks: &[u64],
-    w: usize,
-    m: usize,
-    t: Number,
-    f: Number,
-    b: Number,
-) -> usize
-    requires { ⌜ w * word + m ≤ room pins (table (now rows) (now marks)) ⌝ }
-    ensures { λ i. ⌜ (i ≡ lowest (in-word (passes pins (is-buffer t f b) (table (now (rows .entry)) (now (marks .entry)))) w) m) × (i ≤ m) ⌝ }
-{
-    let mut i = 0;
-    while i < m {
-        if holds(rows, marks, w * WORD + i, t, f, b) {
-            return i;
-        }
-        i += 1;
-    }
-    m
-}
-
 // The lowest such row of word w, or 64. A word of which no row is used is passed over at once.
 fn find_in(rows: &[Number], marks: &[u64], w: usize, t: Number, f: Number, b: Number) -> usize
     requires { ⌜ w * word + word ≤ room pins (table (now rows) (now marks)) ⌝ }
@@ -166,7 +132,7 @@ fn find_in(rows: &[Number], marks: &[u64], w: usize, t: Number, f: Number, b: Nu
     if buffers(rows, w, t, f, b) == 0 {
         return WORD;
     }
-    find_first(rows, marks, w, WORD, t, f, b)
+    find_first(rows, marks, w, WORD, Sought::Buffer(t, f, b))
 }
 
 // The lowest used row of buffer b of family f, of thread t, or the room.
@@ -183,7 +149,7 @@ pub fn find(rows: &[Number], marks: &[u64], t: Number, f: Number, b: Number) -> 
         }
         w += 1;
     }
-    full * WORD + find_first(rows, marks, full, n % WORD, t, f, b)
+    full * WORD + find_first(rows, marks, full, n % WORD, Sought::Buffer(t, f, b))
 }
 
 // How many rows of word w are of thread t, used or not.
@@ -200,33 +166,6 @@ fn threads(rows: &[Number], w: usize, t: Number) -> Number
     sum
 }
 
-// Row r is used and is of thread t.
-fn is_of(rows: &[Number], marks: &[u64], r: usize, t: Number) -> bool
-    requires { ⌜ r < room pins (table (now rows) (now marks)) ⌝ }
-    ensures { λ b. ⌜ b ≡ passes pins (of-thread t) (table (now (rows .entry)) (now (marks .entry))) r ⌝ }
-{
-    if of_thread(read(rows, r), t) {
-        is_used(marks, r)
-    } else {
-        false
-    }
-}
-
-// The lowest such row among the first m of word w, or m.
-fn of_first(rows: &[Number], marks: &[u64], w: usize, m: usize, t: Number) -> usize
-    requires { ⌜ w * word + m ≤ room pins (table (now rows) (now marks)) ⌝ }
-    ensures { λ i. ⌜ i ≡ lowest (in-word (passes pins (of-thread t) (table (now (rows .entry)) (now (marks .entry)))) w) m ⌝ }
-{
-    let mut i = 0;
-    while i < m {
-        if is_of(rows, marks, w * WORD + i, t) {
-            return i;
-        }
-        i += 1;
-    }
-    m
-}
-
 // The lowest such row of word w, or 64.
 fn of_in(rows: &[Number], marks: &[u64], w: usize, t: Number) -> usize
     requires { ⌜ w * word + word ≤ room pins (table (now rows) (now marks)) ⌝ }
@@ -238,7 +177,7 @@ fn of_in(rows: &[Number], marks: &[u64], w: usize, t: Number) -> usize
     if threads(rows, w, t) == 0 {
         return WORD;
     }
-    of_first(rows, marks, w, WORD, t)
+    find_first(rows, marks, w, WORD, Sought::Pinned(t))
 }
 
 // Whether a buffer of thread t is outstanding: of a thread from 1 that is a critical one.
@@ -254,5 +193,5 @@ pub fn outstanding(rows: &[Number], marks: &[u64], t: Number) -> bool
         }
         w += 1;
     }
-    of_first(rows, marks, full, n % WORD, t) < n % WORD
+    find_first(rows, marks, full, n % WORD, Sought::Pinned(t)) < n % WORD
 }

@@ -4,12 +4,15 @@ use super::clear_row;
 use super::marks::WORD;
 use super::marks::clear_mark;
 use super::marks::free_below;
-use super::marks::is_used;
 use super::marks::one;
 use super::marks::room_of;
 use super::marks::set_mark;
 use super::marks::size;
 use super::marks::used_below;
+use super::sought::Sought;
+use super::sought::count_first;
+use super::sought::find_first;
+use super::sought::holds;
 ghost use mathlib.Core.Path.{_≡_};
 ghost use Prim.Native.Nat.{_+_, _*_, _/_, _<_, _≤_};
 ghost use lib.ListN.{length};
@@ -50,7 +53,7 @@ pub fn alive(rows: &[Number], marks: &[u64]) -> usize
 }
 
 // What stands in row r, used or not.
-fn read(rows: &[Number], r: usize) -> Reference
+pub(crate) fn read(rows: &[Number], r: usize) -> Reference
     requires { ⌜ r < length (now rows) / references .stride ⌝ }
     ensures { λ x. ⌜ x ≡ row-at references (now (rows .entry)) r ⌝ }
 {
@@ -104,28 +107,28 @@ pub fn end(rows: &mut [Number], marks: &mut [u64], r: usize)
 }
 
 // The row is of thread t.
-fn of_thread(row: Reference, t: Number) -> bool
+pub(crate) fn of_thread(row: Reference, t: Number) -> bool
     ensures { λ b. ⌜ b ≡ of-thread t row ⌝ }
 {
     row.thread == t
 }
 
 // The row is that of handle h in thread t.
-fn is_handle(row: Reference, t: Number, h: Number) -> bool
+pub(crate) fn is_handle(row: Reference, t: Number, h: Number) -> bool
     ensures { λ b. ⌜ b ≡ is-handle t h row ⌝ }
 {
     (row.handle == h) & (row.thread == t)
 }
 
 // The row is of thread t and frame f.
-fn in_frame(row: Reference, t: Number, f: Number) -> bool
+pub(crate) fn in_frame(row: Reference, t: Number, f: Number) -> bool
     ensures { λ b. ⌜ b ≡ in-frame t f row ⌝ }
 {
     (row.frame == f) & (row.thread == t)
 }
 
 // The row is of thread t and frame f or above.
-fn from_frame(row: Reference, t: Number, f: Number) -> bool
+pub(crate) fn from_frame(row: Reference, t: Number, f: Number) -> bool
     ensures { λ b. ⌜ b ≡ from-frame t f row ⌝ }
 {
     (f <= row.frame) & (row.thread == t)
@@ -146,33 +149,6 @@ fn handles(rows: &[Number], w: usize, h: Number) -> Number
     sum
 }
 
-// Row r is used and is that of handle h in thread t.
-fn holds(rows: &[Number], marks: &[u64], r: usize, t: Number, h: Number) -> bool
-    requires { ⌜ r < room references (table (now rows) (now marks)) ⌝ }
-    ensures { λ b. ⌜ b ≡ passes references (is-handle t h) (table (now (rows .entry)) (now (marks .entry))) r ⌝ }
-{
-    if is_handle(read(rows, r), t, h) {
-        is_used(marks, r)
-    } else {
-        false
-    }
-}
-
-// The lowest such row among the first m of word w, or m.
-fn find_first(rows: &[Number], marks: &[u64], w: usize, m: usize, t: Number, h: Number) -> usize
-    requires { ⌜ w * word + m ≤ room references (table (now rows) (now marks)) ⌝ }
-    ensures { λ i. ⌜ (i ≡ lowest (in-word (passes references (is-handle t h) (table (now (rows .entry)) (now (marks .entry)))) w) m) × (i ≤ m) ⌝ }
-{
-    let mut i = 0;
-    while i < m {
-        if holds(rows, marks, w * WORD + i, t, h) {
-            return i;
-        }
-        i += 1;
-    }
-    m
-}
-
 // The lowest such row of word w, or 64; looked at row by row only where a handle is h. A word of which no row is used is passed over at once.
 fn find_in(rows: &[Number], marks: &[u64], w: usize, t: Number, h: Number) -> usize
     requires { ⌜ w * word + word ≤ room references (table (now rows) (now marks)) ⌝ }
@@ -184,7 +160,7 @@ fn find_in(rows: &[Number], marks: &[u64], w: usize, t: Number, h: Number) -> us
     if handles(rows, w, h) == 0 {
         return WORD;
     }
-    find_first(rows, marks, w, WORD, t, h)
+    find_first(rows, marks, w, WORD, Sought::Handle(t, h))
 }
 
 // The lowest used row of handle h in thread t, or the room.
@@ -201,7 +177,7 @@ pub fn find(rows: &[Number], marks: &[u64], t: Number, h: Number) -> usize
         }
         w += 1;
     }
-    full * WORD + find_first(rows, marks, full, n % WORD, t, h)
+    full * WORD + find_first(rows, marks, full, n % WORD, Sought::Handle(t, h))
 }
 
 // How many rows of word w are of thread t and frame f, used or not.
@@ -213,32 +189,6 @@ fn frames(rows: &[Number], w: usize, t: Number, f: Number) -> Number
     let mut i = 0;
     while i < WORD {
         sum += one(in_frame(read(rows, w * WORD + i), t, f));
-        i += 1;
-    }
-    sum
-}
-
-// Row r is used and is of thread t and frame f.
-fn lies_in(rows: &[Number], marks: &[u64], r: usize, t: Number, f: Number) -> bool
-    requires { ⌜ r < room references (table (now rows) (now marks)) ⌝ }
-    ensures { λ b. ⌜ b ≡ passes references (in-frame t f) (table (now (rows .entry)) (now (marks .entry))) r ⌝ }
-{
-    if in_frame(read(rows, r), t, f) {
-        is_used(marks, r)
-    } else {
-        false
-    }
-}
-
-// How many of the first m rows of word w are such.
-fn count_first(rows: &[Number], marks: &[u64], w: usize, m: usize, t: Number, f: Number) -> Number
-    requires { ⌜ (w * word + m ≤ room references (table (now rows) (now marks))) × (m ≤ word) ⌝ }
-    ensures { λ k. ⌜ (k ≡ how-many (in-word (passes references (in-frame t f) (table (now (rows .entry)) (now (marks .entry)))) w) m) × (k ≤ word) ⌝ }
-{
-    let mut sum: Number = 0;
-    let mut i = 0;
-    while i < m {
-        sum += one(lies_in(rows, marks, w * WORD + i, t, f));
         i += 1;
     }
     sum
@@ -259,7 +209,7 @@ fn count_in(rows: &[Number], marks: &[u64], w: usize, t: Number, f: Number) -> N
     if !marks[w] == 0 {
         return k;
     }
-    count_first(rows, marks, w, WORD, t, f)
+    count_first(rows, marks, w, WORD, Sought::Frame(t, f))
 }
 
 // How many used rows are of thread t and frame f.
@@ -274,33 +224,14 @@ pub fn count(rows: &[Number], marks: &[u64], t: Number, f: Number) -> usize
         sum += count_in(rows, marks, w, t, f);
         w += 1;
     }
-    size(sum + count_first(rows, marks, full, n % WORD, t, f))
-}
-
-// Row r is used and is of thread t.
-fn is_of(rows: &[Number], marks: &[u64], r: usize, t: Number) -> bool
-    requires { ⌜ r < room references (table (now rows) (now marks)) ⌝ }
-    ensures { λ b. ⌜ b ≡ passes references (of-thread t) (table (now (rows .entry)) (now (marks .entry))) r ⌝ }
-{
-    if of_thread(read(rows, r), t) {
-        is_used(marks, r)
-    } else {
-        false
-    }
+    size(sum + count_first(rows, marks, full, n % WORD, Sought::Frame(t, f)))
 }
 
 // How many globals and weaks are alive: the used rows of thread 0. Row by row, since only the end of a trace asks.
 pub fn globals(rows: &[Number], marks: &[u64]) -> usize
     ensures { λ k. ⌜ k ≡ counted references (of-thread 0) (table (now (rows .entry)) (now (marks .entry))) ⌝ }
 {
-    let n = room(rows, marks);
-    let mut sum: Number = 0;
-    let mut r = 0;
-    while r < n {
-        sum += one(is_of(rows, marks, r, 0));
-        r += 1;
-    }
-    size(sum)
+    size(count_first(rows, marks, 0, room(rows, marks), Sought::Thread(0)))
 }
 
 // How many rows of word w are of thread t and frame f or above, used or not.
@@ -317,24 +248,12 @@ fn above(rows: &[Number], w: usize, t: Number, f: Number) -> Number
     sum
 }
 
-// Row r is used and is of thread t and frame f or above.
-fn lies_above(rows: &[Number], marks: &[u64], r: usize, t: Number, f: Number) -> bool
-    requires { ⌜ r < room references (table (now rows) (now marks)) ⌝ }
-    ensures { λ b. ⌜ b ≡ passes references (from-frame t f) (table (now (rows .entry)) (now (marks .entry))) r ⌝ }
-{
-    if from_frame(read(rows, r), t, f) {
-        is_used(marks, r)
-    } else {
-        false
-    }
-}
-
 // Ends row r, if it is such.
 fn end_if(rows: &mut [Number], marks: &mut [u64], r: usize, t: Number, f: Number)
     requires { ⌜ r < room references (table (now rows) (now marks)) ⌝ }
     ensures { λ _. ⌜ table (now (rows .exit)) (now (marks .exit)) ≡ ended-if references (from-frame t f) (table (now (rows .entry)) (now (marks .entry))) r ⌝ }
 {
-    if lies_above(rows, marks, r, t, f) {
+    if holds(rows, marks, r, Sought::Above(t, f)) {
         end(rows, marks, r);
     }
 }
