@@ -17,7 +17,7 @@ use Rattle.rows.proofs.BitLaws.{bit-of-zero}
 use Rattle.rows.proofs.SlotLaws.{getD-each, each-ext, each-same}
 use Rattle.rows.proofs.MarkLaws.{used-marked-same, used-marked-other, used-unmarked-other}
 use Rattle.rows.proofs.RowLaws.{row-same, row-other, in-table, in-words, stored-in, stored-out, ended-in, ended-out}
-use Rattle.rows.proofs.ViewLaws.{room-same, stored-size, ended-size, length-view, getD-zero}
+use Rattle.rows.proofs.ViewLaws.{room-same, stored-lengths, ended-lengths, length-view, getD-zero}
 
 module _ {A : Type 0} (L : Layout A) where
   pub record Clean (T : Table) : Type 0 where
@@ -41,7 +41,7 @@ module _ {A : Type 0} (L : Layout A) where
   changed : (T : Table) (r : ℕ) (vs ms : List ℕ) → length vs ≡ L .stride → r < room L T → room L (table (put-row (L .stride) (T .rows) r vs) ms) ≡ room L T
       → ((q : ℕ) → (q ≡ r → ⊥) → used ms q ≡ used (T .marks) q) → (used ms r ≡ false → vs ≡ replicate (L .stride) 0) → Clean T
       → Clean (table (put-row (L .stride) (T .rows) r vs) ms)
-  changed T r vs ms long h size others here k =
+  changed T r vs ms long h same others here k =
       record { zeroed = λ q u. at q (ℕ-discrete q r) u; within = λ q l. past q (ℕ-discrete q r) l }
     where
       at : (q : ℕ) → Dec (q ≡ r) → used ms q ≡ false → row (L .stride) (put-row (L .stride) (T .rows) r vs) q ≡ replicate (L .stride) 0
@@ -49,8 +49,8 @@ module _ {A : Type 0} (L : Layout A) where
       at q (no n) u = row-other (L .stride) vs long (T .rows) r q n ∙ k .zeroed q (sym (others q n) ∙ u)
 
       past : (q : ℕ) → Dec (q ≡ r) → room L (table (put-row (L .stride) (T .rows) r vs) ms) ≤ q → used ms q ≡ false
-      past q (yes e) l = absurd (omega (arith, size))
-      past q (no n) l = others q n ∙ k .within q (omega (arith, size))
+      past q (yes e) l = absurd (omega (arith, same))
+      past q (no n) l = others q n ∙ k .within q (omega (arith, same))
 
   clean-stored : (T : Table) (r : ℕ) (x : A) → Clean T → Clean (stored L T r x)
   clean-stored T r x k = go (decLt r (room L T))
@@ -59,7 +59,7 @@ module _ {A : Type 0} (L : Layout A) where
       go (yes h) =
           rw (stored-in L T r x h)
           (changed T r (L .numbers x) (marked (T .marks) r) (L .whole x) h
-          (ap (room L) (sym (stored-in L T r x h)) ∙ room-same L (stored L T r x) T (stored-size L T r x))
+          (ap (room L) (sym (stored-in L T r x h)) ∙ room-same L (stored L T r x) T (stored-lengths L T r x))
           (λ q n. used-marked-other (T .marks) r q (in-words L T r h) n)
           (λ u. absurd (false≢true (sym u ∙ used-marked-same (T .marks) r (in-words L T r h)))) k)
       go (no h) = rw (stored-out L T r x (omega arith)) k
@@ -75,7 +75,7 @@ module _ {A : Type 0} (L : Layout A) where
       go (yes h) =
           rw (ended-in L T r h)
           (changed T r (replicate (L .stride) 0) (unmarked (T .marks) r) (length-replicate {A = ℕ} (L .stride) 0) h
-          (ap (room L) (sym (ended-in L T r h)) ∙ room-same L (ended L T r) T (ended-size L T r))
+          (ap (room L) (sym (ended-in L T r h)) ∙ room-same L (ended L T r) T (ended-lengths L T r))
           (λ q n. used-unmarked-other (T .marks) r q (in-words L T r h) n)
           (λ u. refl) k)
       go (no h) = rw (ended-out L T r (omega arith)) k

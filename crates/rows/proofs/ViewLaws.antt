@@ -23,58 +23,58 @@ use Rattle.rows.proofs.SlotLaws.{length-each, each-ext, each-set, each-
 use Rattle.rows.proofs.RowLaws.{stored-out, ended-out, slot-stored-same, slot-stored-other, slot-ended-same, slot-ended-other}
 
 -- ---- no function changes a length
-pub record Same-size (S T : Table) : Type 0 where
+pub record Same-lengths (S T : Table) : Type 0 where
   pub rows : length (S .rows) ≡ length (T .rows)
   pub marks : length (S .marks) ≡ length (T .marks)
 
-size-trans : {S T U : Table} → Same-size S T → Same-size T U → Same-size S U
-size-trans a b = record { rows = a .rows ∙ b .rows; marks = a .marks ∙ b .marks }
+lengths-trans : {S T U : Table} → Same-lengths S T → Same-lengths T U → Same-lengths S U
+lengths-trans a b = record { rows = a .rows ∙ b .rows; marks = a .marks ∙ b .marks }
 
-pub cleared-size : (T : Table) → Same-size (cleared T) T
+pub cleared-lengths : (T : Table) → Same-lengths (cleared T) T
 unfolding cleared
-cleared-size T = record { rows = length-replicate {A = ℕ} (length (T .rows)) 0; marks = length-replicate {A = ℕ} (length (T .marks)) 0 }
+cleared-lengths T = record { rows = length-replicate {A = ℕ} (length (T .rows)) 0; marks = length-replicate {A = ℕ} (length (T .marks)) 0 }
 
 module _ {A : Type 0} (L : Layout A) where
-  pub room-same : (S T : Table) → Same-size S T → room L S ≡ room L T
+  pub room-same : (S T : Table) → Same-lengths S T → room L S ≡ room L T
   unfolding room
   room-same S T e = rw (e .rows, e .marks)
 
-  pub stored-size : (T : Table) (r : ℕ) (x : A) → Same-size (stored L T r x) T
+  pub stored-lengths : (T : Table) (r : ℕ) (x : A) → Same-lengths (stored L T r x) T
   unfolding stored
-  stored-size T r x = go (ltb r (room L T))
+  stored-lengths T r x = go (ltb r (room L T))
     where
-      go : (b : Bool) → Same-size (if b then table (put-row (L .stride) (T .rows) r (L .numbers x)) (marked (T .marks) r) else T) T
+      go : (b : Bool) → Same-lengths (if b then table (put-row (L .stride) (T .rows) r (L .numbers x)) (marked (T .marks) r) else T) T
       go true = unfold put-row marked in record { rows = length-sets (T .rows) _ (L .numbers x); marks = length-set (T .marks) _ _ }
       go false = record { rows = refl; marks = refl }
 
-  pub taken-size : (T : Table) (x : A) → Same-size (taken L T x) T
+  pub taken-lengths : (T : Table) (x : A) → Same-lengths (taken L T x) T
   unfolding taken
-  taken-size T x = stored-size T (free-row L T) x
+  taken-lengths T x = stored-lengths T (free-row L T) x
 
-  pub ended-size : (T : Table) (r : ℕ) → Same-size (ended L T r) T
+  pub ended-lengths : (T : Table) (r : ℕ) → Same-lengths (ended L T r) T
   unfolding ended
-  ended-size T r = go (ltb r (room L T))
+  ended-lengths T r = go (ltb r (room L T))
     where
-      go : (b : Bool) → Same-size (if b then table (put-row (L .stride) (T .rows) r (replicate (L .stride) 0)) (unmarked (T .marks) r) else T) T
+      go : (b : Bool) → Same-lengths (if b then table (put-row (L .stride) (T .rows) r (replicate (L .stride) 0)) (unmarked (T .marks) r) else T) T
       go true = unfold put-row unmarked in record { rows = length-sets (T .rows) _ (replicate (L .stride) 0); marks = length-set (T .marks) _ _ }
       go false = record { rows = refl; marks = refl }
 
-  ended-if-size : (q : A → Bool) (T : Table) (r : ℕ) → Same-size (ended-if L q T r) T
+  ended-if-lengths : (q : A → Bool) (T : Table) (r : ℕ) → Same-lengths (ended-if L q T r) T
   unfolding ended-if
-  ended-if-size q T r = go (passes L q T r)
+  ended-if-lengths q T r = go (passes L q T r)
     where
-      go : (b : Bool) → Same-size (if b then ended L T r else T) T
-      go true = ended-size T r
+      go : (b : Bool) → Same-lengths (if b then ended L T r else T) T
+      go true = ended-lengths T r
       go false = record { rows = refl; marks = refl }
 
-  ended-from-size : (q : A → Bool) (T : Table) (a n : ℕ) → Same-size (ended-from L q T a n) T
+  ended-from-lengths : (q : A → Bool) (T : Table) (a n : ℕ) → Same-lengths (ended-from L q T a n) T
   unfolding ended-from
-  ended-from-size q T a zero = record { rows = refl; marks = refl }
-  ended-from-size q T a (suc n) = size-trans (ended-if-size q (ended-from L q T a n) (a + n)) (ended-from-size q T a n)
+  ended-from-lengths q T a zero = record { rows = refl; marks = refl }
+  ended-from-lengths q T a (suc n) = lengths-trans (ended-if-lengths q (ended-from L q T a n) (a + n)) (ended-from-lengths q T a n)
 
-  pub ended-all-size : (q : A → Bool) (T : Table) → Same-size (ended-all L q T) T
+  pub ended-all-lengths : (q : A → Bool) (T : Table) → Same-lengths (ended-all L q T) T
   unfolding ended-all
-  ended-all-size q T = ended-from-size q T 0 (room L T)
+  ended-all-lengths q T = ended-from-lengths q T 0 (room L T)
 
   -- ---- a test of a row is a test of its slot
   pub length-view : (T : Table) → length (view L T) ≡ room L T
@@ -154,7 +154,7 @@ module _ {A : Type 0} (L : Layout A) where
       inside : r < room L T → view L (stored L T r x) ≡ set (view L T) r (some x)
       inside h =
           unfold view in
-          ap (each (slot L (stored L T r x))) (room-same (stored L T r x) T (stored-size T r x))
+          ap (each (slot L (stored L T r x))) (room-same (stored L T r x) T (stored-lengths T r x))
           ∙ each-set (slot L T) (slot L (stored L T r x)) (room L T) r (some x) h (slot-stored-same L T r x h) (λ k n. slot-stored-other L T r k x h n)
 
       go : Dec (r < room L T) → view L (stored L T r x) ≡ set (view L T) r (some x)
@@ -177,7 +177,7 @@ module _ {A : Type 0} (L : Layout A) where
       inside : r < room L T → view L (ended L T r) ≡ set (view L T) r none
       inside h =
           unfold view in
-          ap (each (slot L (ended L T r))) (room-same (ended L T r) T (ended-size T r))
+          ap (each (slot L (ended L T r))) (room-same (ended L T r) T (ended-lengths T r))
           ∙ each-set (slot L T) (slot L (ended L T r)) (room L T) r none h (slot-ended-same L T r h) (λ k n. slot-ended-other L T r k h n)
 
       go : Dec (r < room L T) → view L (ended L T r) ≡ set (view L T) r none
@@ -190,7 +190,7 @@ module _ {A : Type 0} (L : Layout A) where
 
   -- rows ended one after another: below n each slot that passes is free, the others are as they were
   record Ended (q : A → Bool) (T S : Table) (n : ℕ) : Type 0 where
-    size : Same-size S T
+    lengths : Same-lengths S T
     below : (k : ℕ) → k < n → slot L S k ≡ freed q (slot L T k)
     above : (k : ℕ) → n ≤ k → slot L S k ≡ slot L T k
 
@@ -203,11 +203,11 @@ module _ {A : Type 0} (L : Layout A) where
   ended-more q T S n h e = go (passes L q S n) (passes-slot q S n ∙ ap (holding q) (e .above n (le-refl n)))
     where
       in-room : n < room L S
-      in-room = omega (arith, room-same S T (e .size))
+      in-room = omega (arith, room-same S T (e .lengths))
 
       go : (b : Bool) → b ≡ holding q (slot L T n) → Ended q T (if b then ended L S n else S) (suc n)
       go true x = record {
-        size = size-trans (ended-size S n) (e .size);
+        lengths = lengths-trans (ended-lengths S n) (e .lengths);
         below = λ k l. at k (ℕ-discrete k n) l;
         above = λ k l. slot-ended-other L S n k in-room (omega arith) ∙ e .above k (omega arith);
       }
@@ -217,7 +217,7 @@ module _ {A : Type 0} (L : Layout A) where
               ap (slot L (ended L S n)) y ∙ slot-ended-same L S n in-room
               ∙ ap (λ (b : Bool). if b then none else slot L T n) x ∙ sym (freed-by q (slot L T n)) ∙ ap (λ (m : ℕ). freed q (slot L T m)) (sym y)
           at k (no y) l = slot-ended-other L S n k in-room y ∙ e .below k (omega arith)
-      go false x = record { size = e .size; below = λ k l. at k (ℕ-discrete k n) l; above = λ k l. e .above k (omega arith) }
+      go false x = record { lengths = e .lengths; below = λ k l. at k (ℕ-discrete k n) l; above = λ k l. e .above k (omega arith) }
         where
           at : (k : ℕ) → Dec (k ≡ n) → k < suc n → slot L S k ≡ freed q (slot L T k)
           at k (yes y) l =
@@ -227,7 +227,7 @@ module _ {A : Type 0} (L : Layout A) where
 
   ended-below : (q : A → Bool) (T : Table) (n : ℕ) → n ≤ room L T → Ended q T (ended-from L q T 0 n) n
   unfolding ended-from
-  ended-below q T zero h = record { size = record { rows = refl; marks = refl }; below = λ k l. absurd (omega arith); above = λ k l. refl }
+  ended-below q T zero h = record { lengths = record { rows = refl; marks = refl }; below = λ k l. absurd (omega arith); above = λ k l. refl }
   ended-below q T (suc n) h =
       let e : 0 + n ≡ n = omega arith in
       rw e (ended-more q T (ended-from L q T 0 n) n h (ended-below q T n (omega arith)))
@@ -237,7 +237,7 @@ module _ {A : Type 0} (L : Layout A) where
   view-ended-all q T =
       let e = ended-below q T (room L T) (le-refl (room L T)) in
       let S = ended-from L q T 0 (room L T) in
-      ap (each (slot L S)) (room-same S T (e .size))
+      ap (each (slot L S)) (room-same S T (e .lengths))
       ∙ each-ext (slot L S) (λ k. freed q (slot L T k)) (room L T) (e .below)
       ∙ wipe-each q (slot L T) (room L T)
 
@@ -256,5 +256,5 @@ module _ {A : Type 0} (L : Layout A) where
   pub view-cleared : (T : Table) → view L (cleared T) ≡ replicate (room L T) none
   unfolding view
   view-cleared T =
-      ap (each (slot L (cleared T))) (room-same (cleared T) T (cleared-size T))
+      ap (each (slot L (cleared T))) (room-same (cleared T) T (cleared-lengths T))
       ∙ each-ext (slot L (cleared T)) (λ k. none) (room L T) (λ k l. slot-cleared T k) ∙ each-same none (room L T)

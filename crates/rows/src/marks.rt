@@ -36,8 +36,8 @@ pub(crate) fn one(b: bool) -> Number
     if b { 1 } else { 0 }
 }
 
-// A count of rows, for the caller.
-pub(crate) fn size(n: Number) -> usize
+// A sum of ones as a count of rows, for the caller.
+pub(crate) fn count_of(n: Number) -> usize
     ensures { λ r. ⌜ r ≡ n ⌝ }
 {
     n as usize

@@ -3,11 +3,11 @@ use super::Number;
 use super::clear_row;
 use super::marks::WORD;
 use super::marks::clear_mark;
+use super::marks::count_of;
 use super::marks::free_below;
 use super::marks::one;
 use super::marks::room_of;
 use super::marks::set_mark;
-use super::marks::size;
 use super::marks::used_below;
 use super::sought::Sought;
 use super::sought::count_first;
@@ -224,14 +224,14 @@ pub fn count(rows: &[Number], marks: &[u64], t: Number, f: Number) -> usize
         sum += count_in(rows, marks, w, t, f);
         w += 1;
     }
-    size(sum + count_first(rows, marks, full, n % WORD, Sought::Frame(t, f)))
+    count_of(sum + count_first(rows, marks, full, n % WORD, Sought::Frame(t, f)))
 }
 
 // How many globals and weaks are alive: the used rows of thread 0. Row by row, since only the end of a trace asks.
 pub fn globals(rows: &[Number], marks: &[u64]) -> usize
     ensures { λ k. ⌜ k ≡ counted references (of-thread 0) (table (now (rows .entry)) (now (marks .entry))) ⌝ }
 {
-    size(count_first(rows, marks, 0, room(rows, marks), Sought::Thread(0)))
+    count_of(count_first(rows, marks, 0, room(rows, marks), Sought::Thread(0)))
 }
 
 // How many rows of word w are of thread t and frame f or above, used or not.

@@ -34,4 +34,4 @@ count-spec =
     (λ c κs. omega arith)
     (λ c. unfold room in omega arith)
     (λ c κs. search needs)
-    (λ c. c .size .ensures ∙ (unfold counted in search count-last)))
+    (λ c. c .count-of .ensures ∙ (unfold counted in search count-last)))

@@ -14,4 +14,4 @@ globals-spec =
     (λ c κs. search needs)
     (λ c κs. omega arith)
     (λ c κs. search needs)
-    (λ c. c .size .ensures ∙ counted-all references _ _ _ _ (c .before .before .room .ensures) (c .before .count-first .ensures .0)))
+    (λ c. c .count-of .ensures ∙ counted-all references _ _ _ _ (c .before .before .room .ensures) (c .before .count-first .ensures .0)))
