@@ -1,32 +1,75 @@
-//! The proved library `exported`, as a caller from C or Rust declares it: a slice is a pointer and a length.
+//! The proved library `exported`, as a caller from C or Rust declares it, and its calls: a slice is a pointer and a length.
+
+use plain::lent::slices::Lent;
+use plain::limits::{Number, Word};
 
 extern "C" {
-    pub fn weir_start(
-        rows: *mut u32,
+    fn weir_start(
+        rows: *mut Number,
         rows_length: usize,
-        marks: *mut u64,
+        marks: *mut Word,
         marks_length: usize,
-        pins: *mut u32,
+        pins: *mut Number,
         pins_length: usize,
-        pin_marks: *mut u64,
+        pin_marks: *mut Word,
         pin_marks_length: usize,
-        book: *mut u64,
+        book: *mut Word,
         book_length: usize,
     );
-    pub fn weir_step(
+    fn weir_step(
         line: *const u8,
         line_length: usize,
-        rows: *mut u32,
+        rows: *mut Number,
         rows_length: usize,
-        marks: *mut u64,
+        marks: *mut Word,
         marks_length: usize,
-        pins: *mut u32,
+        pins: *mut Number,
         pins_length: usize,
-        pin_marks: *mut u64,
+        pin_marks: *mut Word,
         pin_marks_length: usize,
-        book: *mut u64,
+        book: *mut Word,
         book_length: usize,
-        found: *mut u32,
+        found: *mut Number,
         found_length: usize,
     ) -> i32;
+}
+
+pub fn start(lent: Lent) {
+    // SAFETY: each pointer is that of a slice of the length that follows it.
+    unsafe {
+        weir_start(
+            lent.rows.as_mut_ptr(),
+            lent.rows.len(),
+            lent.marks.as_mut_ptr(),
+            lent.marks.len(),
+            lent.pins.as_mut_ptr(),
+            lent.pins.len(),
+            lent.pin_marks.as_mut_ptr(),
+            lent.pin_marks.len(),
+            lent.book.as_mut_ptr(),
+            lent.book.len(),
+        );
+    }
+}
+
+pub fn step(line: &[u8], lent: Lent, found: &mut [Number]) -> i32 {
+    // SAFETY: each pointer is that of a slice of the length that follows it.
+    unsafe {
+        weir_step(
+            line.as_ptr(),
+            line.len(),
+            lent.rows.as_mut_ptr(),
+            lent.rows.len(),
+            lent.marks.as_mut_ptr(),
+            lent.marks.len(),
+            lent.pins.as_mut_ptr(),
+            lent.pins.len(),
+            lent.pin_marks.as_mut_ptr(),
+            lent.pin_marks.len(),
+            lent.book.as_mut_ptr(),
+            lent.book.len(),
+            found.as_mut_ptr(),
+            found.len(),
+        )
+    }
 }

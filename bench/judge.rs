@@ -2,19 +2,19 @@
 
 mod exported;
 
-use exported::{weir_start, weir_step};
+use plain::findings::MOST_FINDINGS;
 use plain::judge::Judge;
 use plain::lent::reply::{reply, FINDING};
 use plain::lent::slices::Slices;
-use plain::report::{PIN_ROWS, REFERENCE_ROWS};
+use plain::limits::{Number, PIN_ROWS, REFERENCE_ROWS};
 use std::hint::black_box;
 use std::path::Path;
 use std::process::ExitCode;
 
 /// The judges take turns after so many lines.
 const TURN: usize = 10_000;
-/// The numbers of six findings.
-const FOUND: usize = 6 * FINDING;
+/// The numbers of the most findings of a line.
+const FOUND: usize = MOST_FINDINGS * FINDING;
 
 extern "C" {
     fn clock_gettime(clock: i32, time: *mut Time) -> i32;
@@ -117,34 +117,13 @@ fn median(mut numbers: Vec<f64>) -> f64 {
 /// The proved judge and its tables.
 struct Proved {
     slices: Slices,
-    found: [u32; FOUND],
+    found: [Number; FOUND],
 }
 
 impl Proved {
     fn new() -> Proved {
         let mut slices = Slices::new(REFERENCE_ROWS, PIN_ROWS);
-        let Slices {
-            rows,
-            marks,
-            pins,
-            pin_marks,
-            book,
-        } = &mut slices;
-        // SAFETY: each pointer is that of a slice of the length that follows it.
-        unsafe {
-            weir_start(
-                rows.as_mut_ptr(),
-                rows.len(),
-                marks.as_mut_ptr(),
-                marks.len(),
-                pins.as_mut_ptr(),
-                pins.len(),
-                pin_marks.as_mut_ptr(),
-                pin_marks.len(),
-                book.as_mut_ptr(),
-                book.len(),
-            );
-        }
+        exported::start(slices.lend());
         Proved {
             slices,
             found: [0; FOUND],
@@ -152,32 +131,7 @@ impl Proved {
     }
 
     fn step(&mut self, line: &[u8]) -> i32 {
-        let Slices {
-            rows,
-            marks,
-            pins,
-            pin_marks,
-            book,
-        } = &mut self.slices;
-        // SAFETY: each pointer is that of a slice of the length that follows it.
-        unsafe {
-            weir_step(
-                line.as_ptr(),
-                line.len(),
-                rows.as_mut_ptr(),
-                rows.len(),
-                marks.as_mut_ptr(),
-                marks.len(),
-                pins.as_mut_ptr(),
-                pins.len(),
-                pin_marks.as_mut_ptr(),
-                pin_marks.len(),
-                book.as_mut_ptr(),
-                book.len(),
-                self.found.as_mut_ptr(),
-                self.found.len(),
-            )
-        }
+        exported::step(line, self.slices.lend(), &mut self.found)
     }
 }
 

@@ -1,7 +1,8 @@
 //! Holds the proved reader of lines to the plain one on every line of the given traces and on damaged ones, then times both.
 
 use plain::damage::{damage_bytes, damage_fields};
-use plain::facts::{facts, ResultKind};
+use plain::facts::{known, ResultKind};
+use plain::limits::{Field, Handle, MOST_HANDLES};
 use plain::line::{read, Event};
 use plain::random::Random;
 use std::collections::BTreeMap;
@@ -17,11 +18,14 @@ const SLICE: usize = 1000;
 const DAMAGED: usize = 40_000;
 
 extern "C" {
-    fn weir_read(line: *const u8, length: usize, handles: *mut u32, fields: *mut i64) -> u32;
+    fn weir_read(line: *const u8, length: usize, handles: *mut Handle, fields: *mut Field) -> u32;
 }
 
+/// The numbers that are laid out for each line.
+const FIELDS: usize = 8;
+
 /// The letter or the refusal, the handles and the fields.
-type Answer = (u32, [u32; 8], [i64; 8]);
+type Answer = (u32, [Handle; MOST_HANDLES], [Field; FIELDS]);
 
 fn main() -> ExitCode {
     let files: Vec<String> = std::env::args().skip(1).collect();
@@ -92,41 +96,35 @@ fn damaged(lines: &[&[u8]]) -> Vec<Vec<u8>> {
 }
 
 fn proved_answer(line: &[u8]) -> Answer {
-    let (mut handles, mut fields) = ([7; 8], [7; 8]);
+    let (mut handles, mut fields) = ([7; MOST_HANDLES], [7; FIELDS]);
     let number = proved(line, &mut handles, &mut fields);
     (number, handles, fields)
 }
 
-fn proved(line: &[u8], handles: &mut [u32; 8], fields: &mut [i64; 8]) -> u32 {
-    // SAFETY: the function reads `length` bytes and writes eight numbers of each array.
+fn proved(line: &[u8], handles: &mut [Handle; MOST_HANDLES], fields: &mut [Field; FIELDS]) -> u32 {
+    // SAFETY: the function reads `length` bytes and writes all numbers of both arrays.
     unsafe { weir_read(line.as_ptr(), line.len(), handles.as_mut_ptr(), fields.as_mut_ptr()) }
 }
 
-/// The plain reader's answer in the same form.
+/// The plain reader's answer in the same form: N's handles stand beside their count, a status after a result that is 0.
 fn plain_answer(line: &[u8]) -> Answer {
-    let none = [0; 8];
-    let numbers = |numbers: &[i64]| {
-        let mut fields = [0; 8];
-        fields[..numbers.len()].copy_from_slice(numbers);
-        fields
+    let (mut handles, mut fields) = ([0; MOST_HANDLES], [0; FIELDS]);
+    let event = match read(line) {
+        Ok(event) => event,
+        Err(refusal) => return (refusal.into(), handles, fields),
     };
-    match read(line) {
-        Err(refusal) => (refusal.into(), none, [0; 8]),
-        Ok(Event::N { thread, env, count, handles }) => {
-            (b'N'.into(), handles, numbers(&[thread.into(), env.into(), count as i64]))
+    let (letter, mut numbers) = event.parts().map(|(letter, numbers)| (letter, numbers.to_vec())).expect("an event that was read");
+    match event {
+        Event::N { count, handles: named, .. } => {
+            handles = named;
+            numbers.splice(2.., [count as Field]);
         }
-        Ok(Event::X { thread, result }) => (b'X'.into(), none, numbers(&[thread.into(), result.into()])),
-        Ok(Event::C { thread, env, function, places: [a, b, c], capacity }) => {
-            let fields = [thread.into(), env.into(), function.into(), a.into(), b.into(), c.into(), capacity.into()];
-            (b'C'.into(), none, numbers(&fields))
-        }
-        Ok(Event::R { thread, function, result, pending }) => {
-            let status = facts(function).is_some_and(|facts| facts.result == ResultKind::Status);
-            let (result, status) = if status { (0, result) } else { (result, 0) };
-            (b'R'.into(), none, numbers(&[thread.into(), function.into(), result, status, pending.into()]))
-        }
-        Ok(Event::Z) => (b'Z'.into(), none, [0; 8]),
+        Event::R { function, .. } if known(function).result == ResultKind::Status => numbers.insert(2, 0),
+        Event::R { .. } => numbers.insert(3, 0),
+        _ => {}
     }
+    fields[..numbers.len()].copy_from_slice(&numbers);
+    (letter.into(), handles, fields)
 }
 
 /// Prints the nanoseconds a line takes each reader, and their ratio.
@@ -143,7 +141,7 @@ fn times(lines: &[&[u8]]) -> (f64, f64) {
         let (mut proved_best, mut plain_best) = (f64::INFINITY, f64::INFINITY);
         for _ in 0..ROUNDS {
             proved_best = proved_best.min(time(|| {
-                let (mut handles, mut fields) = ([0; 8], [0; 8]);
+                let (mut handles, mut fields) = ([0; MOST_HANDLES], [0; FIELDS]);
                 for line in slice {
                     black_box(proved(black_box(line), &mut handles, &mut fields));
                     black_box((&handles, &fields));

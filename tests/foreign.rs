@@ -3,16 +3,15 @@
 #[path = "../bench/exported.rs"]
 mod exported;
 
-use exported::{weir_start, weir_step};
-use plain::findings::Findings;
-use plain::foreign::coverage::Coverage;
+use plain::coverage::Coverage;
+use plain::findings::{Findings, MOST_FINDINGS};
 use plain::foreign::{is_over, line, make, Foreign};
 use plain::lent::reply::{reply, FINDING};
-use plain::lent::{start, step, Tables};
+use plain::lent::slices::Slices;
+use plain::limits::{Number, Word, MOST_ROOM};
 use plain::random::Random;
-use plain::rows::MOST_ROOM;
 use std::fmt::Debug;
-use std::ops::Range;
+use std::ops::{Deref, DerefMut, Range};
 use std::process::ExitCode;
 use std::time::{Duration, Instant};
 
@@ -20,11 +19,14 @@ const USAGE: &str = "usage: foreign [--seed S] [--cases N] [--seconds T]";
 
 /// The numbers before and after each slice, which are nobody's: a row of the book and more.
 const GUARD: usize = 300;
-/// The numbers of six findings, and some more.
-const MOST_FOUND: usize = 6 * FINDING + 4;
+/// The numbers of the most findings of a line, and some more.
+const MOST_FOUND: usize = MOST_FINDINGS * FINDING + 4;
 /// The most steps of a case, and of one with a great room.
 const STEPS: usize = 24;
 const GREAT_STEPS: usize = 8;
+
+/// Five slices, each guarded.
+type Tables = Slices<Guarded<Number>, Guarded<Word>>;
 
 struct Wish {
     seed: u64,
@@ -39,7 +41,7 @@ fn main() -> ExitCode {
         return ExitCode::from(2);
     };
     let begun = Instant::now();
-    let mut coverage = Coverage::default();
+    let mut coverage = Coverage::of_foreign();
     let mut cases = 0;
     while cases < wish.cases && begun.elapsed() < wish.time {
         let seed = wish.seed.wrapping_add(cases);
@@ -99,7 +101,7 @@ fn compare(seed: u64, coverage: &mut Coverage) -> Result<(), String> {
     } else {
         STEPS
     };
-    let mut plain = Lent {
+    let mut plain = Slices {
         rows: Guarded::new(slices.rows, &mut random),
         marks: Guarded::new(slices.marks, &mut random),
         pins: Guarded::new(slices.pins, &mut random),
@@ -109,18 +111,18 @@ fn compare(seed: u64, coverage: &mut Coverage) -> Result<(), String> {
     let mut proved = plain.clone();
     for number in 1..=1 + random.below(most) {
         let (told, same) = if random.percent(4) {
-            start(&mut plain.tables());
-            proved_start(&mut proved);
+            plain.start();
+            exported::start(proved.lend());
             coverage.add_start();
             ("a start".to_string(), Ok(()))
         } else {
             let line = line(&plain.tables(), &mut lines, &mut random);
-            let stepped = step(&mut plain.tables(), &line);
+            let stepped = plain.step(&line);
             coverage.add(&plain.tables(), &line, &stepped);
             let same = compare_replies(&mut proved, &line, &stepped, &mut random);
             (shown(&line), same)
         };
-        same.and_then(|()| proved.compare(&plain))
+        same.and_then(|()| compare_slices(&proved, &plain))
             .map_err(|what| format!("tables {profile}, step {number}, {told}: {what}"))?;
         if is_over(&plain.tables()) && random.percent(40) {
             break;
@@ -131,7 +133,7 @@ fn compare(seed: u64, coverage: &mut Coverage) -> Result<(), String> {
 
 /// Takes the proved step and holds its reply and its findings to what the plain step gave.
 fn compare_replies(
-    proved: &mut Lent,
+    proved: &mut Tables,
     line: &[u8],
     stepped: &Result<Findings, u8>,
     random: &mut Random,
@@ -143,61 +145,15 @@ fn compare_replies(
     };
     let mut wanted_found = Guarded::new(vec![7; length], random);
     let mut found = wanted_found.clone();
-    let wanted = reply(stepped, wanted_found.lent());
+    let wanted = reply(stepped, &mut wanted_found);
     let wanted_line = Guarded::new(line.to_vec(), random);
-    let mut line = wanted_line.clone();
-    let given = proved_step(proved, line.lent(), found.lent());
+    let line = wanted_line.clone();
+    let given = exported::step(&line, proved.lend(), &mut found);
     if given != wanted {
         return Err(format!("the reply is {given}, not {wanted}"));
     }
     found.compare("found", &wanted_found)?;
     line.compare("line", &wanted_line)
-}
-
-fn proved_start(lent: &mut Lent) {
-    let (rows, marks) = (lent.rows.lent(), lent.marks.lent());
-    let (pins, pin_marks) = (lent.pins.lent(), lent.pin_marks.lent());
-    let book = lent.book.lent();
-    // SAFETY: each pointer is that of a slice of the length that follows it.
-    unsafe {
-        weir_start(
-            rows.as_mut_ptr(),
-            rows.len(),
-            marks.as_mut_ptr(),
-            marks.len(),
-            pins.as_mut_ptr(),
-            pins.len(),
-            pin_marks.as_mut_ptr(),
-            pin_marks.len(),
-            book.as_mut_ptr(),
-            book.len(),
-        )
-    }
-}
-
-fn proved_step(lent: &mut Lent, line: &[u8], found: &mut [u32]) -> i32 {
-    let (rows, marks) = (lent.rows.lent(), lent.marks.lent());
-    let (pins, pin_marks) = (lent.pins.lent(), lent.pin_marks.lent());
-    let book = lent.book.lent();
-    // SAFETY: each pointer is that of a slice of the length that follows it.
-    unsafe {
-        weir_step(
-            line.as_ptr(),
-            line.len(),
-            rows.as_mut_ptr(),
-            rows.len(),
-            marks.as_mut_ptr(),
-            marks.len(),
-            pins.as_mut_ptr(),
-            pins.len(),
-            pin_marks.as_mut_ptr(),
-            pin_marks.len(),
-            book.as_mut_ptr(),
-            book.len(),
-            found.as_mut_ptr(),
-            found.len(),
-        )
-    }
 }
 
 /// A line as it is told, cut if it is very long.
@@ -207,39 +163,39 @@ fn shown(line: &[u8]) -> String {
     format!("{start:?} ({} bytes)", line.len())
 }
 
-/// Five slices, each guarded.
-#[derive(Clone)]
-struct Lent {
-    rows: Guarded<u32>,
-    marks: Guarded<u64>,
-    pins: Guarded<u32>,
-    pin_marks: Guarded<u64>,
-    book: Guarded<u64>,
-}
-
-impl Lent {
-    fn tables(&mut self) -> Tables<'_> {
-        Tables::new(
-            self.rows.lent(),
-            self.marks.lent(),
-            self.pins.lent(),
-            self.pin_marks.lent(),
-            self.book.lent(),
-        )
-    }
-
-    fn compare(&self, wanted: &Lent) -> Result<(), String> {
-        self.rows.compare("rows", &wanted.rows)?;
-        self.marks.compare("marks", &wanted.marks)?;
-        self.pins.compare("pins", &wanted.pins)?;
-        self.pin_marks.compare("pin marks", &wanted.pin_marks)?;
-        self.book.compare("book", &wanted.book)
-    }
+/// The first number of the first slice that is not the wanted one.
+fn compare_slices(given: &Tables, wanted: &Tables) -> Result<(), String> {
+    given.rows.compare("rows", &wanted.rows)?;
+    given.marks.compare("marks", &wanted.marks)?;
+    given.pins.compare("pins", &wanted.pins)?;
+    given.pin_marks.compare("pin marks", &wanted.pin_marks)?;
+    given.book.compare("book", &wanted.book)
 }
 
 /// A slice to lend, with numbers before and after it that are nobody's: small ones, which could be taken for the slice's own.
 #[derive(Clone)]
 struct Guarded<T>(Vec<T>);
+
+impl<T> Guarded<T> {
+    fn place(&self) -> Range<usize> {
+        GUARD..self.0.len() - GUARD
+    }
+}
+
+impl<T> Deref for Guarded<T> {
+    type Target = [T];
+
+    fn deref(&self) -> &[T] {
+        &self.0[self.place()]
+    }
+}
+
+impl<T> DerefMut for Guarded<T> {
+    fn deref_mut(&mut self) -> &mut [T] {
+        let place = self.place();
+        &mut self.0[place]
+    }
+}
 
 impl<T: Copy + PartialEq + Debug + From<u8>> Guarded<T> {
     fn new(lent: Vec<T>, random: &mut Random) -> Guarded<T> {
@@ -249,15 +205,6 @@ impl<T: Copy + PartialEq + Debug + From<u8>> Guarded<T> {
             (0..GUARD).map(number).collect()
         };
         Guarded([guard(), lent, guard()].concat())
-    }
-
-    fn place(&self) -> Range<usize> {
-        GUARD..self.0.len() - GUARD
-    }
-
-    fn lent(&mut self) -> &mut [T] {
-        let place = self.place();
-        &mut self.0[place]
     }
 
     /// The first number that is not the wanted one, the guards among them.
@@ -270,7 +217,7 @@ impl<T: Copy + PartialEq + Debug + From<u8>> Guarded<T> {
             .take_while(|(number, wanted)| number == wanted)
             .count();
         let (number, wanted) = (self.0[at], wanted.0[at]);
-        let length = self.place().len();
+        let length = self.len();
         let index = at as isize - GUARD as isize;
         Err(format!(
             "{name}[{index}], of length {length}, is {number:?}, not {wanted:?}"

@@ -2,24 +2,21 @@
 
 use crate::facts::*;
 use crate::judge::Judge;
-use crate::line::{self, Event, MOST_BYTES, MOST_HANDLES, THREADS};
+use crate::lent::book::Top;
+use crate::limits::*;
+use crate::line::{self, Event};
 use crate::random::Random;
-use crate::report::{PIN_ROWS, REFERENCE_ROWS};
-use crate::thread::{Item, MOST_ITEMS};
 use std::io::{self, Write};
 
 const EXCEPTION_CLEAR: u32 = 17;
 const NEW_GLOBAL_REF: u32 = 21;
 const NEW_LOCAL_REF: u32 = 25;
 const NEW_WEAK_GLOBAL_REF: u32 = 226;
-const GET_PRIMITIVE_ARRAY_CRITICAL: u32 = 222;
-const RELEASE_PRIMITIVE_ARRAY_CRITICAL: u32 = 223;
+/// The family of GetPrimitiveArrayCritical.
+const CRITICAL_ARRAY: Family = Family(FIRST_CRITICAL as u8);
 
 /// Functions that use handles and make nothing.
 const USES: [u32; 12] = [24, 32, 40, 50, 70, 80, 97, 104, 108, 154, 164, 171];
-/// The gets of the families that are not critical, and their releases.
-const GETS: [u32; 10] = [165, 169, 183, 184, 185, 186, 187, 188, 189, 190];
-const RELEASES: [u32; 10] = [166, 170, 191, 192, 193, 194, 195, 196, 197, 198];
 
 /// A kind of big trace; chances are in percent.
 #[derive(Clone, Copy, Debug)]
@@ -127,11 +124,11 @@ pub fn natives(lines: usize, output: &mut impl Write) -> io::Result<()> {
 #[derive(Default)]
 struct Held {
     /// The alive locals, those of inner natives last.
-    locals: Vec<u32>,
+    locals: Vec<Handle>,
     /// For each native, how many locals were alive before it.
     before: Vec<usize>,
     /// The critical buffers outstanding.
-    critical: Vec<u32>,
+    critical: Vec<Handle>,
     /// On the way out of deep nesting.
     rising: bool,
 }
@@ -141,17 +138,17 @@ struct Big<'a, W: Write> {
     random: Random,
     judge: Judge,
     threads: [Held; THREADS as usize],
-    globals_and_weaks: Vec<u32>,
-    /// The outstanding buffers that are not critical, with their families' index in `GETS`.
-    buffers: Vec<(usize, u32)>,
+    globals_and_weaks: Vec<Handle>,
+    /// The outstanding buffers that are not critical, with their families.
+    buffers: Vec<(Family, Handle)>,
     output: &'a mut W,
 }
 
 impl<W: Write> Big<'_, W> {
     fn line(&mut self) -> io::Result<()> {
         let thread = self.random.between(1, self.kind.threads);
-        let items = &self.judge.thread(thread).items;
-        let (depth, top) = (items.len(), items.last().copied());
+        let book = self.judge.tables().book;
+        let (depth, top) = (book.items(thread), book.top(thread));
         let deepest = self.kind.deepest;
         let held = self.held(thread);
         held.rising = depth == deepest || held.rising && depth > 0;
@@ -159,11 +156,11 @@ impl<W: Write> Big<'_, W> {
         let nested = if rising { 0 } else { self.kind.nested };
         let left = if rising { 60 } else { self.kind.left };
         match top {
-            None => self.enter(thread),
-            Some(Item::Native { .. }) if self.random.percent(left) => self.leave(thread),
-            Some(Item::Native { .. }) => self.call(thread),
-            Some(Item::Call { .. }) if self.random.percent(nested) => self.enter(thread),
-            Some(Item::Call { function, .. }) => self.answer(thread, function),
+            Top::Nothing => self.enter(thread),
+            Top::Native if self.random.percent(left) => self.leave(thread),
+            Top::Native => self.call(thread),
+            Top::Call { .. } if self.random.percent(nested) => self.enter(thread),
+            Top::Call { function, .. } => self.answer(thread, function),
         }
     }
 
@@ -197,12 +194,13 @@ impl<W: Write> Big<'_, W> {
     }
 
     fn call(&mut self, thread: u32) -> io::Result<()> {
-        let own = self.judge.thread(thread);
-        let capacity_is_short = own.frames.last().is_some_and(|frame| frame.capacity == 16);
-        if self.kind.nested == 0 && capacity_is_short {
+        let book = self.judge.tables().book;
+        let is_pending = book.is_pending(thread);
+        let capacity = book.capacity(thread, book.frames(thread));
+        if self.kind.nested == 0 && capacity == NATIVE_CAPACITY.into() {
             return self.put_call(thread, ENSURE_LOCAL_CAPACITY, [0; 3], 400);
         }
-        if own.pending && self.random.percent(80) {
+        if is_pending && self.random.percent(80) {
             return self.put_call(thread, EXCEPTION_CLEAR, [0; 3], 0);
         }
         if let Some(&buffer) = self.held(thread).critical.last() {
@@ -211,7 +209,7 @@ impl<W: Write> Big<'_, W> {
             }
             self.held(thread).critical.pop();
             let places = [self.handle(thread), buffer, 0];
-            return self.put_call(thread, RELEASE_PRIMITIVE_ARRAY_CRITICAL, places, 0);
+            return self.put_call(thread, CRITICAL_ARRAY.release(), places, 0);
         }
         if self.random.percent(self.kind.used) {
             self.use_handles(thread)
@@ -235,7 +233,7 @@ impl<W: Write> Big<'_, W> {
     }
 
     fn make_or_delete(&mut self, thread: u32) -> io::Result<()> {
-        let alive = self.judge.references().alive();
+        let alive = self.judge.tables().references.rows.used();
         let spread = self.kind.alive / 100 + 1;
         let few = self.held(thread).locals.len() < 4;
         let makes = if few || alive + spread < self.kind.alive {
@@ -263,9 +261,9 @@ impl<W: Write> Big<'_, W> {
 
     fn get_or_release(&mut self, thread: u32) -> io::Result<()> {
         let array = self.handle(thread);
-        let outstanding = self.judge.pins().outstanding();
+        let outstanding = self.judge.tables().pins.rows.used();
         if outstanding < PIN_ROWS - THREADS as usize && self.random.percent(4) {
-            return self.put_call(thread, GET_PRIMITIVE_ARRAY_CRITICAL, [array, 0, 0], 0);
+            return self.put_call(thread, CRITICAL_ARRAY.get(), [array, 0, 0], 0);
         }
         let gets = if outstanding + 10 < self.kind.outstanding {
             true
@@ -273,23 +271,25 @@ impl<W: Write> Big<'_, W> {
             outstanding < self.kind.outstanding && self.random.percent(50)
         };
         if gets || self.buffers.is_empty() {
-            let function = self.random.pick(&GETS);
-            return self.put_call(thread, function, [array, 0, 0], 0);
+            let (get, _) = self.random.pick(&FAMILIES[..FIRST_CRITICAL]);
+            return self.put_call(thread, get, [array, 0, 0], 0);
         }
         let index = self.random.below(self.buffers.len());
         let (family, buffer) = self.buffers.swap_remove(index);
-        self.put_call(thread, RELEASES[family], [array, buffer, 0], 0)
+        self.put_call(thread, family.release(), [array, buffer, 0], 0)
     }
 
     fn answer(&mut self, thread: u32, function: u32) -> io::Result<()> {
         let kind = known(function).result;
+        let tables = self.judge.tables();
+        let (rows_left, pins_left) = (tables.references.rows.free(), tables.pins.rows.free());
         let result = match kind {
-            ResultKind::Local if self.judge.references().free() > 0 => {
+            ResultKind::Local if rows_left > 0 => {
                 let handle = self.fresh(thread, LOCAL, &[]);
                 self.held(thread).locals.push(handle);
                 handle
             }
-            ResultKind::Global | ResultKind::Weak if self.judge.references().free() > 0 => {
+            ResultKind::Global | ResultKind::Weak if rows_left > 0 => {
                 let remainder = if kind == ResultKind::Global {
                     GLOBAL
                 } else {
@@ -299,11 +299,12 @@ impl<W: Write> Big<'_, W> {
                 self.globals_and_weaks.push(handle);
                 handle
             }
-            ResultKind::Buffer(_) if self.judge.pins().free() > 0 => {
-                let buffer = 1 + self.random.below(1 << 31) as u32;
-                match GETS.iter().position(|&get| get == function) {
-                    Some(index) => self.buffers.push((index, buffer)),
-                    None => self.held(thread).critical.push(buffer),
+            ResultKind::Buffer(family) if pins_left > 0 => {
+                let buffer = 1 + self.random.below(1 << 31) as Handle;
+                if family.is_critical() {
+                    self.held(thread).critical.push(buffer);
+                } else {
+                    self.buffers.push((family, buffer));
                 }
                 buffer
             }
@@ -322,7 +323,7 @@ impl<W: Write> Big<'_, W> {
         &mut self,
         thread: u32,
         function: u32,
-        places: [u32; 3],
+        places: [Handle; 3],
         capacity: i32,
     ) -> io::Result<()> {
         let env = if self.random.below(1_000) == 0 {
@@ -352,7 +353,7 @@ impl<W: Write> Big<'_, W> {
     }
 
     /// A handle the thread may use, or null if it has none.
-    fn handle(&mut self, thread: u32) -> u32 {
+    fn handle(&mut self, thread: u32) -> Handle {
         if self.random.percent(20) && !self.globals_and_weaks.is_empty() {
             return self.random.pick(&self.globals_and_weaks);
         }
@@ -364,7 +365,7 @@ impl<W: Write> Big<'_, W> {
     }
 
     /// Takes out a handle for the thread to delete: a global or weak, or a local of its top native.
-    fn remove_handle(&mut self, thread: u32) -> u32 {
+    fn remove_handle(&mut self, thread: u32) -> Handle {
         if self.random.percent(8) && !self.globals_and_weaks.is_empty() {
             let index = self.random.below(self.globals_and_weaks.len());
             return self.globals_and_weaks.swap_remove(index);
@@ -381,21 +382,22 @@ impl<W: Write> Big<'_, W> {
     }
 
     /// A handle not alive and not among those named.
-    fn fresh(&mut self, thread: u32, kind: u32, named: &[u32]) -> u32 {
+    fn fresh(&mut self, thread: u32, kind: Handle, named: &[Handle]) -> Handle {
         loop {
             let handle = self.number(kind);
-            if !named.contains(&handle) && !self.judge.references().is_alive(thread, handle) {
+            let references = self.judge.tables().references;
+            if !named.contains(&handle) && !references.is_alive(thread, handle) {
                 return handle;
             }
         }
     }
 
     /// A nonzero number with this remainder by 4.
-    fn number(&mut self, remainder: u32) -> u32 {
-        4 * self.random.between(1, (1 << 30) - 1) + remainder
+    fn number(&mut self, remainder: Handle) -> Handle {
+        4 * Handle::from(self.random.between(1, (1 << 30) - 1)) + remainder
     }
 }
 
-fn env_of(thread: u32) -> u32 {
-    0x7f00_0000 + 0x100 * thread
+fn env_of(thread: u32) -> Handle {
+    0x7f00_0000 + 0x100 * Handle::from(thread)
 }

@@ -1,6 +1,7 @@
 //! Damage to traces: bytes, fields and whole lines changed, lost or out of order.
 
-use crate::line::MOST_BYTES;
+use crate::form::{with_fields, MOST_NUMBERS};
+use crate::limits::MOST_BYTES;
 use crate::random::Random;
 
 /// Fields that are no numbers.
@@ -93,10 +94,11 @@ pub fn damage_bytes(lines: &mut Vec<Vec<u8>>, random: &mut Random) {
 
 /// Damages fields of some lines, those of each letter as often.
 pub fn damage_fields(lines: &mut [Vec<u8>], random: &mut Random) {
+    let forms = with_fields();
     for _ in 0..random.between(1, 3) {
-        let letter = random.pick(b"NXCR");
-        let of_letter = |index: &usize| lines[*index].first() == Some(&letter);
-        let indices: Vec<usize> = (0..lines.len()).filter(of_letter).collect();
+        let form = random.pick(&forms);
+        let of_form = |index: &usize| lines[*index].first() == Some(&form.letter);
+        let indices: Vec<usize> = (0..lines.len()).filter(of_form).collect();
         if !indices.is_empty() {
             let at = indices[mostly_late(indices.len(), random)];
             change_field(&mut lines[at], random);
@@ -183,7 +185,7 @@ fn change_field(line: &mut Vec<u8>, random: &mut Random) {
         }
         8 => fields.insert(at + 1, odd),
         9 => fields.insert(at, Vec::new()),
-        10 => fields.resize(11 + random.below(2), b"5".to_vec()),
+        10 => fields.resize(1 + MOST_NUMBERS + random.below(2), b"5".to_vec()),
         _ => {
             let end = random.pick(&[b'\t', b'\r', b' ', 0]);
             fields.last_mut().expect("a field").push(end);

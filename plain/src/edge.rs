@@ -1,63 +1,45 @@
 //! Single lines at the edges of ranges: one field at an end of its range, just past it, or no number at all.
 
 use crate::damage::{MALFORMED, NUMBERS};
-use crate::facts::{known, PlaceKind, ResultKind, FIRST_FUNCTION, LAST_FUNCTION};
-use crate::line::MOST_HANDLES;
+use crate::facts::*;
+use crate::form::{with_fields, Kind, CAPACITY, HANDLE, RESULT};
+use crate::limits::{Field, MOST_HANDLES, THREADS};
 use crate::random::Random;
-
-const LAST: i64 = u32::MAX as i64;
-const LOWEST: i64 = i32::MIN as i64;
-const HIGHEST: i64 = i32::MAX as i64;
-
-const THREADS: &[i64] = &[-1, 0, 1, 16, 17];
-const ENVS: &[i64] = &[-1, 0, 1, LAST, LAST + 1];
-const FUNCTIONS: &[i64] = &[-1, 0, 3, 4, 232, 233];
-const HANDLES: &[i64] = &[
-    -1,
-    0,
-    1,
-    2,
-    3,
-    4,
-    LAST - 3,
-    LAST - 2,
-    LAST - 1,
-    LAST,
-    LAST + 1,
-];
-const CAPACITIES: &[i64] = &[LOWEST - 1, LOWEST, -1, 0, 1, HIGHEST, HIGHEST + 1];
-const PENDING: &[i64] = &[-1, 0, 1, 2];
-
-/// A good value of a field, and the edges of what it may be.
-struct Field(i64, &'static [i64]);
 
 /// A line with one field at an edge, the others good.
 pub fn edge_line(random: &mut Random) -> Vec<u8> {
-    let thread = Field(random.between(1, 16).into(), THREADS);
-    let env = Field(random.between(1, 2_000).into(), ENVS);
-    let (letter, fields) = match random.below(4) {
-        0 => {
-            let count = random.below(MOST_HANDLES + 1) as i64;
-            let handles = (0..count).map(|index| Field(4 * index + 1, HANDLES));
-            ("N", [thread, env].into_iter().chain(handles).collect())
+    let thread = random.between(1, THREADS).into();
+    let env = random.between(1, 2_000).into();
+    let form = random.pick(&with_fields());
+    let fields = match form.letter {
+        b'N' => {
+            let handles = 0..random.below(MOST_HANDLES + 1) as Field;
+            let handles = handles.map(|index| 4 * index + 1);
+            [thread, env].into_iter().chain(handles).collect()
         }
-        1 => ("X", vec![thread, Field(0, HANDLES)]),
-        2 => ("C", call_fields(thread, env, random)),
-        _ => ("R", answer_fields(thread, random)),
+        b'X' => vec![thread, 0],
+        b'C' => call_fields(thread, env, random),
+        _ => answer_fields(thread, random),
     };
+    let mut kinds: Vec<Kind> = form.kinds().collect();
+    for kind in &mut kinds {
+        if *kind == RESULT {
+            *kind = random.pick(&[HANDLE, CAPACITY]);
+        }
+    }
     let last = fields.len() - 1;
     let at = if random.percent(35) {
         last
     } else {
         random.below(last + 1)
     };
-    let mut line = letter.to_string();
-    for (index, Field(good, edges)) in fields.into_iter().enumerate() {
+    let mut line = form.name().to_string();
+    for (index, (good, kind)) in fields.into_iter().zip(kinds).enumerate() {
         line.push('\t');
         if index != at {
             line += &good.to_string();
         } else if random.percent(75) {
-            line += &random.pick(edges).to_string();
+            line += &random.pick(&edges(kind)).to_string();
         } else if random.percent(60) {
             line += random.pick(&MALFORMED);
         } else {
@@ -68,22 +50,35 @@ pub fn edge_line(random: &mut Random) -> Vec<u8> {
     line.into_bytes()
 }
 
+/// The numbers at the ends of a range and just past them, and some whose kind or sign is another.
+fn edges(kind: Kind) -> Vec<Field> {
+    let Kind(least, greatest) = kind;
+    let mut edges = vec![-1, 0, least - 1, least, greatest, greatest + 1];
+    match kind {
+        HANDLE => edges.extend((1..=4).chain(greatest - 3..greatest)),
+        CAPACITY => edges.push(1),
+        _ => {}
+    }
+    edges.sort_unstable();
+    edges.dedup();
+    edges
+}
+
+/// Good fields of a C.
 fn call_fields(thread: Field, env: Field, random: &mut Random) -> Vec<Field> {
     let function = if random.percent(30) {
-        random.pick(&[19, 26])
+        random.pick(&[PUSH_LOCAL_FRAME, ENSURE_LOCAL_CAPACITY])
     } else {
         random.between(FIRST_FUNCTION, LAST_FUNCTION)
     };
     let [a, b, c] = known(function).places.map(|kind| match kind {
-        PlaceKind::Unused => Field(0, HANDLES),
-        _ => Field(random.between(0, 20).into(), HANDLES),
+        PlaceKind::Unused => 0,
+        _ => random.between(0, 20).into(),
     });
-    let capacity = Field(0, CAPACITIES);
-    let function = Field(function.into(), FUNCTIONS);
-    vec![thread, env, function, a, b, c, capacity]
+    vec![thread, env, function.into(), a, b, c, 0]
 }
 
-/// The fields of an R, results of each kind as often.
+/// Good fields of an R, results of each kind as often.
 fn answer_fields(thread: Field, random: &mut Random) -> Vec<Field> {
     let kinds: [fn(ResultKind) -> bool; 7] = [
         |kind| kind == ResultKind::Nothing,
@@ -98,8 +93,5 @@ fn answer_fields(thread: Field, random: &mut Random) -> Vec<Field> {
     let wished: Vec<u32> = (FIRST_FUNCTION..=LAST_FUNCTION)
         .filter(|&function| is_wished(known(function).result))
         .collect();
-    let function = Field(random.pick(&wished).into(), FUNCTIONS);
-    let edges = random.pick(&[HANDLES, CAPACITIES]);
-    let result = Field(0, edges);
-    vec![thread, function, result, Field(1, PENDING)]
+    vec![thread, random.pick(&wished).into(), 0, 1]
 }

@@ -1,5 +1,7 @@
 //! The facts of the 229 JNI functions: the places and result of each, and where it is allowed.
 
+use crate::limits::Handle;
+
 pub const FIRST_FUNCTION: u32 = 4;
 pub const LAST_FUNCTION: u32 = 232;
 pub const FUNCTIONS: usize = 229;
@@ -14,9 +16,26 @@ pub const MONITOR_EXIT: u32 = 218;
 pub const DELETE_WEAK_GLOBAL_REF: u32 = 227;
 
 /// What a handle's remainder by 4 says of it; an identity has remainder 0.
-pub const LOCAL: u32 = 1;
-pub const GLOBAL: u32 = 2;
-pub const WEAK: u32 = 3;
+pub const LOCAL: Handle = 1;
+pub const GLOBAL: Handle = 2;
+pub const WEAK: Handle = 3;
+
+/// The get and the release of each buffer family, in their order; those from `FIRST_CRITICAL` on are critical.
+pub const FAMILIES: [(u32, u32); 12] = [
+    (165, 166),
+    (169, 170),
+    (183, 191),
+    (184, 192),
+    (185, 193),
+    (186, 194),
+    (187, 195),
+    (188, 196),
+    (189, 197),
+    (190, 198),
+    (222, 223),
+    (224, 225),
+];
+pub const FIRST_CRITICAL: usize = 10;
 
 /// A buffer family, 0 to 11.
 #[derive(Clone, Copy, Debug, PartialEq, Eq)]
@@ -25,7 +44,15 @@ pub struct Family(pub u8);
 impl Family {
     /// A critical buffer belongs to the getting thread, any other to no thread.
     pub const fn is_critical(self) -> bool {
-        self.0 >= 10
+        self.0 as usize >= FIRST_CRITICAL
+    }
+
+    pub const fn get(self) -> u32 {
+        FAMILIES[self.0 as usize].0
+    }
+
+    pub const fn release(self) -> u32 {
+        FAMILIES[self.0 as usize].1
     }
 }
 
@@ -154,13 +181,9 @@ const fn result_kind(letter: u8, function: u32) -> ResultKind {
 }
 
 const fn family(function: u32) -> Family {
-    match function {
-        165 | 166 => Family(0),
-        169 | 170 => Family(1),
-        183..=190 => Family((function - 183) as u8 + 2),
-        191..=198 => Family((function - 191) as u8 + 2),
-        222 | 223 => Family(10),
-        224 | 225 => Family(11),
-        _ => panic!("a function without buffers"),
+    let mut family = Family(0);
+    while family.get() != function && family.release() != function {
+        family = Family(family.0 + 1);
     }
+    family
 }

@@ -1,7 +1,6 @@
-//! Foreign tables made from a seed, the lines to step over them, and what a set of such steps brings up.
+//! Foreign tables made from a seed, and the lines to step over them.
 
 mod contents;
-pub mod coverage;
 mod lengths;
 mod lines;
 

@@ -1,259 +1,271 @@
 //! A line of a trace: the five events, the reader and the writer of one line.
 
-use crate::facts::{facts, PlaceKind, ResultKind, GLOBAL, LOCAL, WEAK};
+use crate::facts::{known, PlaceKind, ResultKind, GLOBAL, LOCAL, WEAK};
+use crate::form::{form, MOST_NUMBERS};
+use crate::limits::{Field, Handle, MOST_BYTES, MOST_HANDLES};
+use crate::refusal::{Refusal, MALFORMED, NO_LINE, NO_ROOM, OUT_OF_RANGE};
+use std::ops::Deref;
 
-pub const THREADS: u32 = 16;
-/// The most handles an N carries.
-pub const MOST_HANDLES: usize = 8;
-/// The most bytes of a line before its LF.
-pub const MOST_BYTES: usize = 128;
-
-/// The most numbers on a line: an N's thread, env and handles.
-const MOST_NUMBERS: usize = 2 + MOST_HANDLES;
-/// Stands for every number beyond all ranges.
-const BEYOND: i64 = 1 << 40;
+/// The most digits of which each number is a field's; a number of more is beyond all ranges, as `Field::MAX` is.
+const MOST_DIGITS: usize = Field::MAX.ilog10() as usize;
 
 #[derive(Clone, Copy, Debug, PartialEq, Eq)]
 pub enum Event {
     /// Java enters native, with the first `count` of the handles; the slots past them are 0.
     N {
         thread: u32,
-        env: u32,
+        env: Handle,
         count: usize,
-        handles: [u32; MOST_HANDLES],
+        handles: [Handle; MOST_HANDLES],
     },
     /// A native returns to Java.
-    X { thread: u32, result: u32 },
+    X { thread: u32, result: Handle },
     /// C calls a JNI function; the places are a, b, c and the capacity is n.
     C {
         thread: u32,
-        env: u32,
+        env: Handle,
         function: u32,
-        places: [u32; 3],
+        places: [Handle; 3],
         capacity: i32,
     },
-    /// The function returns; the result is a status or a number from 0 to 4294967295.
+    /// The function returns; the result is a status or what a handle may be.
     R {
         thread: u32,
         function: u32,
-        result: i64,
+        result: Field,
         pending: u32,
     },
     /// End of the run.
     Z,
 }
 
-/// Reads one lent line, all its bytes; its last must be the LF.
-pub fn read(line: &[u8]) -> Result<Event, u8> {
-    let Some((b'\n', body)) = line.split_last() else {
-        return Err(1);
-    };
-    if body.len() > MOST_BYTES {
-        return Err(1);
+impl Event {
+    /// The event of a line with this letter and these numbers, each in its range.
+    fn of(letter: u8, numbers: &[Field]) -> Option<Event> {
+        let event = match (letter, numbers) {
+            (b'N', &[thread, env, ref named @ ..]) => {
+                let mut handles = [0; MOST_HANDLES];
+                for (handle, &number) in handles.iter_mut().zip(named) {
+                    *handle = number as Handle;
+                }
+                Event::N {
+                    thread: thread as u32,
+                    env: env as Handle,
+                    count: named.len(),
+                    handles,
+                }
+            }
+            (b'X', &[thread, result]) => Event::X {
+                thread: thread as u32,
+                result: result as Handle,
+            },
+            (b'C', &[thread, env, function, a, b, c, n]) => Event::C {
+                thread: thread as u32,
+                env: env as Handle,
+                function: function as u32,
+                places: [a, b, c].map(|place| place as Handle),
+                capacity: n as i32,
+            },
+            (b'R', &[thread, function, result, pending]) => Event::R {
+                thread: thread as u32,
+                function: function as u32,
+                result,
+                pending: pending as u32,
+            },
+            (b'Z', &[]) => Event::Z,
+            _ => return None,
+        };
+        Some(event)
     }
+
+    /// The letter and the numbers of its line; there are none where an N counts handles that it has not, or has one that it does not count.
+    pub fn parts(&self) -> Option<(u8, Numbers)> {
+        let parts = match *self {
+            Event::N {
+                thread,
+                env,
+                count,
+                handles,
+            } => {
+                let (named, past) = handles.split_at_checked(count)?;
+                if past.iter().any(|&handle| handle != 0) {
+                    return None;
+                }
+                let mut numbers = Numbers::of([thread.into(), env.into()]);
+                for &handle in named {
+                    numbers.push(handle.into());
+                }
+                (b'N', numbers)
+            }
+            Event::X { thread, result } => (b'X', Numbers::of([thread.into(), result.into()])),
+            Event::C {
+                thread,
+                env,
+                function,
+                places: [a, b, c],
+                capacity: n,
+            } => {
+                let [a, b, c] = [a, b, c].map(Field::from);
+                let (thread, env, function) = (thread.into(), env.into(), function.into());
+                (
+                    b'C',
+                    Numbers::of([thread, env, function, a, b, c, n.into()]),
+                )
+            }
+            Event::R {
+                thread,
+                function,
+                result,
+                pending,
+            } => {
+                let numbers = [thread.into(), function.into(), result, pending.into()];
+                (b'R', Numbers::of(numbers))
+            }
+            Event::Z => (b'Z', Numbers::of([])),
+        };
+        Some(parts)
+    }
+
+    /// Whether each N handle, unused place, capacity and result is what is said of it.
+    fn is_told(&self) -> bool {
+        match *self {
+            Event::N { count, handles, .. } => {
+                handles[..count].iter().all(|handle| handle % 4 == LOCAL)
+            }
+            Event::C {
+                function,
+                places,
+                capacity,
+                ..
+            } => {
+                let facts = known(function);
+                let is_told = |(kind, value)| kind != PlaceKind::Unused || value == 0;
+                facts.places.into_iter().zip(places).all(is_told)
+                    && (facts.uses_capacity || capacity == 0)
+            }
+            Event::R {
+                function, result, ..
+            } => is_result(known(function).result, result),
+            Event::X { .. } | Event::Z => true,
+        }
+    }
+}
+
+/// Reads one lent line, all its bytes; its last must be the LF.
+pub fn read(line: &[u8]) -> Result<Event, Refusal> {
+    let body = match line {
+        [body @ .., b'\n'] if body.len() <= MOST_BYTES => body,
+        _ => return Err(NO_LINE),
+    };
     let Some((letter, mut rest)) = body.split_first() else {
-        return Err(2);
+        return Err(MALFORMED);
     };
     let mut numbers = [0; MOST_NUMBERS];
     let mut count = 0;
     while let [b'\t', field @ ..] = rest {
         if count == MOST_NUMBERS {
-            return Err(2);
+            return Err(MALFORMED);
         }
-        (numbers[count], rest) = number(field).ok_or(2)?;
+        (numbers[count], rest) = number(field).ok_or(MALFORMED)?;
         count += 1;
     }
-    if !rest.is_empty() {
-        return Err(2);
-    }
-    let event = match (letter, &numbers[..count]) {
-        (b'N', &[thread, env, ref named @ ..]) => {
-            let mut handles = [0; MOST_HANDLES];
-            for (handle, &number) in handles.iter_mut().zip(named) {
-                *handle = unsigned(number)?;
-            }
-            Event::N {
-                thread: unsigned(thread)?,
-                env: unsigned(env)?,
-                count: named.len(),
-                handles,
-            }
-        }
-        (b'X', &[thread, result]) => Event::X {
-            thread: unsigned(thread)?,
-            result: unsigned(result)?,
-        },
-        (b'C', &[thread, env, function, a, b, c, n]) => Event::C {
-            thread: unsigned(thread)?,
-            env: unsigned(env)?,
-            function: unsigned(function)?,
-            places: [unsigned(a)?, unsigned(b)?, unsigned(c)?],
-            capacity: i32::try_from(n).map_err(|_| 3)?,
-        },
-        (b'R', &[thread, function, result, pending]) => Event::R {
-            thread: unsigned(thread)?,
-            function: unsigned(function)?,
-            result,
-            pending: unsigned(pending)?,
-        },
-        (b'Z', &[]) => Event::Z,
-        _ => return Err(2),
-    };
-    if in_range(&event) {
-        Ok(event)
-    } else {
-        Err(3)
+    let form = form(*letter).filter(|form| rest.is_empty() && form.counts(count));
+    let form = form.ok_or(MALFORMED)?;
+    let numbers = &numbers[..count];
+    match Event::of(form.letter, numbers) {
+        Some(event) if form.holds(numbers) && event.is_told() => Ok(event),
+        _ => Err(OUT_OF_RANGE),
     }
 }
 
 /// Writes the event's line at the start of the buffer and gives its length; bytes past it stay.
-pub fn write(event: &Event, buffer: &mut [u8]) -> Result<usize, u8> {
-    if !in_range(event) {
-        return Err(3);
+pub fn write(event: &Event, buffer: &mut [u8]) -> Result<usize, Refusal> {
+    let (letter, numbers) = event.parts().ok_or(OUT_OF_RANGE)?;
+    if !form(letter).is_some_and(|form| form.holds(&numbers)) || !event.is_told() {
+        return Err(OUT_OF_RANGE);
     }
     let mut line = Line::new();
-    match *event {
-        Event::N {
-            thread,
-            env,
-            count,
-            handles,
-        } => {
-            line.byte(b'N');
-            line.number(thread.into());
-            line.number(env.into());
-            for &handle in &handles[..count] {
-                line.number(handle.into());
-            }
-        }
-        Event::X { thread, result } => {
-            line.byte(b'X');
-            line.number(thread.into());
-            line.number(result.into());
-        }
-        Event::C {
-            thread,
-            env,
-            function,
-            places,
-            capacity,
-        } => {
-            line.byte(b'C');
-            line.number(thread.into());
-            line.number(env.into());
-            line.number(function.into());
-            for place in places {
-                line.number(place.into());
-            }
-            line.number(capacity.into());
-        }
-        Event::R {
-            thread,
-            function,
-            result,
-            pending,
-        } => {
-            line.byte(b'R');
-            line.number(thread.into());
-            line.number(function.into());
-            line.number(result);
-            line.number(pending.into());
-        }
-        Event::Z => line.byte(b'Z'),
+    line.byte(letter);
+    for &number in numbers.iter() {
+        line.number(number);
     }
     line.byte(b'\n');
     let bytes = line.bytes();
     buffer
         .get_mut(..bytes.len())
-        .ok_or(7)?
+        .ok_or(NO_ROOM)?
         .copy_from_slice(bytes);
     Ok(bytes.len())
 }
 
 /// The number at the start of a field, if its form is right, and the bytes after it.
-fn number(field: &[u8]) -> Option<(i64, &[u8])> {
+fn number(field: &[u8]) -> Option<(Field, &[u8])> {
     let (negative, digits) = match field {
         [b'-', digits @ ..] => (true, digits),
         digits => (false, digits),
     };
-    let mut value = 0;
+    let mut value: Field = 0;
     let mut rest = digits;
     while let [digit @ b'0'..=b'9', after @ ..] = rest {
-        value = (value * 10 + i64::from(digit - b'0')).min(BEYOND);
+        value = value.wrapping_mul(10).wrapping_add((digit - b'0').into());
         rest = after;
     }
     let length = digits.len() - rest.len();
     if length == 0 || digits[0] == b'0' && (length > 1 || negative) {
         return None;
     }
+    if length > MOST_DIGITS {
+        value = Field::MAX;
+    }
     Some((if negative { -value } else { value }, rest))
 }
 
-fn unsigned(number: i64) -> Result<u32, u8> {
-    u32::try_from(number).map_err(|_| 3)
-}
-
-/// Whether each field is in its range, and each unused place, capacity, N handle and result is what is said of it.
-fn in_range(event: &Event) -> bool {
-    let is_thread = |thread| (1..=THREADS).contains(&thread);
-    match *event {
-        Event::N {
-            thread,
-            env,
-            count,
-            handles,
-        } => {
-            is_thread(thread)
-                && env != 0
-                && count <= MOST_HANDLES
-                && handles[..count].iter().all(|handle| handle % 4 == LOCAL)
-                && handles[count..].iter().all(|&handle| handle == 0)
-        }
-        Event::X { thread, .. } => is_thread(thread),
-        Event::C {
-            thread,
-            env,
-            function,
-            places,
-            capacity,
-        } => {
-            is_thread(thread)
-                && env != 0
-                && facts(function).is_some_and(|facts| {
-                    let unused = |(kind, value)| kind != PlaceKind::Unused || value == 0;
-                    facts.places.into_iter().zip(places).all(unused)
-                        && (facts.uses_capacity || capacity == 0)
-                })
-        }
-        Event::R {
-            thread,
-            function,
-            result,
-            pending,
-        } => {
-            is_thread(thread)
-                && pending <= 1
-                && facts(function).is_some_and(|facts| is_result(facts.result, result))
-        }
-        Event::Z => true,
-    }
-}
-
-fn is_result(kind: ResultKind, result: i64) -> bool {
-    let of_kind = |kind: u32| result % 4 == i64::from(kind);
-    let unsigned = (0..=i64::from(u32::MAX)).contains(&result);
+/// Whether a function with results of this kind may give this one.
+fn is_result(kind: ResultKind, result: Field) -> bool {
+    let of_kind = |kind: Handle| result == 0 || result > 0 && result % 4 == Field::from(kind);
     match kind {
         ResultKind::Nothing => result == 0,
-        ResultKind::Local => unsigned && (result == 0 || of_kind(LOCAL)),
-        ResultKind::Global => unsigned && (result == 0 || of_kind(GLOBAL)),
-        ResultKind::Weak => unsigned && (result == 0 || of_kind(WEAK)),
-        ResultKind::Identity => unsigned && of_kind(0),
-        ResultKind::Buffer(_) => unsigned,
+        ResultKind::Local => of_kind(LOCAL),
+        ResultKind::Global => of_kind(GLOBAL),
+        ResultKind::Weak => of_kind(WEAK),
+        ResultKind::Identity => of_kind(0),
+        ResultKind::Buffer(_) => result >= 0,
         ResultKind::Status => i32::try_from(result).is_ok(),
     }
 }
 
-/// A line being written; the longest is an N of eight handles, 104 bytes.
+/// The numbers of a line in their order.
+#[derive(Clone, Copy, Debug, PartialEq, Eq)]
+pub struct Numbers {
+    numbers: [Field; MOST_NUMBERS],
+    count: usize,
+}
+
+impl Numbers {
+    fn of<const COUNT: usize>(first: [Field; COUNT]) -> Numbers {
+        let mut numbers = [0; MOST_NUMBERS];
+        numbers[..COUNT].copy_from_slice(&first);
+        Numbers {
+            numbers,
+            count: COUNT,
+        }
+    }
+
+    fn push(&mut self, number: Field) {
+        self.numbers[self.count] = number;
+        self.count += 1;
+    }
+}
+
+impl Deref for Numbers {
+    type Target = [Field];
+
+    fn deref(&self) -> &[Field] {
+        &self.numbers[..self.count]
+    }
+}
+
+/// A line being written; the longest is shorter than a line may be.
 struct Line {
     bytes: [u8; MOST_BYTES],
     length: usize,
@@ -272,7 +284,7 @@ impl Line {
         self.length += 1;
     }
 
-    fn number(&mut self, number: i64) {
+    fn number(&mut self, number: Field) {
         self.byte(b'\t');
         if number < 0 {
             self.byte(b'-');

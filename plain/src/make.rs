@@ -4,9 +4,14 @@ use crate::damage::{damage_bytes, damage_fields, disorder, odd_line};
 use crate::edge::edge_line;
 use crate::facts::*;
 use crate::judge::Judge;
-use crate::line::{self, Event, MOST_BYTES, MOST_HANDLES, THREADS};
+use crate::lent::book::Top;
+use crate::lent::pins::{self, BUFFER, FAMILY};
+use crate::lent::references::{self, HANDLE};
+use crate::lent::rows::{Rows, THREAD};
+use crate::limits::*;
+use crate::line::{self, Event};
 use crate::random::Random;
-use crate::thread::Item;
+use crate::refusal::Refusal;
 
 /// What sort of traces are made; chances are in percent.
 #[derive(Clone, Copy, Debug)]
@@ -34,7 +39,7 @@ pub struct Profile {
     favoured: u32,
     functions: &'static [u32],
     /// The refusals by which a trace may end.
-    refusals: &'static [u8],
+    refusals: &'static [Refusal],
     harm: Harm,
 }
 
@@ -334,7 +339,7 @@ impl Maker<'_> {
     }
 
     /// Adds accepted lines and then one refused with this number, if it comes up within so many lines.
-    fn refused(&mut self, refusal: u8, lines: usize) {
+    fn refused(&mut self, refusal: Refusal, lines: usize) {
         let most = self.lines.len() + lines;
         for _ in 0..lines * 8 {
             if self.lines.len() >= most {
@@ -358,16 +363,12 @@ impl Maker<'_> {
         if self.random.percent(astray) {
             return self.astray(thread);
         }
-        match self.judge.thread(thread).items.last().copied() {
-            None => self.enter(thread),
-            Some(Item::Native { .. }) if self.random.percent(self.profile.left) => {
-                self.leave(thread)
-            }
-            Some(Item::Native { .. }) => self.call(thread),
-            Some(Item::Call { .. }) if self.random.percent(self.profile.nested) => {
-                self.enter(thread)
-            }
-            Some(Item::Call { function, .. }) => self.answer(thread, function),
+        match self.top(thread) {
+            Top::Nothing => self.enter(thread),
+            Top::Native if self.random.percent(self.profile.left) => self.leave(thread),
+            Top::Native => self.call(thread),
+            Top::Call { .. } if self.random.percent(self.profile.nested) => self.enter(thread),
+            Top::Call { function, .. } => self.answer(thread, function),
         }
     }
 
@@ -391,7 +392,8 @@ impl Maker<'_> {
         let (thread, env) = if self.random.percent(50) {
             (thread, self.other_env())
         } else {
-            let is_idle = |&thread: &u32| self.judge.thread(thread).items.is_empty();
+            let book = self.judge.tables().book;
+            let is_idle = |&thread: &u32| book.top(thread) == Top::Nothing;
             let idle = self.threads.iter().copied().find(is_idle);
             let sharer = self.random.between(1, THREADS);
             (sharer, env_of(idle.unwrap_or(thread)))
@@ -412,7 +414,7 @@ impl Maker<'_> {
             let at = self.random.below(*count);
             for (index, handle) in handles[..*count].iter_mut().enumerate() {
                 if *handle == 0 {
-                    *handle = 4 * index as u32 + LOCAL;
+                    *handle = 4 * index as Handle + LOCAL;
                 }
             }
             handles[at] = match alive {
@@ -424,7 +426,7 @@ impl Maker<'_> {
     }
 
     fn answer_with_alive_handle(&mut self, thread: u32) -> Event {
-        let Some(&Item::Call { function, .. }) = self.judge.thread(thread).items.last() else {
+        let Top::Call { function, .. } = self.top(thread) else {
             return self.leave(thread);
         };
         let alive = match known(function).result {
@@ -450,9 +452,7 @@ impl Maker<'_> {
         let mut named = 0;
         for _ in 0..count {
             let handle = self.fresh(thread, LOCAL);
-            let doubtful =
-                handles.contains(&handle) || self.judge.references().is_alive(thread, handle);
-            if !doubtful {
+            if !handles.contains(&handle) && !self.is_alive(thread, handle) {
                 handles[named] = handle;
                 named += 1;
             }
@@ -516,10 +516,11 @@ impl Maker<'_> {
     }
 
     fn function(&mut self, thread: u32) -> u32 {
+        let tables = self.judge.tables();
         let wished: Option<fn(&Facts) -> bool> =
-            if self.judge.pins().has_critical(thread) && self.random.percent(50) {
+            if tables.pins.has_critical(thread) && self.random.percent(50) {
                 Some(|facts| facts.allowed_critical)
-            } else if self.judge.thread(thread).pending && self.random.percent(50) {
+            } else if tables.book.is_pending(thread) && self.random.percent(50) {
                 Some(|facts| facts.allowed_pending)
             } else {
                 None
@@ -542,7 +543,7 @@ impl Maker<'_> {
     }
 
     /// A value for a place, a good one where there is one and it is not spoilt.
-    fn place(&mut self, thread: u32, kind: PlaceKind) -> u32 {
+    fn place(&mut self, thread: u32, kind: PlaceKind) -> Handle {
         if kind != PlaceKind::Unused && self.random.percent(self.profile.spoilt) {
             return self.spoilt_value(thread);
         }
@@ -560,7 +561,7 @@ impl Maker<'_> {
         good.unwrap_or_else(|| self.spoilt_value(thread))
     }
 
-    fn spoilt_value(&mut self, thread: u32) -> u32 {
+    fn spoilt_value(&mut self, thread: u32) -> Handle {
         match self.random.below(9) {
             0 | 1 => 0,
             2 => self.number(0),
@@ -573,7 +574,7 @@ impl Maker<'_> {
         }
     }
 
-    fn alive_of_any_kind(&mut self, thread: u32) -> Option<u32> {
+    fn alive_of_any_kind(&mut self, thread: u32) -> Option<Handle> {
         let kind = self.random.pick(&[LOCAL, LOCAL, LOCAL, GLOBAL, WEAK]);
         self.alive(thread, kind)
             .or_else(|| self.alive(thread, LOCAL))
@@ -581,42 +582,46 @@ impl Maker<'_> {
             .or_else(|| self.alive(thread, WEAK))
     }
 
-    fn alive(&mut self, thread: u32, kind: u32) -> Option<u32> {
-        let owner = if kind == LOCAL { thread } else { 0 };
-        let row = find_from_anywhere(
-            &mut self.random,
-            self.judge.references().rows(),
-            |&[thread, handle, _]| thread == owner && handle % 4 == kind,
-        );
-        row.map(|[_, handle, _]| handle)
+    fn alive(&mut self, thread: u32, kind: Handle) -> Option<Handle> {
+        let owner = references::owner(thread, kind);
+        let rows = &self.judge.tables().references.rows;
+        find_from_anywhere(&mut self.random, rows, |row| {
+            row[THREAD] == owner && row[HANDLE] % 4 == kind
+        })
+        .map(|row| row[HANDLE])
     }
 
-    fn others_local(&mut self, own: u32) -> Option<u32> {
-        let row = find_from_anywhere(
-            &mut self.random,
-            self.judge.references().rows(),
-            |&[thread, _, _]| thread != 0 && thread != own,
-        );
-        row.map(|[_, handle, _]| handle)
+    fn others_local(&mut self, own: u32) -> Option<Handle> {
+        let own = Number::from(own);
+        let rows = &self.judge.tables().references.rows;
+        find_from_anywhere(&mut self.random, rows, |row| {
+            row[THREAD] != 0 && row[THREAD] != own
+        })
+        .map(|row| row[HANDLE])
     }
 
-    fn outstanding(&mut self, own: u32, wished: Family) -> Option<u32> {
-        let owner = if wished.is_critical() { own } else { 0 };
-        let row = find_from_anywhere(
-            &mut self.random,
-            self.judge.pins().rows(),
-            |&[thread, family, buffer]| {
-                thread == owner && family == u32::from(wished.0) && buffer != 0
-            },
-        );
-        row.map(|[_, _, buffer]| buffer)
+    fn outstanding(&mut self, thread: u32, family: Family) -> Option<Handle> {
+        let (owner, family) = (pins::owner(thread, family), Number::from(family.0));
+        let rows = &self.judge.tables().pins.rows;
+        find_from_anywhere(&mut self.random, rows, |row| {
+            row[THREAD] == owner && row[FAMILY] == family
+        })
+        .map(|row| row[BUFFER])
+    }
+
+    fn top(&mut self, thread: u32) -> Top {
+        self.judge.tables().book.top(thread)
+    }
+
+    fn is_alive(&mut self, thread: u32, handle: Handle) -> bool {
+        self.judge.tables().references.is_alive(thread, handle)
     }
 
     /// A handle of this kind, not alive if some tries give one.
-    fn fresh(&mut self, thread: u32, kind: u32) -> u32 {
+    fn fresh(&mut self, thread: u32, kind: Handle) -> Handle {
         let mut handle = self.number(kind);
         for _ in 0..6 {
-            if !self.judge.references().is_alive(thread, handle) {
+            if !self.is_alive(thread, handle) {
                 break;
             }
             handle = self.number(kind);
@@ -625,19 +630,19 @@ impl Maker<'_> {
     }
 
     /// A nonzero number with this remainder by 4.
-    fn number(&mut self, remainder: u32) -> u32 {
+    fn number(&mut self, remainder: Handle) -> Handle {
         let low = if remainder == 0 { 4 } else { remainder };
         if self.random.percent(self.profile.at_ends) {
-            return self.random.pick(&[low, u32::MAX - 3 + remainder]);
+            return self.random.pick(&[low, Handle::MAX - 3 + remainder]);
         }
-        low + 4 * self.random.below(self.profile.numbers) as u32
+        low + 4 * self.random.below(self.profile.numbers) as Handle
     }
 
-    fn buffer(&mut self) -> u32 {
+    fn buffer(&mut self) -> Handle {
         if self.random.percent(self.profile.at_ends) {
-            return self.random.pick(&[1, u32::MAX]);
+            return self.random.pick(&[1, Handle::MAX]);
         }
-        1 + self.random.below(self.profile.numbers) as u32
+        1 + self.random.below(self.profile.numbers) as Handle
     }
 
     fn capacity(&mut self) -> i32 {
@@ -655,21 +660,21 @@ impl Maker<'_> {
         self.random.pick(&[0, 0, 0, 0, 0, 0, 0, -1, 1, -4])
     }
 
-    fn other_env(&mut self) -> u32 {
+    fn other_env(&mut self) -> Handle {
         match self.random.below(3) {
-            0 => self.random.pick(&[1, u32::MAX]),
+            0 => self.random.pick(&[1, Handle::MAX]),
             1 => env_of(self.random.between(1, THREADS)),
-            _ => self.random.between(2, 2_000),
+            _ => Handle::from(self.random.between(2, 2_000)),
         }
     }
 }
 
 /// The envs the maker gives the threads, both ends of the range among them.
-fn env_of(thread: u32) -> u32 {
+fn env_of(thread: u32) -> Handle {
     match thread {
         1 => 1,
-        THREADS => u32::MAX,
-        _ => 100 * thread,
+        THREADS => Handle::MAX,
+        _ => 100 * Handle::from(thread),
     }
 }
 
@@ -679,14 +684,17 @@ fn encode(event: &Event) -> Vec<u8> {
     line[..length].to_vec()
 }
 
-fn find_from_anywhere(
+/// A used row that matches, the first from some row on and round.
+fn find_from_anywhere<const NUMBERS: usize>(
     random: &mut Random,
-    rows: &[[u32; 3]],
-    matching: impl Fn(&[u32; 3]) -> bool,
-) -> Option<[u32; 3]> {
-    if rows.is_empty() {
+    rows: &Rows<NUMBERS>,
+    matches: impl Fn(&[Number; NUMBERS]) -> bool,
+) -> Option<[Number; NUMBERS]> {
+    if rows.room() == 0 {
         return None;
     }
-    let (before, after) = rows.split_at(random.below(rows.len()));
-    after.iter().chain(before).copied().find(matching)
+    let start = random.below(rows.room());
+    let mut around = (start..rows.room()).chain(0..start);
+    let index = around.find(|&index| matches(&rows.all()[index]) && rows.is_used(index));
+    index.map(|index| rows.all()[index])
 }

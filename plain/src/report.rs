@@ -1,12 +1,9 @@
 //! The judgement of a whole input and the report it prints.
 
 use crate::judge::Judge;
-use crate::line::MOST_BYTES;
+use crate::limits::MOST_BYTES;
+use crate::refusal::Refusal;
 use std::io::{self, BufWriter, ErrorKind, Read, Write};
-
-/// The reference rows and pin rows the program lends.
-pub const REFERENCE_ROWS: usize = 2_048;
-pub const PIN_ROWS: usize = 256;
 
 const BUFFER_BYTES: usize = 1 << 16;
 
@@ -65,7 +62,8 @@ pub fn judge_input(
 
 struct Run<W: Write> {
     judge: Judge,
-    refusal: u8,
+    /// 0 as long as no line is refused.
+    refusal: Refusal,
     printed: u64,
     output: BufWriter<W>,
 }
@@ -89,14 +87,15 @@ impl<W: Write> Run<W> {
     }
 
     fn end(mut self) -> io::Result<()> {
+        let book = self.judge.tables().book;
         let state = if self.refusal != 0 {
             "refused"
-        } else if self.judge.is_closed() {
+        } else if book.is_closed() {
             "closed"
         } else {
             "open"
         };
-        let (lines, refusal, printed) = (self.judge.lines(), self.refusal, self.printed);
+        let (lines, refusal, printed) = (book.lines(), self.refusal, self.printed);
         writeln!(self.output, "end\t{state}\t{lines}\t{refusal}\t{printed}")?;
         self.output.flush()
     }

@@ -1,9 +1,10 @@
 //! Compares another judge program with the plain judge on made traces, and shrinks the first trace they differ on.
 
 use plain::coverage::Coverage;
+use plain::limits::{PIN_ROWS, REFERENCE_ROWS};
 use plain::make::{make, profile, Profile, PROFILES};
 use plain::random::Random;
-use plain::report::{report, PIN_ROWS, REFERENCE_ROWS};
+use plain::report::report;
 use plain::shrink::shrink;
 use std::io::{self, Read, Write};
 use std::process::{Child, Command, ExitCode, Stdio};
@@ -74,8 +75,9 @@ fn wish(arguments: &[String]) -> Option<Wish> {
 /// Compares trace after trace; whether all reports were equal.
 fn compare(wish: &Wish) -> io::Result<bool> {
     let start = Instant::now();
-    let mut coverage = Coverage::default();
+    let mut coverage = Coverage::of_traces();
     let mut equal = true;
+    let mut traces = 0;
     for index in 0..wish.count {
         if start.elapsed() >= wish.time {
             break;
@@ -84,7 +86,8 @@ fn compare(wish: &Wish) -> io::Result<bool> {
         let seed = wish.seed.wrapping_add(index);
         let lines = lines_of(profile, seed);
         let trace = make(profile, seed, lines, REFERENCE_ROWS, PIN_ROWS);
-        coverage.add(&trace, REFERENCE_ROWS, PIN_ROWS);
+        traces += 1;
+        coverage.add_trace(&trace, REFERENCE_ROWS, PIN_ROWS);
         if differs(&wish.command, &trace)? {
             let name = profile.name;
             println!("a difference: traces --seed {seed} --profile {name} --lines {lines}");
@@ -93,7 +96,7 @@ fn compare(wish: &Wish) -> io::Result<bool> {
             break;
         }
     }
-    println!("compared {coverage}");
+    println!("compared {traces} traces, {coverage}");
     Ok(equal)
 }
 

@@ -1,8 +1,8 @@
 //! Measures the plain reader alone and the plain judge on a trace held in memory.
 
 use plain::judge::Judge;
+use plain::limits::{PIN_ROWS, REFERENCE_ROWS};
 use plain::line::read;
-use plain::report::{PIN_ROWS, REFERENCE_ROWS};
 use std::hint::black_box;
 use std::process::ExitCode;
 use std::time::Instant;

@@ -1,6 +1,7 @@
 //! The program: judges standard input and prints the report.
 
-use plain::report::{judge_input, PIN_ROWS, REFERENCE_ROWS};
+use plain::limits::{PIN_ROWS, REFERENCE_ROWS};
+use plain::report::judge_input;
 use std::io;
 use std::process::ExitCode;
 

@@ -1,8 +1,8 @@
 //! Prints made traces: one of a profile from a seed, or a big one of a kind.
 
 use plain::big::{self, big, natives};
+use plain::limits::{MOST_LINES, PIN_ROWS, REFERENCE_ROWS};
 use plain::make::{make, profile, Profile, PROFILES};
-use plain::report::{PIN_ROWS, REFERENCE_ROWS};
 use std::io::{self, BufWriter, Write};
 use std::process::ExitCode;
 
@@ -53,7 +53,7 @@ fn natives_wish(lines: &str) -> Option<Wish> {
 fn big_wish(kind: &str, lines: &str) -> Option<Wish> {
     let lines = lines.parse().ok()?;
     let kind = big::kind(kind)?;
-    (1..=1_000_000)
+    (1..=MOST_LINES as usize)
         .contains(&lines)
         .then_some(Wish::Big { kind, lines })
 }
@@ -114,7 +114,7 @@ fn usage() {
     eprintln!(
         "usage: traces --profile NAME [--seed S] [--lines N] [--rooms REFERENCE_ROWS PIN_ROWS]"
     );
-    eprintln!("       traces --big KIND N, at most 1000000 lines, accepted to the last");
+    eprintln!("       traces --big KIND N, at most {MOST_LINES} lines, accepted to the last");
     eprintln!("       traces --big natives N, any number of lines, without a Z");
     let profiles: Vec<&str> = PROFILES.iter().map(|profile| profile.name).collect();
     eprintln!("profiles: {}", profiles.join(" "));

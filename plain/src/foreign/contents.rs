@@ -1,16 +1,13 @@
 //! What foreign tables hold: any numbers, numbers that fit each other in part, or what a judge left with some numbers changed.
 
 use super::lengths::{great, of_book, of_rows};
-use crate::facts::{FIRST_FUNCTION, LAST_FUNCTION};
-use crate::judge::MOST_LINES;
+use crate::facts::{FIRST_FUNCTION, GLOBAL, LAST_FUNCTION};
 use crate::lent::book::*;
-use crate::lent::rows::{Row, STRIDE, WORD};
+use crate::lent::rows::WORD;
 use crate::lent::slices::Slices;
-use crate::lent::{start, step};
-use crate::line::THREADS;
+use crate::limits::*;
 use crate::make;
 use crate::random::Random;
-use crate::thread::MOST_ITEMS;
 
 /// Tables, and lines of a trace that may follow.
 #[derive(Clone, Debug)]
@@ -21,7 +18,7 @@ pub struct Foreign {
 }
 
 /// A number of more than 32 bits.
-const HIGH: u64 = 1 << 32;
+const HIGH: Word = 1 << 32;
 
 pub fn make(random: &mut Random) -> Foreign {
     match random.below(100) {
@@ -49,7 +46,7 @@ fn nothing() -> Foreign {
 fn wild(random: &mut Random) -> Foreign {
     let mut slices = lengths(random);
     for number in slices.rows.iter_mut().chain(&mut slices.pins) {
-        *number = random.number() as u32;
+        *number = random.number() as Number;
     }
     let words = slices.marks.iter_mut().chain(&mut slices.pin_marks);
     for number in words.chain(&mut slices.book) {
@@ -66,12 +63,8 @@ fn wild(random: &mut Random) -> Foreign {
 fn small(random: &mut Random) -> Foreign {
     let mut slices = lengths(random);
     let threads = random.pick(&[1, 2, 4, THREADS]);
-    for row in slices.rows.chunks_mut(STRIDE) {
-        row.copy_from_slice(&small_reference(random, threads)[..row.len()]);
-    }
-    for row in slices.pins.chunks_mut(STRIDE) {
-        row.copy_from_slice(&small_pin(random, threads)[..row.len()]);
-    }
+    fill(&mut slices.rows, || small_reference(random, threads));
+    fill(&mut slices.pins, || small_pin(random, threads));
     some_marks(random, &mut slices.marks);
     some_marks(random, &mut slices.pin_marks);
     small_book(random, &mut slices.book, threads);
@@ -88,18 +81,13 @@ fn small(random: &mut Random) -> Foreign {
 /// About as many rows as a room can have, all of them used but some at its end.
 fn full(random: &mut Random) -> Foreign {
     let mut slices = Slices::new(great(random), great(random));
-    for row in slices.rows.chunks_mut(STRIDE) {
-        row.copy_from_slice(&[0, 2, 0]);
-    }
-    let (rows, pins) = (slices.rows.len(), slices.pins.len());
-    for row in slices.rows[rows - 8 * STRIDE..].chunks_mut(STRIDE) {
-        row.copy_from_slice(&small_reference(random, 2));
-    }
-    for row in slices.pins[pins - 8 * STRIDE..].chunks_mut(STRIDE) {
-        row.copy_from_slice(&small_pin(random, 2));
-    }
+    fill(&mut slices.rows, || [0, GLOBAL, 0]);
+    let rows = slices.rows.len() - 8 * REFERENCE_NUMBERS;
+    fill(&mut slices.rows[rows..], || small_reference(random, 2));
+    let pins = slices.pins.len() - 8 * PIN_NUMBERS;
+    fill(&mut slices.pins[pins..], || small_pin(random, 2));
     for marks in [&mut slices.marks, &mut slices.pin_marks] {
-        marks.fill(u64::MAX);
+        marks.fill(Word::MAX);
         let last = marks.len() - 1;
         marks[last - 1] >>= random.below(5);
         marks[last] = random.number();
@@ -115,7 +103,7 @@ fn full(random: &mut Random) -> Foreign {
 /// Lengths of every sort, and a start over any numbers.
 fn started(random: &mut Random) -> Foreign {
     let mut foreign = wild(random);
-    start(&mut foreign.slices.lend());
+    foreign.slices.start();
     Foreign {
         profile: "started",
         ..foreign
@@ -145,8 +133,8 @@ fn damaged(random: &mut Random) -> Foreign {
 fn traced(random: &mut Random) -> (Slices, Vec<Vec<u8>>) {
     let mut slices = lengths(random);
     slices.book.resize(WHOLE, 0);
-    let tables = slices.lend();
-    let (references, pins) = (tables.references.rows().room(), tables.pins.rows().room());
+    let tables = slices.tables();
+    let (references, pins) = (tables.references.rows.room(), tables.pins.rows.room());
     let profile = &make::PROFILES[random.below(make::PROFILES.len())];
     let lines = random.between(2, 120) as usize;
     let trace = make::make(profile, random.number(), lines, references, pins);
@@ -155,18 +143,17 @@ fn traced(random: &mut Random) -> (Slices, Vec<Vec<u8>>) {
         .map(Vec::from)
         .collect();
     let rest = lines.split_off(random.below(lines.len() + 1));
-    let mut tables = slices.lend();
     for line in lines {
         // A refused line leaves the tables as they are.
-        let _ = step(&mut tables, &line);
+        let _ = slices.step(&line);
     }
     (slices, rest)
 }
 
 /// Slices of some lengths, every number 0.
 fn lengths(random: &mut Random) -> Slices {
-    let (rows, marks) = of_rows(random);
-    let (pins, pin_marks) = of_rows(random);
+    let (rows, marks) = of_rows(random, REFERENCE_NUMBERS);
+    let (pins, pin_marks) = of_rows(random, PIN_NUMBERS);
     Slices {
         rows: vec![0; rows],
         marks: vec![0; marks],
@@ -178,25 +165,32 @@ fn lengths(random: &mut Random) -> Slices {
 
 // ---- rows and marks
 
+/// Fills a slice with rows, the last cut off where the slice ends in it.
+fn fill<const NUMBERS: usize>(numbers: &mut [Number], mut row: impl FnMut() -> [Number; NUMBERS]) {
+    for lent in numbers.chunks_mut(NUMBERS) {
+        lent.copy_from_slice(&row()[..lent.len()]);
+    }
+}
+
 fn small_number(random: &mut Random) -> u32 {
     random.between(0, 20)
 }
 
-fn small_reference(random: &mut Random, threads: u32) -> Row {
+fn small_reference(random: &mut Random, threads: u32) -> [Number; REFERENCE_NUMBERS] {
     let frame = match random.below(8) {
-        0 => random.pick(&[63, 64, 65, u32::MAX]),
+        0 => random.pick(&[63, 64, 65, Number::MAX]),
         _ => alike(random, 4),
     };
     [owner(random, threads), alike(random, 60), frame]
 }
 
-fn small_pin(random: &mut Random, threads: u32) -> Row {
+fn small_pin(random: &mut Random, threads: u32) -> [Number; PIN_NUMBERS] {
     [owner(random, threads), alike(random, 13), alike(random, 9)]
 }
 
 /// A number up to the greatest, or sometimes one that is like it in its low bits.
-fn alike(random: &mut Random, greatest: u32) -> u32 {
-    let number = random.between(0, greatest);
+fn alike(random: &mut Random, greatest: u32) -> Number {
+    let number = Number::from(random.between(0, greatest));
     if random.percent(5) {
         number + random.pick(&[1 << 8, 1 << 16, 1 << 31])
     } else {
@@ -205,26 +199,26 @@ fn alike(random: &mut Random, greatest: u32) -> u32 {
 }
 
 /// The thread in a row: none, one of the first so many, or one that there is not.
-fn owner(random: &mut Random, threads: u32) -> u32 {
+fn owner(random: &mut Random, threads: u32) -> Number {
     match random.below(20) {
         0..=5 => 0,
-        6 => random.pick(&[17, 100, u32::MAX]),
+        6 => random.pick(&[17, 100, Number::MAX]),
         7 => alike(random, THREADS),
-        _ => random.between(1, threads),
+        _ => Number::from(random.between(1, threads)),
     }
 }
 
 /// Marks of one density.
-fn some_marks(random: &mut Random, marks: &mut [u64]) {
+fn some_marks(random: &mut Random, marks: &mut [Word]) {
     let chance = random.pick(&[0, 10, 50, 90, 99, 100]);
     for word in marks {
         for bit in 0..WORD {
-            *word |= u64::from(random.percent(chance)) << bit;
+            *word |= Word::from(random.percent(chance)) << bit;
         }
     }
 }
 
-fn damage_row(random: &mut Random, rows: &mut [u32]) {
+fn damage_row(random: &mut Random, rows: &mut [Number]) {
     if rows.is_empty() {
         return;
     }
@@ -234,20 +228,20 @@ fn damage_row(random: &mut Random, rows: &mut [u32]) {
         random.below(rows.len())
     };
     rows[at] = match random.below(4) {
-        0 => random.number() as u32,
-        1 => rows[at].wrapping_add(random.pick(&[1, u32::MAX])),
+        0 => random.number() as Number,
+        1 => rows[at].wrapping_add(random.pick(&[1, Number::MAX])),
         2 => rows[random.below(rows.len())],
-        _ => small_number(random),
+        _ => Number::from(small_number(random)),
     };
 }
 
-fn damage_marks(random: &mut Random, marks: &mut [u64]) {
+fn damage_marks(random: &mut Random, marks: &mut [Word]) {
     if marks.is_empty() {
         return;
     }
     let at = random.below(marks.len());
     match random.below(8) {
-        0 => marks[at] = random.pick(&[0, u64::MAX]),
+        0 => marks[at] = random.pick(&[0, Word::MAX]),
         1 => marks[at] = random.number(),
         _ => marks[at] ^= 1 << random.below(WORD),
     }
@@ -256,7 +250,7 @@ fn damage_marks(random: &mut Random, marks: &mut [u64]) {
 // ---- the book
 
 /// A book of which most threads could be those of a judge, with other numbers in the cells that nothing should read.
-fn small_book(random: &mut Random, book: &mut [u64], threads: u32) {
+fn small_book(random: &mut Random, book: &mut [Word], threads: u32) {
     let unread = random.below(3);
     for number in book.iter_mut() {
         *number = match unread {
@@ -274,12 +268,12 @@ fn small_book(random: &mut Random, book: &mut [u64], threads: u32) {
         1,
         7,
         1_000,
-        u64::from(MOST_LINES) - 2,
-        u64::from(MOST_LINES) - 1,
+        Word::from(MOST_LINES) - 2,
+        Word::from(MOST_LINES) - 1,
     ]);
     book[CLOSED] = 0;
     if random.percent(4) {
-        book[CLOSED] = random.pick(&[1, 2, HIGH, u64::MAX]);
+        book[CLOSED] = random.pick(&[1, 2, HIGH, Word::MAX]);
     }
     if random.percent(4) {
         book[LINES] = MOST_LINES.into();
@@ -289,17 +283,17 @@ fn small_book(random: &mut Random, book: &mut [u64], threads: u32) {
     }
 }
 
-fn small_thread(random: &mut Random, row: &mut [u64], number: u32, is_open: bool) {
-    let own = u64::from(100 * number);
+fn small_thread(random: &mut Random, row: &mut [Word], number: u32, is_open: bool) {
+    let own = Word::from(100 * number);
     row[ENV] = match random.below(20) {
         0 => random.pick(&[100, 200, 300, 400]),
         1 => HIGH + own,
-        2 => random.pick(&[1, u64::from(u32::MAX), HIGH, u64::MAX]),
+        2 => random.pick(&[1, Word::from(u32::MAX), HIGH, Word::MAX]),
         3..=6 => 0,
         _ => own,
     };
-    row[PENDING] = random.pick(&[0, 0, 0, 0, 1, 1, 2, HIGH + 1, u64::MAX]);
-    row[MONITORS] = random.pick(&[0, 0, 0, 1, 2, u64::from(MOST_LINES) - 1, MOST_LINES.into()]);
+    row[PENDING] = random.pick(&[0, 0, 0, 0, 1, 1, 2, HIGH + 1, Word::MAX]);
+    row[MONITORS] = random.pick(&[0, 0, 0, 1, 2, Word::from(MOST_LINES) - 1, MOST_LINES.into()]);
     let depth = random.pick(&[1, 1, 2, 3, 4, 8, 63, 64]);
     row[FRAMES] = if is_open || random.percent(20) {
         depth
@@ -313,11 +307,11 @@ fn small_thread(random: &mut Random, row: &mut [u64], number: u32, is_open: bool
     row[NATIVES] = match random.below(3) {
         0 => row[FRAMES],
         1 => row[FRAMES].min(row[ITEMS].div_ceil(2)),
-        _ => random.below(row[FRAMES] as usize + 1) as u64,
+        _ => random.below(row[FRAMES] as usize + 1) as Word,
     };
     for index in 0..row[FRAMES] as usize {
-        row[CAPACITIES + index] = random.pick(&[0, 1, 2, 3, 16, 16, HIGH, HIGH + 1, u64::MAX]);
-        row[PUSHED + index] = random.pick(&[0, 0, 0, 1, 1, 2, HIGH, u64::MAX]);
+        row[CAPACITIES + index] = random.pick(&[0, 1, 2, 3, 16, 16, HIGH, HIGH + 1, Word::MAX]);
+        row[PUSHED + index] = random.pick(&[0, 0, 0, 1, 1, 2, HIGH, Word::MAX]);
     }
     for index in 0..row[ITEMS] as usize {
         row[FUNCTIONS + index] = item_function(random);
@@ -331,49 +325,49 @@ fn small_thread(random: &mut Random, row: &mut [u64], number: u32, is_open: bool
             0xffff_ffff,
             HIGH,
             HIGH + 3,
-            u64::MAX,
+            Word::MAX,
         ]);
     }
 }
 
 /// A native, an open call, or what is neither from a start.
-fn item_function(random: &mut Random) -> u64 {
+fn item_function(random: &mut Random) -> Word {
     let called = match random.below(3) {
         0 => random.between(FIRST_FUNCTION, LAST_FUNCTION),
         1 => random.pick(&[6, 20, 21, 25, 226, 31, 165, 183, 222, 224]),
         _ => random.pick(&[19, 19, 26, 217, 218]),
     };
     match random.below(20) {
-        0 => HIGH * random.pick(&[1, 7, HIGH - 1]) + u64::from(called),
-        1 => random.pick(&[1, 3, 233, HIGH, HIGH - 1, u64::MAX]),
+        0 => HIGH * random.pick(&[1, 7, HIGH - 1]) + Word::from(called),
+        1 => random.pick(&[1, 3, 233, HIGH, HIGH - 1, Word::MAX]),
         2..=9 => 0,
         _ => called.into(),
     }
 }
 
 /// Gives one thread, or the trace, a count that makes the book unfit.
-fn spoil_book(random: &mut Random, book: &mut [u64]) {
+fn spoil_book(random: &mut Random, book: &mut [Word]) {
     let row = random.between(1, THREADS) as usize * WIDTH;
-    let most = u64::from(MOST_LINES);
+    let most = Word::from(MOST_LINES);
     match random.below(6) {
         0 => {
             book[row + FRAMES] = book[row + FRAMES].max(1);
-            book[row + ITEMS] = random.pick(&[MOST_ITEMS as u64 + 1, HIGH, u64::MAX]);
+            book[row + ITEMS] = random.pick(&[MOST_ITEMS as Word + 1, HIGH, Word::MAX]);
         }
-        1 => book[row + FRAMES] = random.pick(&[65, HIGH, HIGH + 1, u64::MAX]),
+        1 => book[row + FRAMES] = random.pick(&[65, HIGH, HIGH + 1, Word::MAX]),
         2 => book[row + NATIVES] = book[row + FRAMES] + random.pick(&[1, HIGH]),
         3 => {
             book[row + FRAMES] = 0;
             book[row + NATIVES] = 0;
             book[row + ITEMS] = random.pick(&[1, 2, 64]);
         }
-        4 => book[row + MONITORS] = random.pick(&[most + 1, HIGH, u64::MAX]),
-        _ => book[LINES] = random.pick(&[most + 1, HIGH, u64::MAX]),
+        4 => book[row + MONITORS] = random.pick(&[most + 1, HIGH, Word::MAX]),
+        _ => book[LINES] = random.pick(&[most + 1, HIGH, Word::MAX]),
     }
 }
 
 /// Changes a number of the trace or of a thread, the columns with a meaning of their own more often.
-fn damage_book(random: &mut Random, book: &mut [u64]) {
+fn damage_book(random: &mut Random, book: &mut [Word]) {
     let row = random.between(0, THREADS) as usize * WIDTH;
     let column = match random.below(12) {
         0 => LINES,
@@ -392,8 +386,14 @@ fn damage_book(random: &mut Random, book: &mut [u64]) {
     let at = row + column;
     book[at] = match random.below(5) {
         0 => random.number(),
-        1 => book[at].wrapping_add(random.pick(&[1, HIGH, u64::MAX])),
-        2 => random.pick(&[63, 64, 65, u64::from(MOST_LINES) - 1, u64::from(MOST_LINES)]),
+        1 => book[at].wrapping_add(random.pick(&[1, HIGH, Word::MAX])),
+        2 => random.pick(&[
+            63,
+            64,
+            65,
+            Word::from(MOST_LINES) - 1,
+            Word::from(MOST_LINES),
+        ]),
         _ => random.between(0, 3).into(),
     };
 }

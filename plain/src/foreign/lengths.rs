@@ -1,12 +1,12 @@
 //! The lengths of lent slices: whole rows with their marks, and every other sort.
 
 use crate::lent::book::WHOLE;
-use crate::lent::rows::{STRIDE, WORD};
+use crate::lent::rows::WORD;
+use crate::limits::MOST_ROOM;
 use crate::random::Random;
-use crate::rows::MOST_ROOM;
 
-/// How many numbers of rows and how many words of marks are lent.
-pub fn of_rows(random: &mut Random) -> (usize, usize) {
+/// How many numbers of rows, so many to a row, and how many words of marks are lent.
+pub fn of_rows(random: &mut Random, to_a_row: usize) -> (usize, usize) {
     let rows = match random.below(200) {
         0 => great(random),
         1..=9 => random.between(600, 3_000) as usize,
@@ -15,7 +15,7 @@ pub fn of_rows(random: &mut Random) -> (usize, usize) {
         80..=139 => random.below(20),
         _ => random.below(200),
     };
-    let numbers = rows * STRIDE;
+    let numbers = rows * to_a_row;
     let words = rows.div_ceil(WORD);
     match random.below(10) {
         0 => (numbers + 1, words),

@@ -3,15 +3,14 @@
 use crate::damage::{damage_bytes, damage_fields, odd_line};
 use crate::edge::edge_line;
 use crate::facts::*;
-use crate::judge::MOST_LINES;
 use crate::lent::book::Top;
-use crate::lent::rows::{Row, Rows};
+use crate::lent::pins::{self, BUFFER, FAMILY};
+use crate::lent::references::HANDLE;
+use crate::lent::rows::{Rows, THREAD};
 use crate::lent::Tables;
-use crate::line::{write, Event, MOST_BYTES, MOST_HANDLES, THREADS};
+use crate::limits::*;
+use crate::line::{write, Event};
 use crate::random::Random;
-
-/// The releases of the families in their order.
-const RELEASES: [u32; 12] = [166, 170, 191, 192, 193, 194, 195, 196, 197, 198, 223, 225];
 
 /// Whether every line is refused over these tables, whatever it says.
 pub fn is_over(tables: &Tables) -> bool {
@@ -130,14 +129,14 @@ impl Aim<'_, '_> {
 
     fn call(&self, thread: u32, random: &mut Random) -> Event {
         // Now and then the release of what stands in some pin row.
-        let pin = any_row(self.tables.pins.rows(), random).filter(|_| random.percent(10));
-        let release = pin.and_then(|[_, family, _]| RELEASES.get(family as usize % 256).copied());
-        let function = release.unwrap_or_else(|| a_function(random));
+        let pin = any_row(&self.tables.pins.rows, random).filter(|_| random.percent(10));
+        let family = pin.and_then(|pin| FAMILIES.get(pin[FAMILY] as usize % 256));
+        let function = family.map_or_else(|| a_function(random), |&(_, release)| release);
         let facts = known(function);
         let places = facts.places.map(|kind| match (kind, pin) {
             (PlaceKind::Unused, _) => 0,
             (PlaceKind::Identity, _) if random.percent(60) => 8,
-            (PlaceKind::Buffer(_), Some([_, _, buffer])) => buffer,
+            (PlaceKind::Buffer(_), Some(pin)) => pin[BUFFER],
             (PlaceKind::Buffer(family), None) => self.buffer(thread, family, random),
             _ => self.handle(thread, random),
         });
@@ -162,10 +161,10 @@ impl Aim<'_, '_> {
             ResultKind::Status => random.pick(&[0, 0, 0, 0, -1, 1]),
             ResultKind::Nothing => 0,
             _ if null => 0,
-            ResultKind::Local => i64::from(handle / 4 * 4 + LOCAL),
-            ResultKind::Global => i64::from(handle / 4 * 4 + GLOBAL),
-            ResultKind::Weak => i64::from(handle / 4 * 4 + WEAK),
-            ResultKind::Identity => i64::from(handle / 4 * 4),
+            ResultKind::Local => Field::from(handle / 4 * 4 + LOCAL),
+            ResultKind::Global => Field::from(handle / 4 * 4 + GLOBAL),
+            ResultKind::Weak => Field::from(handle / 4 * 4 + WEAK),
+            ResultKind::Identity => Field::from(handle / 4 * 4),
             ResultKind::Buffer(_) => random.between(0, 9).into(),
         };
         Event::R {
@@ -177,41 +176,42 @@ impl Aim<'_, '_> {
     }
 
     /// Mostly the thread's own, as far as a line can name it.
-    fn env(&self, thread: u32, random: &mut Random) -> u32 {
+    fn env(&self, thread: u32, random: &mut Random) -> Handle {
         let other = random.between(1, THREADS);
         if self.is_unfit || random.percent(8) {
-            return 100 * other;
+            return 100 * Handle::from(other);
         }
         let of = if random.percent(90) { thread } else { other };
-        match self.tables.book.env(of) as u32 {
-            0 => 100 * thread,
+        match self.tables.book.env(of) as Handle {
+            0 => 100 * Handle::from(thread),
             env => env,
         }
     }
 
     /// A handle that stands in some row, or a small number.
-    fn handle(&self, thread: u32, random: &mut Random) -> u32 {
-        let rows = self.tables.references.rows();
-        let wanted = random.pick(&[thread, thread, 0]);
+    fn handle(&self, thread: u32, random: &mut Random) -> Handle {
+        const LAST: Handle = Handle::MAX;
+        let rows = &self.tables.references.rows;
+        let wanted = Number::from(random.pick(&[thread, thread, 0]));
         match random.below(10) {
-            0..4 => row_of(rows, wanted, random).map(|[_, handle, _]| handle),
-            4..6 => any_row(rows, random).map(|[_, handle, _]| handle),
-            6 => Some(random.pick(&[0, 0, 4, u32::MAX, u32::MAX - 1, u32::MAX - 2])),
-            7 => Some(random.between(61, 200)),
+            0..4 => row_of(rows, wanted, random).map(|row| row[HANDLE]),
+            4..6 => any_row(rows, random).map(|row| row[HANDLE]),
+            6 => Some(random.pick(&[0, 0, 4, LAST, LAST - 1, LAST - 2])),
+            7 => Some(Handle::from(random.between(61, 200))),
             _ => None,
         }
-        .unwrap_or_else(|| random.between(0, 60))
+        .unwrap_or_else(|| Handle::from(random.between(0, 60)))
     }
 
-    fn buffer(&self, thread: u32, family: Family, random: &mut Random) -> u32 {
-        let rows = self.tables.pins.rows();
-        let wanted = if family.is_critical() { thread } else { 0 };
+    fn buffer(&self, thread: u32, family: Family, random: &mut Random) -> Handle {
+        let rows = &self.tables.pins.rows;
+        let wanted = pins::owner(thread, family);
         match random.below(4) {
-            0 => row_of(rows, wanted, random).map(|[_, _, buffer]| buffer),
-            1 => any_row(rows, random).map(|[_, _, buffer]| buffer),
+            0 => row_of(rows, wanted, random).map(|row| row[BUFFER]),
+            1 => any_row(rows, random).map(|row| row[BUFFER]),
             _ => None,
         }
-        .unwrap_or_else(|| random.between(0, 9))
+        .unwrap_or_else(|| Handle::from(random.between(0, 9)))
     }
 }
 
@@ -227,15 +227,22 @@ fn a_function(random: &mut Random) -> u32 {
 }
 
 /// A row of the room, used or not; the last ones more often.
-fn any_row(rows: &Rows, random: &mut Random) -> Option<Row> {
+fn any_row<const NUMBERS: usize>(
+    rows: &Rows<NUMBERS>,
+    random: &mut Random,
+) -> Option<[Number; NUMBERS]> {
     let span = if random.percent(20) { 4 } else { rows.room() };
     let last = rows.room().checked_sub(1)?;
-    Some(rows.row(last - random.below(span.min(rows.room()))))
+    Some(rows.all()[last - random.below(span.min(rows.room()))])
 }
 
 /// A row of this thread, if some tries give one.
-fn row_of(rows: &Rows, thread: u32, random: &mut Random) -> Option<Row> {
+fn row_of<const NUMBERS: usize>(
+    rows: &Rows<NUMBERS>,
+    thread: Number,
+    random: &mut Random,
+) -> Option<[Number; NUMBERS]> {
     (0..12)
         .filter_map(|_| any_row(rows, random))
-        .find(|row| row[0] == thread)
+        .find(|row| row[THREAD] == thread)
 }

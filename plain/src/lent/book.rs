@@ -1,12 +1,6 @@
 //! The lent thread book: row 0 for the trace and a row for each thread, whatever they hold.
 
-use crate::judge::MOST_LINES;
-use crate::line::THREADS;
-use crate::thread::{MOST_FRAMES, MOST_ITEMS};
-
-/// Numbers to a row, and to a book.
-pub const WIDTH: usize = 264;
-pub const WHOLE: usize = (1 + THREADS as usize) * WIDTH;
+use crate::limits::{Handle, Word, MOST_FRAMES, MOST_ITEMS, MOST_LINES, THREADS};
 
 /// The columns of row 0.
 pub const LINES: usize = 0;
@@ -17,14 +11,18 @@ pub const PENDING: usize = 3;
 pub const MONITORS: usize = 4;
 pub const FRAMES: usize = 5;
 pub const CAPACITIES: usize = 6;
-pub const PUSHED: usize = 70;
-pub const ITEMS: usize = 134;
-pub const NATIVES: usize = 135;
-pub const FUNCTIONS: usize = 136;
-pub const ASKED: usize = 200;
+pub const PUSHED: usize = CAPACITIES + MOST_FRAMES;
+pub const ITEMS: usize = PUSHED + MOST_FRAMES;
+pub const NATIVES: usize = ITEMS + 1;
+pub const FUNCTIONS: usize = NATIVES + 1;
+pub const ASKED: usize = FUNCTIONS + MOST_ITEMS;
+
+/// Numbers to a row, and to a book.
+pub const WIDTH: usize = ASKED + MOST_ITEMS;
+pub const WHOLE: usize = (1 + THREADS as usize) * WIDTH;
 
 /// What stands for a native among the functions of open items.
-pub const NATIVE: u64 = 0;
+pub const NATIVE: Word = 0;
 
 /// The top of a thread's open items.
 #[derive(Clone, Copy, Debug, PartialEq, Eq)]
@@ -57,15 +55,11 @@ pub enum Fault {
     Monitors,
 }
 
-pub struct Book<'a>(&'a mut [u64]);
+pub struct Book<'a>(&'a mut [Word]);
 
 impl<'a> Book<'a> {
-    pub fn new(book: &'a mut [u64]) -> Book<'a> {
+    pub fn new(book: &'a mut [Word]) -> Book<'a> {
         Book(book)
-    }
-
-    pub fn clear(&mut self) {
-        self.0.fill(0);
     }
 
     /// Refusal 8. All that is asked below is asked of a book that is fit.
@@ -85,10 +79,10 @@ impl<'a> Book<'a> {
         for thread in 1..=THREADS {
             let items = self.number(thread, ITEMS);
             let frames = self.number(thread, FRAMES);
-            if items > MOST_ITEMS as u64 {
+            if items > MOST_ITEMS as Word {
                 faults.push(Fault::Items);
             }
-            if frames > MOST_FRAMES as u64 {
+            if frames > MOST_FRAMES as Word {
                 faults.push(Fault::Frames);
             }
             if self.number(thread, NATIVES) > frames {
@@ -106,7 +100,7 @@ impl<'a> Book<'a> {
 
     // ---- the trace
 
-    pub fn lines(&self) -> u64 {
+    pub fn lines(&self) -> Word {
         self.number(0, LINES)
     }
 
@@ -126,12 +120,12 @@ impl<'a> Book<'a> {
     // ---- a thread
 
     /// All 64 bits of it; 0 before the first N.
-    pub fn env(&self, thread: u32) -> u64 {
+    pub fn env(&self, thread: u32) -> Word {
         self.number(thread, ENV)
     }
 
-    pub fn set_env(&mut self, thread: u32, env: u32) {
-        self.put(thread, ENV, env.into());
+    pub fn set_env(&mut self, thread: u32, env: Handle) {
+        self.put(thread, ENV, Word::from(env));
     }
 
     /// Only the number 1 says that an exception is pending.
@@ -143,7 +137,7 @@ impl<'a> Book<'a> {
         self.put(thread, PENDING, pending.into());
     }
 
-    pub fn monitors(&self, thread: u32) -> u64 {
+    pub fn monitors(&self, thread: u32) -> Word {
         self.number(thread, MONITORS)
     }
 
@@ -158,17 +152,17 @@ impl<'a> Book<'a> {
     // ---- its frames, numbered from 1
 
     /// How many frames, which is also the number of the top one.
-    pub fn frames(&self, thread: u32) -> u32 {
-        self.number(thread, FRAMES) as u32
+    pub fn frames(&self, thread: u32) -> usize {
+        self.number(thread, FRAMES) as usize
     }
 
-    pub fn set_frames(&mut self, thread: u32, frames: u32) {
-        self.put(thread, FRAMES, frames.into());
+    pub fn set_frames(&mut self, thread: u32, frames: usize) {
+        self.put(thread, FRAMES, frames as Word);
     }
 
     /// Any number but 0 says that the frame was pushed.
-    pub fn is_pushed(&self, thread: u32, frame: u32) -> bool {
-        self.number(thread, PUSHED + frame as usize - 1) != 0
+    pub fn is_pushed(&self, thread: u32, frame: usize) -> bool {
+        self.number(thread, PUSHED + frame - 1) != 0
     }
 
     /// A thread without frames has no pushed one on top.
@@ -177,28 +171,26 @@ impl<'a> Book<'a> {
         top > 0 && self.is_pushed(thread, top)
     }
 
-    /// The frames below the top native's: pushed ones are left out from the top, then the native's own, if there is one.
-    pub fn frames_below_native(&self, thread: u32) -> u32 {
-        let mut frame = self.frames(thread);
-        while frame > 0 && self.is_pushed(thread, frame) {
-            frame -= 1;
-        }
-        frame.saturating_sub(1)
+    /// The number of the top native's frame: the highest that was not pushed, or the lowest where all were.
+    pub fn native_frame(&self, thread: u32) -> usize {
+        let frames = (1..=self.frames(thread)).rev();
+        let mut own = frames.filter(|&frame| !self.is_pushed(thread, frame));
+        own.next().unwrap_or(1)
     }
 
     /// All 64 bits of it.
-    pub fn capacity(&self, thread: u32, frame: u32) -> u64 {
-        self.number(thread, CAPACITIES + frame as usize - 1)
+    pub fn capacity(&self, thread: u32, frame: usize) -> Word {
+        self.number(thread, CAPACITIES + frame - 1)
     }
 
-    pub fn set_capacity(&mut self, thread: u32, frame: u32, capacity: u64) {
-        self.put(thread, CAPACITIES + frame as usize - 1, capacity);
+    pub fn set_capacity(&mut self, thread: u32, frame: usize, capacity: Word) {
+        self.put(thread, CAPACITIES + frame - 1, capacity);
     }
 
     pub fn push_frame(&mut self, thread: u32, capacity: u32, pushed: bool) {
         let frames = self.frames(thread);
-        self.put(thread, CAPACITIES + frames as usize, capacity.into());
-        self.put(thread, PUSHED + frames as usize, pushed.into());
+        self.put(thread, CAPACITIES + frames, capacity.into());
+        self.put(thread, PUSHED + frames, pushed.into());
         self.set_frames(thread, frames + 1);
     }
 
@@ -243,20 +235,20 @@ impl<'a> Book<'a> {
         self.put(thread, ITEMS, self.number(thread, ITEMS) - 1);
     }
 
-    fn push_item(&mut self, thread: u32, function: u64, asked: u64) {
+    fn push_item(&mut self, thread: u32, function: Word, asked: Word) {
         let items = self.items(thread);
         self.put(thread, FUNCTIONS + items, function);
         self.put(thread, ASKED + items, asked);
-        self.put(thread, ITEMS, items as u64 + 1);
+        self.put(thread, ITEMS, items as Word + 1);
     }
 
     // ---- numbers
 
-    fn number(&self, row: u32, column: usize) -> u64 {
+    fn number(&self, row: u32, column: usize) -> Word {
         self.0[row as usize * WIDTH + column]
     }
 
-    fn put(&mut self, row: u32, column: usize, number: u64) {
+    fn put(&mut self, row: u32, column: usize, number: Word) {
         self.0[row as usize * WIDTH + column] = number;
     }
 }

@@ -1,59 +1,53 @@
-//! The outstanding buffers in lent rows: thread, family, buffer. A row of thread 0 belongs to no thread, any other is critical whatever its family.
+//! The outstanding buffers in lent rows. A row of thread 0 belongs to no thread, any other is critical whatever its family.
 
-use super::rows::Rows;
+use super::rows::{Rows, THREAD};
 use crate::facts::Family;
+use crate::limits::{Handle, Number, PIN_NUMBERS};
 
-pub struct Pins<'a>(Rows<'a>);
+/// The columns of a row, after the thread.
+pub const FAMILY: usize = 1;
+pub const BUFFER: usize = 2;
 
-impl<'a> Pins<'a> {
-    pub fn new(rows: &'a mut [u32], marks: &'a mut [u64]) -> Pins<'a> {
-        Pins(Rows::new(rows, marks))
-    }
+pub struct Pins<'a> {
+    pub rows: Rows<'a, PIN_NUMBERS>,
+}
 
-    pub fn rows(&self) -> &Rows<'a> {
-        &self.0
-    }
-
-    pub fn clear(&mut self) {
-        self.0.clear();
-    }
-
+impl Pins<'_> {
     /// Whether the buffer is outstanding in its family; a critical one, in this thread.
-    pub fn is_outstanding(&self, thread: u32, family: Family, buffer: u32) -> bool {
-        self.find(thread, family, buffer).is_some()
+    pub fn is_outstanding(&self, thread: u32, family: Family, buffer: Handle) -> bool {
+        self.rows.has(is_buffer(thread, family, buffer))
     }
 
     pub fn has_critical(&self, thread: u32) -> bool {
-        self.0.lowest(|[owner, _, _]| owner == thread).is_some()
+        let thread = Number::from(thread);
+        self.rows.has(|row| row[THREAD] == thread)
     }
 
-    pub fn outstanding(&self) -> u32 {
-        self.0.count(|_| true) as u32
-    }
-
-    pub fn get(&mut self, thread: u32, family: Family, buffer: u32) {
-        self.0
+    pub fn get(&mut self, thread: u32, family: Family, buffer: Handle) {
+        self.rows
             .take([owner(thread, family), family.0.into(), buffer]);
     }
 
     /// Ends the lowest such row, if there is one. A null buffer is a buffer like others here: a foreign row may hold one.
-    pub fn release(&mut self, thread: u32, family: Family, buffer: u32) {
-        if let Some(index) = self.find(thread, family, buffer) {
-            self.0.end(index);
-        }
-    }
-
-    fn find(&self, thread: u32, family: Family, buffer: u32) -> Option<usize> {
-        let wanted = [owner(thread, family), family.0.into(), buffer];
-        self.0.lowest(|row| row == wanted)
+    pub fn release(&mut self, thread: u32, family: Family, buffer: Handle) {
+        self.rows.end_lowest(is_buffer(thread, family, buffer));
     }
 }
 
-/// The thread in the row of a buffer of this family.
-fn owner(thread: u32, family: Family) -> u32 {
+/// The thread in the row of a buffer of this family: that which got a critical one, or 0.
+pub fn owner(thread: u32, family: Family) -> Number {
     if family.is_critical() {
-        thread
+        Number::from(thread)
     } else {
         0
     }
+}
+
+fn is_buffer(
+    thread: u32,
+    family: Family,
+    buffer: Handle,
+) -> impl Fn(&[Number; PIN_NUMBERS]) -> bool {
+    let (owner, family) = (owner(thread, family), Number::from(family.0));
+    move |row| row[BUFFER] == buffer && row[FAMILY] == family && row[THREAD] == owner
 }

@@ -1,63 +1,63 @@
-//! The alive handles in lent rows: thread, handle, frame. A row of thread 0 is a global or weak whatever its handle, any other row a local.
+//! The alive handles in lent rows. A row of thread 0 is a global or weak whatever its handle, any other row a local.
 
-use super::rows::Rows;
+use super::rows::{Rows, THREAD};
 use crate::facts::LOCAL;
+use crate::limits::{Handle, Number, REFERENCE_NUMBERS};
 
-pub struct References<'a>(Rows<'a>);
+/// The columns of a row, after the thread; a global or weak has thread and frame 0.
+pub const HANDLE: usize = 1;
+pub const FRAME: usize = 2;
 
-impl<'a> References<'a> {
-    pub fn new(rows: &'a mut [u32], marks: &'a mut [u64]) -> References<'a> {
-        References(Rows::new(rows, marks))
-    }
+pub struct References<'a> {
+    pub rows: Rows<'a, REFERENCE_NUMBERS>,
+}
 
-    pub fn rows(&self) -> &Rows<'a> {
-        &self.0
-    }
-
-    pub fn clear(&mut self) {
-        self.0.clear();
-    }
-
+impl References<'_> {
     /// Whether a nonzero handle of kind 1 to 3 is alive; a local, in this thread.
-    pub fn is_alive(&self, thread: u32, handle: u32) -> bool {
-        self.find(thread, handle).is_some()
+    pub fn is_alive(&self, thread: u32, handle: Handle) -> bool {
+        self.rows.has(is_handle(thread, handle))
     }
 
     /// Ends such a handle if it is alive: its lowest row, should there be several.
-    pub fn end(&mut self, thread: u32, handle: u32) {
-        if let Some(index) = self.find(thread, handle) {
-            self.0.end(index);
-        }
+    pub fn end(&mut self, thread: u32, handle: Handle) {
+        self.rows.end_lowest(is_handle(thread, handle));
     }
 
-    pub fn make_local(&mut self, thread: u32, handle: u32, frame: u32) {
-        self.0.take([thread, handle, frame]);
-    }
-
-    pub fn make_global_or_weak(&mut self, handle: u32) {
-        self.0.take([0, handle, 0]);
+    /// Makes a local in a frame of the thread, or a global or weak.
+    pub fn make(&mut self, thread: u32, handle: Handle, frame: usize) {
+        let owner = owner(thread, handle);
+        let frame = if owner == 0 { 0 } else { frame as Number };
+        self.rows.take([owner, handle, frame]);
     }
 
     /// Ends the locals of the thread's frames from this one up.
-    pub fn end_locals_from(&mut self, thread: u32, first: u32) {
-        self.0
-            .end_all(|[owner, _, frame]| owner == thread && frame >= first);
+    pub fn end_locals_from(&mut self, thread: u32, first: usize) {
+        let (thread, first) = (Number::from(thread), first as Number);
+        self.rows
+            .end_all(|row| row[THREAD] == thread && row[FRAME] >= first);
     }
 
-    pub fn locals_alive_in(&self, thread: u32, wanted: u32) -> u64 {
-        let count = self
-            .0
-            .count(|[owner, _, frame]| owner == thread && frame == wanted);
-        count as u64
+    pub fn locals_alive_in(&self, thread: u32, frame: usize) -> usize {
+        let (thread, frame) = (Number::from(thread), frame as Number);
+        self.rows
+            .count(|row| row[THREAD] == thread && row[FRAME] == frame)
     }
 
-    pub fn globals_and_weaks_alive(&self) -> u32 {
-        self.0.count(|[owner, _, _]| owner == 0) as u32
+    pub fn globals_and_weaks_alive(&self) -> usize {
+        self.rows.count(|row| row[THREAD] == 0)
     }
+}
 
-    fn find(&self, thread: u32, wanted: u32) -> Option<usize> {
-        let wanted_owner = if wanted % 4 == LOCAL { thread } else { 0 };
-        self.0
-            .lowest(|[owner, handle, _]| owner == wanted_owner && handle == wanted)
+/// The thread in the row of a handle: that of a local, or 0.
+pub fn owner(thread: u32, handle: Handle) -> Number {
+    if handle % 4 == LOCAL {
+        Number::from(thread)
+    } else {
+        0
     }
+}
+
+fn is_handle(thread: u32, handle: Handle) -> impl Fn(&[Number; REFERENCE_NUMBERS]) -> bool {
+    let owner = owner(thread, handle);
+    move |row| row[HANDLE] == handle && row[THREAD] == owner
 }

@@ -1,91 +1,110 @@
-//! Lent rows of three numbers and their marks, one bit to a row, whatever they hold.
+//! Lent rows and their marks, one bit to a row, whatever they hold; scanned for each lookup and each count.
 
-use crate::rows::MOST_ROOM;
+use crate::limits::{Number, Word, MOST_ROOM};
 
-/// Numbers to a row.
-pub const STRIDE: usize = 3;
 /// Marks to a word.
-pub const WORD: usize = 64;
+pub const WORD: usize = Word::BITS as usize;
+/// The column of the thread, in rows of both sorts.
+pub const THREAD: usize = 0;
 
-pub type Row = [u32; STRIDE];
-
-pub struct Rows<'a> {
-    rows: &'a mut [u32],
-    marks: &'a mut [u64],
+/// The rows that count as room, so many numbers to a row, and the words of their marks.
+pub struct Rows<'a, const NUMBERS: usize> {
+    rows: &'a mut [[Number; NUMBERS]],
+    marks: &'a mut [Word],
 }
 
-impl<'a> Rows<'a> {
-    pub fn new(rows: &'a mut [u32], marks: &'a mut [u64]) -> Rows<'a> {
-        Rows { rows, marks }
+impl<'a, const NUMBERS: usize> Rows<'a, NUMBERS> {
+    /// Room is the lesser of rows and marks, at most 65,536. Numbers and marks past it are neither read nor written.
+    pub fn new(numbers: &'a mut [Number], marks: &'a mut [Word]) -> Rows<'a, NUMBERS> {
+        let (rows, _) = numbers.as_chunks_mut();
+        let room = rows.len().min(marks.len() * WORD).min(MOST_ROOM);
+        Rows {
+            rows: &mut rows[..room],
+            marks: &mut marks[..room.div_ceil(WORD)],
+        }
     }
 
-    /// The lesser of rows and marks, at most 65,536. Numbers and marks past it are neither read nor written.
     pub fn room(&self) -> usize {
-        let rows = self.rows.len() / STRIDE;
-        let marks = self.marks.len() * WORD;
-        rows.min(marks).min(MOST_ROOM)
+        self.rows.len()
     }
 
     pub fn is_used(&self, index: usize) -> bool {
         self.marks[index / WORD] >> (index % WORD) & 1 == 1
     }
 
-    /// The numbers of a row, used or not.
-    pub fn row(&self, index: usize) -> Row {
-        let at = index * STRIDE;
-        [self.rows[at], self.rows[at + 1], self.rows[at + 2]]
+    /// The rows of the room, used or not.
+    pub fn all(&self) -> &[[Number; NUMBERS]] {
+        self.rows
     }
 
-    /// How many rows of the room are free.
+    /// How many rows of the room are used.
+    pub fn used(&self) -> usize {
+        let (whole, past) = (self.room() / WORD, self.room() % WORD);
+        let ones = |words: &[Word]| -> u32 { words.iter().map(|word| word.count_ones()).sum() };
+        let used = match self.marks.get(whole) {
+            Some(last) => ones(&self.marks[..whole]) + (last & !(Word::MAX << past)).count_ones(),
+            None => ones(self.marks),
+        };
+        used as usize
+    }
+
     pub fn free(&self) -> usize {
-        (0..self.room())
-            .filter(|&index| !self.is_used(index))
-            .count()
+        self.room() - self.used()
+    }
+
+    /// Whether a used row matches.
+    pub fn has(&self, matches: impl Fn(&[Number; NUMBERS]) -> bool) -> bool {
+        self.lowest(matches).is_some()
     }
 
     /// How many used rows match.
-    pub fn count(&self, matching: impl Fn(Row) -> bool) -> usize {
-        (0..self.room())
-            .filter(|&index| self.is_used(index) && matching(self.row(index)))
-            .count()
+    pub fn count(&self, matches: impl Fn(&[Number; NUMBERS]) -> bool) -> usize {
+        let words = self.rows.chunks(WORD).zip(self.marks.iter());
+        let counts = words.map(|(rows, word)| {
+            let rows = rows.iter().enumerate();
+            rows.filter(|&(bit, row)| matches(row) && word >> bit & 1 == 1)
+                .count()
+        });
+        counts.sum()
     }
 
     /// The lowest used row that matches.
-    pub fn lowest(&self, matching: impl Fn(Row) -> bool) -> Option<usize> {
-        (0..self.room()).find(|&index| self.is_used(index) && matching(self.row(index)))
+    fn lowest(&self, matches: impl Fn(&[Number; NUMBERS]) -> bool) -> Option<usize> {
+        // Rows are passed over four at a time.
+        let (fours, _) = self.rows.as_chunks::<4>();
+        let passed = fours.iter().position(|four| four.iter().any(&matches));
+        let first = 4 * passed.unwrap_or(fours.len());
+        (first..self.room()).find(|&index| matches(&self.rows[index]) && self.is_used(index))
     }
 
     /// Takes the lowest free row; there must be one.
-    pub fn take(&mut self, row: Row) {
-        let free = (0..self.room()).find(|&index| !self.is_used(index));
-        let index = free.expect("a free row");
-        self.write(index, row);
-        self.marks[index / WORD] |= 1 << (index % WORD);
+    pub fn take(&mut self, row: [Number; NUMBERS]) {
+        let word = self.marks.iter().position(|&word| word != Word::MAX);
+        let word = word.expect("a free row");
+        let bit = self.marks[word].trailing_ones();
+        self.marks[word] |= 1 << bit;
+        self.rows[word * WORD + bit as usize] = row;
     }
 
-    /// Zeroes a row and takes its mark away.
-    pub fn end(&mut self, index: usize) {
-        self.write(index, [0; STRIDE]);
-        self.marks[index / WORD] &= !(1 << (index % WORD));
+    /// Ends the lowest used row that matches, if there is one.
+    pub fn end_lowest(&mut self, matches: impl Fn(&[Number; NUMBERS]) -> bool) {
+        if let Some(index) = self.lowest(matches) {
+            self.end(index);
+        }
     }
 
     /// Ends every used row that matches.
-    pub fn end_all(&mut self, matching: impl Fn(Row) -> bool) {
+    pub fn end_all(&mut self, matches: impl Fn(&[Number; NUMBERS]) -> bool) {
         for index in 0..self.room() {
-            if self.is_used(index) && matching(self.row(index)) {
+            if matches(&self.rows[index]) && self.is_used(index) {
                 self.end(index);
             }
         }
     }
 
-    /// Zeroes every number and every mark, those past the room too.
-    pub fn clear(&mut self) {
-        self.rows.fill(0);
-        self.marks.fill(0);
-    }
-
-    fn write(&mut self, index: usize, row: Row) {
-        let at = index * STRIDE;
-        self.rows[at..at + STRIDE].copy_from_slice(&row);
+    /// Zeroes a row and takes its mark away.
+    fn end(&mut self, index: usize) {
+        self.rows[index] = [0; NUMBERS];
+        self.marks[index / WORD] &= !(1 << (index % WORD));
     }
 }

@@ -1,37 +1,81 @@
-//! The numbers of five slices, to be lent.
+//! The five slices that are lent, by whatever holds them.
 
-use super::book::WHOLE;
-use super::rows::{STRIDE, WORD};
+use super::book::{Book, WHOLE};
+use super::pins::Pins;
+use super::references::References;
+use super::rows::{Rows, WORD};
 use super::Tables;
+use crate::findings::Findings;
+use crate::limits::{Number, Word, PIN_NUMBERS, REFERENCE_NUMBERS};
+use crate::refusal::Refusal;
+use std::ops::DerefMut;
 
+/// Five slices; their numbers are owned if nothing else is said.
 #[derive(Clone, Debug, PartialEq, Eq)]
-pub struct Slices {
-    pub rows: Vec<u32>,
-    pub marks: Vec<u64>,
-    pub pins: Vec<u32>,
-    pub pin_marks: Vec<u64>,
-    pub book: Vec<u64>,
+pub struct Slices<Numbers = Vec<Number>, Words = Vec<Word>> {
+    pub rows: Numbers,
+    pub marks: Words,
+    pub pins: Numbers,
+    pub pin_marks: Words,
+    pub book: Words,
 }
+
+/// Five slices as they are lent.
+pub type Lent<'a> = Slices<&'a mut [Number], &'a mut [Word]>;
 
 impl Slices {
     /// Slices of so many rows and a whole book, as a start leaves them.
     pub fn new(reference_rows: usize, pin_rows: usize) -> Slices {
         Slices {
-            rows: vec![0; reference_rows * STRIDE],
+            rows: vec![0; reference_rows * REFERENCE_NUMBERS],
             marks: vec![0; reference_rows.div_ceil(WORD)],
-            pins: vec![0; pin_rows * STRIDE],
+            pins: vec![0; pin_rows * PIN_NUMBERS],
             pin_marks: vec![0; pin_rows.div_ceil(WORD)],
             book: vec![0; WHOLE],
         }
     }
+}
 
-    pub fn lend(&mut self) -> Tables<'_> {
-        Tables::new(
-            &mut self.rows,
-            &mut self.marks,
-            &mut self.pins,
-            &mut self.pin_marks,
-            &mut self.book,
-        )
+impl<Numbers, Words> Slices<Numbers, Words>
+where
+    Numbers: DerefMut<Target = [Number]>,
+    Words: DerefMut<Target = [Word]>,
+{
+    pub fn lend(&mut self) -> Lent<'_> {
+        Slices {
+            rows: &mut self.rows,
+            marks: &mut self.marks,
+            pins: &mut self.pins,
+            pin_marks: &mut self.pin_marks,
+            book: &mut self.book,
+        }
+    }
+
+    pub fn tables(&mut self) -> Tables<'_> {
+        let lent = self.lend();
+        Tables {
+            references: References {
+                rows: Rows::new(lent.rows, lent.marks),
+            },
+            pins: Pins {
+                rows: Rows::new(lent.pins, lent.pin_marks),
+            },
+            book: Book::new(lent.book),
+        }
+    }
+
+    /// A start: every number of every slice is 0.
+    pub fn start(&mut self) {
+        let lent = self.lend();
+        lent.rows.fill(0);
+        lent.marks.fill(0);
+        lent.pins.fill(0);
+        lent.pin_marks.fill(0);
+        lent.book.fill(0);
+    }
+
+    /// Judges one lent line; a refused line changes nothing.
+    pub fn step(&mut self, line: &[u8]) -> Result<Findings, Refusal> {
+        self.tables().step(line)
     }
 }

@@ -163,15 +163,15 @@ fn twenty_six_raises_by_the_locals_alive_when_r_acts() {
         makes(3),
         &["C 1 100 26 0 0 0 6", "R 1 26 0 0"],
     ]);
-    let (judge, _) = judged(&lines);
-    assert_eq!(judge.thread(1).frames[0].capacity, 17);
-    let (judge, _) = judged(&all(&[&lines, &["C 1 100 26 0 0 0 5", "R 1 26 0 0"]]));
-    assert_eq!(judge.thread(1).frames[0].capacity, 17);
-    let (judge, _) = judged(&all(&[&lines, &["C 1 100 26 0 0 0 7", "R 1 26 -1 0"]]));
-    assert_eq!(judge.thread(1).frames[0].capacity, 17);
+    let (mut judge, _) = judged(&lines);
+    assert_eq!(judge.tables().book.capacity(1, 1), 17);
+    let (mut judge, _) = judged(&all(&[&lines, &["C 1 100 26 0 0 0 5", "R 1 26 0 0"]]));
+    assert_eq!(judge.tables().book.capacity(1, 1), 17);
+    let (mut judge, _) = judged(&all(&[&lines, &["C 1 100 26 0 0 0 7", "R 1 26 -1 0"]]));
+    assert_eq!(judge.tables().book.capacity(1, 1), 17);
     let greatest = ["C 1 100 26 0 0 0 2147483647", "R 1 26 0 0"];
-    let (judge, _) = judged(&all(&[&lines, &greatest]));
-    assert_eq!(judge.thread(1).frames[0].capacity, 2_147_483_658);
+    let (mut judge, _) = judged(&all(&[&lines, &greatest]));
+    assert_eq!(judge.tables().book.capacity(1, 1), 2_147_483_658);
 }
 
 #[test]
@@ -228,9 +228,9 @@ fn twentys_result_is_made_in_the_frame_below_and_overflow_judged_there() {
         "C 1 100 20 0 0 0 0",
         "R 1 20 5 0",
     ];
-    let (judge, found) = judged(&lines);
+    let (mut judge, found) = judged(&lines);
     assert_eq!(found, ["7 11 0 5"]);
-    assert_eq!(judge.references().rows()[0], [1, 5, 2]);
+    assert_eq!(judge.tables().references.rows.all()[0], [1, 5, 2]);
 }
 
 #[test]
@@ -281,10 +281,10 @@ fn x_ends_the_locals_and_frames_of_its_native_and_no_others() {
         "R 1 67 0 0",
         "C 1 100 20 5 0 0 0",
     ];
-    let (judge, found) = judged(&lines);
+    let (mut judge, found) = judged(&lines);
     assert_eq!(found, ["10 11 1 9", "10 11 2 13", "12 11 0 0"]);
-    assert_eq!(judge.thread(1).frames.len(), 1);
-    assert_eq!(judge.references().alive(), 1);
+    assert_eq!(judge.tables().book.frames(1), 1);
+    assert_eq!(judge.tables().references.rows.used(), 1);
 }
 
 #[test]
@@ -390,8 +390,8 @@ fn every_other_condemned_line_acts_in_full() {
 fn a_release_matches_family_and_buffer_and_never_place_a() {
     let got = ["N 1 100 5 9", "C 1 100 183 5 0 0 0", "R 1 183 8 0"];
     let released = |call: &str| {
-        let (judge, found) = judged(&all(&[&got, &[call]]));
-        (judge.pins().outstanding(), found)
+        let (mut judge, found) = judged(&all(&[&got, &[call]]));
+        (judge.tables().pins.rows.used(), found)
     };
     assert_eq!(released("C 1 100 191 9 8 0 0"), (0, vec![]));
     assert_eq!(
@@ -441,9 +441,15 @@ fn a_release_ends_the_lowest_row_which_need_not_be_the_oldest() {
     ];
     let (mut judge, _) = judged_with(4, 4, &lines);
     let unused = [0, 0, 0];
-    assert_eq!(judge.pins().rows(), [[0, 1, 8], [0, 1, 8], unused, unused]);
+    assert_eq!(
+        judge.tables().pins.rows.all(),
+        [[0, 1, 8], [0, 1, 8], unused, unused]
+    );
     judge.step(&line("C 1 100 170 5 8 0 0")).unwrap();
-    assert_eq!(judge.pins().rows(), [unused, [0, 1, 8], unused, unused]);
+    assert_eq!(
+        judge.tables().pins.rows.all(),
+        [unused, [0, 1, 8], unused, unused]
+    );
 }
 
 #[test]
@@ -462,7 +468,7 @@ fn a_new_row_is_the_lowest_free_one_and_an_ended_row_is_zero() {
     ];
     let (mut judge, _) = judged_with(6, 1, &lines);
     assert_eq!(
-        judge.references().rows(),
+        judge.tables().references.rows.all(),
         [
             [1, 5, 1],
             [0, 6, 0],
@@ -474,7 +480,7 @@ fn a_new_row_is_the_lowest_free_one_and_an_ended_row_is_zero() {
     );
     judge.step(&line("X 1 0")).unwrap();
     assert_eq!(
-        judge.references().rows(),
+        judge.tables().references.rows.all(),
         [
             [0, 0, 0],
             [0, 6, 0],
@@ -495,15 +501,15 @@ fn rows_past_the_first_word_of_marks_are_taken_in_order() {
         let text = format!("N {thread} {} {}", 100 * thread, handles.join(" "));
         judge.step(&line(&text)).unwrap();
     }
-    assert_eq!(judge.references().alive(), 128);
-    assert_eq!(judge.references().rows()[64], [9, 257, 1]);
+    assert_eq!(judge.tables().references.rows.used(), 128);
+    assert_eq!(judge.tables().references.rows.all()[64], [9, 257, 1]);
     judge.step(&line("C 3 300 23 65 0 0 0")).unwrap();
     judge.step(&line("C 9 900 6 0 0 0 0")).unwrap();
     judge.step(&line("R 9 6 1001 0")).unwrap();
-    assert_eq!(judge.references().rows()[16], [9, 1001, 1]);
+    assert_eq!(judge.tables().references.rows.all()[16], [9, 1001, 1]);
     judge.step(&line("C 9 900 6 0 0 0 0")).unwrap();
     judge.step(&line("R 9 6 1005 0")).unwrap();
-    assert_eq!(judge.references().rows()[128], [9, 1005, 1]);
+    assert_eq!(judge.tables().references.rows.all()[128], [9, 1005, 1]);
     judge.step(&line("C 9 900 6 0 0 0 0")).unwrap();
     judge.step(&line("R 9 6 1009 0")).unwrap();
     judge.step(&line("C 9 900 6 0 0 0 0")).unwrap();
@@ -537,10 +543,10 @@ fn pending_is_one_flag_of_the_thread() {
         "R 1 4 0 1",
         "X 1 0",
     ];
-    let (judge, found) = judged(&kept_over_x);
-    assert!(judge.thread(1).pending && found.is_empty());
-    let (judge, _) = judged(&all(&[&kept_over_x, &["N 1 100"]]));
-    assert!(!judge.thread(1).pending);
+    let (mut judge, found) = judged(&kept_over_x);
+    assert!(judge.tables().book.is_pending(1) && found.is_empty());
+    let (mut judge, _) = judged(&all(&[&kept_over_x, &["N 1 100"]]));
+    assert!(!judge.tables().book.is_pending(1));
 }
 
 #[test]

@@ -3,9 +3,9 @@
 use plain::findings::Findings;
 use plain::judge::Judge;
 use plain::lent::book::WIDTH;
-use plain::lent::rows::{Row, STRIDE, WORD};
+use plain::lent::rows::WORD;
 use plain::lent::slices::Slices;
-use plain::lent::step;
+use plain::limits::{Number, PIN_NUMBERS, REFERENCE_NUMBERS};
 
 /// A line given with spaces for tabs and without its LF.
 pub fn line(text: &str) -> Vec<u8> {
@@ -73,7 +73,7 @@ pub trait Lent {
     fn after(reference_rows: usize, pin_rows: usize, lines: &[&str]) -> Self;
 
     /// A step, which must leave everything untouched where it refuses.
-    fn step(&mut self, line: &[u8]) -> Result<Findings, u8>;
+    fn tested_step(&mut self, line: &[u8]) -> Result<Findings, u8>;
 
     /// The findings of a line that is accepted.
     fn accepts(&mut self, text: &str) -> Vec<String>;
@@ -85,10 +85,10 @@ pub trait Lent {
     fn at(&mut self, row: usize, column: usize) -> &mut u64;
 
     /// Writes a reference row and marks it.
-    fn put_reference(&mut self, index: usize, row: Row);
+    fn put_reference(&mut self, index: usize, row: [Number; REFERENCE_NUMBERS]);
 
     /// Writes a pin row and marks it.
-    fn put_pin(&mut self, index: usize, row: Row);
+    fn put_pin(&mut self, index: usize, row: [Number; PIN_NUMBERS]);
 }
 
 impl Lent for Slices {
@@ -102,9 +102,9 @@ impl Lent for Slices {
     }
 
     #[track_caller]
-    fn step(&mut self, line: &[u8]) -> Result<Findings, u8> {
+    fn tested_step(&mut self, line: &[u8]) -> Result<Findings, u8> {
         let before = self.clone();
-        let stepped = step(&mut self.lend(), line);
+        let stepped = self.step(line);
         if stepped.is_err() {
             assert_eq!(*self, before);
         }
@@ -113,7 +113,7 @@ impl Lent for Slices {
 
     #[track_caller]
     fn accepts(&mut self, text: &str) -> Vec<String> {
-        match self.step(&line(text)) {
+        match self.tested_step(&line(text)) {
             Ok(findings) => told(&findings),
             Err(refusal) => panic!("{text} is refused with {refusal}"),
         }
@@ -121,7 +121,7 @@ impl Lent for Slices {
 
     #[track_caller]
     fn refuses(&mut self, text: &str) -> u8 {
-        match self.step(&line(text)) {
+        match self.tested_step(&line(text)) {
             Ok(findings) => panic!("{text} is accepted with {:?}", told(&findings)),
             Err(refusal) => refusal,
         }
@@ -131,13 +131,13 @@ impl Lent for Slices {
         &mut self.book[row * WIDTH + column]
     }
 
-    fn put_reference(&mut self, index: usize, row: Row) {
-        self.rows[index * STRIDE..][..STRIDE].copy_from_slice(&row);
+    fn put_reference(&mut self, index: usize, row: [Number; REFERENCE_NUMBERS]) {
+        self.rows.as_chunks_mut().0[index] = row;
         self.marks[index / WORD] |= 1 << (index % WORD);
     }
 
-    fn put_pin(&mut self, index: usize, row: Row) {
-        self.pins[index * STRIDE..][..STRIDE].copy_from_slice(&row);
+    fn put_pin(&mut self, index: usize, row: [Number; PIN_NUMBERS]) {
+        self.pins.as_chunks_mut().0[index] = row;
         self.pin_marks[index / WORD] |= 1 << (index % WORD);
     }
 }

@@ -3,9 +3,9 @@
 use crate::common::{line, Lent};
 use plain::lent::book::*;
 use plain::lent::reply::reply;
-use plain::lent::rows::{STRIDE, WORD};
+use plain::lent::rows::WORD;
 use plain::lent::slices::Slices;
-use plain::lent::start;
+use plain::limits::{PIN_NUMBERS, REFERENCE_NUMBERS};
 
 /// Tables in which thread 1, of env 100, is in a native and has made nothing.
 fn in_native() -> Slices {
@@ -21,7 +21,8 @@ fn in_call(function: u32) -> Slices {
 /// Whether a step refuses the tables for their book, whatever the line.
 #[track_caller]
 fn is_unfit(lent: &mut Slices) -> bool {
-    let refusals = ["N 2 200", "Z", "N 17 01", ""].map(|text| lent.clone().step(&line(text)));
+    let refusals =
+        ["N 2 200", "Z", "N 17 01", ""].map(|text| lent.clone().tested_step(&line(text)));
     let unfit = refusals.iter().all(|stepped| *stepped == Err(8));
     let fit = refusals.iter().all(|stepped| *stepped != Err(8));
     assert!(unfit != fit, "{refusals:?}");
@@ -180,7 +181,7 @@ fn marks_longer_than_rows_leave_the_room_to_the_rows() {
     lent.accepts("C 1 100 6 0 0 0 0");
     lent.accepts("R 1 6 5 0");
     assert_eq!(lent.marks, [0xff, u64::MAX, u64::MAX, u64::MAX, u64::MAX]);
-    assert_eq!(lent.rows[7 * STRIDE..], [1, 5, 1]);
+    assert_eq!(lent.rows[7 * REFERENCE_NUMBERS..], [1, 5, 1]);
     lent.accepts("C 1 100 6 0 0 0 0");
     assert_eq!(lent.refuses("R 1 6 9 0"), 7);
 }
@@ -188,21 +189,33 @@ fn marks_longer_than_rows_leave_the_room_to_the_rows() {
 #[test]
 fn rows_longer_than_marks_leave_the_room_to_the_marks() {
     let mut lent = in_native();
-    lent.rows = vec![5; 100 * STRIDE];
+    lent.rows = vec![5; 100 * REFERENCE_NUMBERS];
     lent.marks = vec![u64::MAX >> 1];
-    lent.rows[64 * STRIDE..][..STRIDE].copy_from_slice(&[1, 9, 1]);
+    lent.rows[64 * REFERENCE_NUMBERS..][..REFERENCE_NUMBERS].copy_from_slice(&[1, 9, 1]);
     assert_eq!(lent.clone().accepts("C 1 100 31 9 0 0 0"), ["2 11 1 9"]);
     lent.accepts("C 1 100 6 0 0 0 0");
     lent.accepts("R 1 6 9 0");
-    assert_eq!(lent.rows[63 * STRIDE..][..STRIDE], [1, 9, 1]);
+    assert_eq!(
+        lent.rows[63 * REFERENCE_NUMBERS..][..REFERENCE_NUMBERS],
+        [1, 9, 1]
+    );
     assert_eq!(lent.marks, [u64::MAX]);
     lent.accepts("C 1 100 6 0 0 0 0");
     assert_eq!(lent.refuses("R 1 6 13 0"), 7);
     lent.accepts("R 1 6 0 0");
     lent.accepts("X 1 0");
-    assert_eq!(lent.rows[63 * STRIDE..][..STRIDE], [0, 0, 0]);
-    assert_eq!(lent.rows[64 * STRIDE..][..STRIDE], [1, 9, 1]);
-    assert_eq!(lent.rows[65 * STRIDE..], [5; 35 * STRIDE]);
+    assert_eq!(
+        lent.rows[63 * REFERENCE_NUMBERS..][..REFERENCE_NUMBERS],
+        [0, 0, 0]
+    );
+    assert_eq!(
+        lent.rows[64 * REFERENCE_NUMBERS..][..REFERENCE_NUMBERS],
+        [1, 9, 1]
+    );
+    assert_eq!(
+        lent.rows[65 * REFERENCE_NUMBERS..],
+        [5; 35 * REFERENCE_NUMBERS]
+    );
 }
 
 #[test]
@@ -217,21 +230,24 @@ fn numbers_past_the_last_whole_row_are_no_row() {
         assert_eq!(lent.refuses("R 1 6 5 0"), 7);
         assert_eq!(lent.accepts("R 1 6 0 0"), [] as [&str; 0]);
         lent.accepts("X 1 0");
-        assert_eq!(lent.rows[8 * STRIDE..], vec![1; odd]);
-        assert_eq!(lent.pins[8 * STRIDE..], vec![1; odd]);
+        assert_eq!(lent.rows[8 * REFERENCE_NUMBERS..], vec![1; odd]);
+        assert_eq!(lent.pins[8 * PIN_NUMBERS..], vec![1; odd]);
     }
 }
 
 #[test]
 fn over_65536_rows_the_room_is_65536() {
     let mut lent = in_native();
-    lent.rows = vec![0; 65_540 * STRIDE];
+    lent.rows = vec![0; 65_540 * REFERENCE_NUMBERS];
     lent.marks = vec![u64::MAX; 1_025];
     lent.marks[1_023] = u64::MAX >> 1;
     lent.marks[1_024] = 0;
     lent.accepts("C 1 100 6 0 0 0 0");
     lent.accepts("R 1 6 5 0");
-    assert_eq!(lent.rows[65_535 * STRIDE..][..STRIDE], [1, 5, 1]);
+    assert_eq!(
+        lent.rows[65_535 * REFERENCE_NUMBERS..][..REFERENCE_NUMBERS],
+        [1, 5, 1]
+    );
     lent.accepts("C 1 100 6 0 0 0 0");
     assert_eq!(lent.refuses("R 1 6 9 0"), 7);
     assert_eq!(lent.marks[1_024], 0);
@@ -248,7 +264,7 @@ fn empty_slices_have_no_room() {
     assert_eq!(lent.refuses("N 2 200 5"), 7);
     lent.book.clear();
     assert_eq!(lent.refuses("Z"), 8);
-    start(&mut lent.lend());
+    lent.start();
     assert_eq!(lent.refuses("Z"), 8);
 }
 
@@ -273,8 +289,8 @@ fn an_unmarked_row_is_free_whatever_it_holds() {
     lent.accepts("R 1 6 5 0");
     assert_eq!(lent.marks, [1]);
     lent.accepts("X 1 0");
-    assert_eq!(lent.rows[..STRIDE], [0; 3]);
-    assert_eq!(lent.rows[STRIDE..], [1, 5, 1].repeat(7));
+    assert_eq!(lent.rows[..REFERENCE_NUMBERS], [0; 3]);
+    assert_eq!(lent.rows[REFERENCE_NUMBERS..], [1, 5, 1].repeat(7));
 }
 
 #[test]
@@ -304,7 +320,7 @@ fn of_equal_rows_the_lowest_is_ended() {
     }
     lent.accepts("C 1 100 192 0 8 0 0");
     assert_eq!(lent.pin_marks, [0b1010_0010]);
-    assert_eq!(lent.pins[2 * STRIDE..][..STRIDE], [0; 3]);
+    assert_eq!(lent.pins[2 * PIN_NUMBERS..][..PIN_NUMBERS], [0; 3]);
 }
 
 #[test]
@@ -346,7 +362,7 @@ fn a_global_in_a_row_of_a_thread_is_a_local_of_it() {
     assert_eq!(lent.marks, [1]);
     lent.accepts("X 1 0");
     assert_eq!(lent.marks, [0]);
-    assert_eq!(lent.rows, [0; 8 * STRIDE]);
+    assert_eq!(lent.rows, [0; 8 * REFERENCE_NUMBERS]);
 }
 
 #[test]
@@ -580,7 +596,7 @@ fn frames_may_be_left_without_items() {
     assert_eq!(lent.refuses("N 1 100"), 7);
     *lent.at(1, FRAMES) = 63;
     lent.accepts("N 1 100 5");
-    assert_eq!(lent.rows[..STRIDE], [1, 5, 64]);
+    assert_eq!(lent.rows[..REFERENCE_NUMBERS], [1, 5, 64]);
     lent.accepts("C 1 100 19 0 0 0 1");
     assert_eq!(lent.refuses("R 1 19 0 0"), 7);
     lent.accepts("R 1 19 -1 0");
@@ -600,7 +616,7 @@ fn a_start_clears_every_number() {
     for length in [WHOLE + 3, WHOLE - 1, 1] {
         lent.book.truncate(length);
         lent.book.fill(7);
-        start(&mut lent.lend());
+        lent.start();
         assert!(lent
             .rows
             .iter()
@@ -619,7 +635,7 @@ fn a_start_clears_every_number() {
 #[test]
 fn a_reply_writes_the_findings_it_has_room_for() {
     let mut lent = in_native();
-    let stepped = lent.step(&line("C 1 101 31 6 0 0 0"));
+    let stepped = lent.tested_step(&line("C 1 101 31 6 0 0 0"));
     for (length, written) in [
         (0, vec![]),
         (3, vec![9, 9, 9]),
@@ -633,7 +649,7 @@ fn a_reply_writes_the_findings_it_has_room_for() {
         assert_eq!(found, written);
     }
     let mut found = [9; 24];
-    let refused = lent.step(&line("X 1 0"));
+    let refused = lent.tested_step(&line("X 1 0"));
     assert_eq!(reply(&refused, &mut found), -4);
     assert_eq!(found, [9; 24]);
 }
@@ -643,6 +659,9 @@ fn words_of_marks_have_64_rows() {
     let mut lent = Slices::new(2 * WORD, 0);
     lent.marks = vec![u64::MAX, 0];
     lent.accepts("N 1 100 5");
-    assert_eq!(lent.rows[WORD * STRIDE..][..STRIDE], [1, 5, 1]);
+    assert_eq!(
+        lent.rows[WORD * REFERENCE_NUMBERS..][..REFERENCE_NUMBERS],
+        [1, 5, 1]
+    );
     assert_eq!(lent.marks, [u64::MAX, 1]);
 }

@@ -1,26 +1,25 @@
 //! The maker of foreign tables and of lines over them.
 
 use crate::common::Lent;
-use plain::foreign::coverage::Coverage;
+use plain::coverage::Coverage;
 use plain::foreign::{line, make};
-use plain::lent::start;
 use plain::random::Random;
 use std::collections::BTreeSet;
 
 #[test]
 fn every_refusal_rule_and_place_comes_up_over_foreign_tables() {
-    let mut coverage = Coverage::default();
+    let mut coverage = Coverage::of_foreign();
     let mut profiles = BTreeSet::new();
     for seed in 0..3_000 {
         let mut random = Random::new(seed);
         let mut foreign = make(&mut random);
         profiles.insert(foreign.profile);
         for _ in 0..10 {
-            let line = line(&foreign.slices.lend(), &mut foreign.lines, &mut random);
-            let stepped = foreign.slices.step(&line);
-            coverage.add(&foreign.slices.lend(), &line, &stepped);
+            let line = line(&foreign.slices.tables(), &mut foreign.lines, &mut random);
+            let stepped = foreign.slices.tested_step(&line);
+            coverage.add(&foreign.slices.tables(), &line, &stepped);
         }
-        start(&mut foreign.slices.lend());
+        foreign.slices.start();
         coverage.add_start();
     }
     assert!(coverage.is_whole(), "{coverage}");
@@ -32,7 +31,7 @@ fn the_same_seed_makes_the_same_tables_and_lines() {
     let made = |seed| {
         let mut random = Random::new(seed);
         let mut foreign = make(&mut random);
-        let line = line(&foreign.slices.lend(), &mut foreign.lines, &mut random);
+        let line = line(&foreign.slices.tables(), &mut foreign.lines, &mut random);
         (foreign.slices, foreign.lines, line)
     };
     for seed in 0..50 {

@@ -1,73 +1,64 @@
-//! From a start the step over lent tables is the judge's, and leaves in the tables what the judge knows.
+//! From a start the tables stay such as only a start and accepted lines leave: the judge, which does not test its own book, relies on it.
 
 use crate::common::Lent;
 use plain::judge::Judge;
 use plain::lent::book::*;
-use plain::lent::rows::{Row, STRIDE, WORD};
+use plain::lent::rows::WORD;
 use plain::lent::slices::Slices;
+use plain::limits::{Number, PIN_NUMBERS, REFERENCE_NUMBERS};
 use plain::make::{make, PROFILES};
 use plain::random::Random;
-use plain::thread::Item;
 
-/// Runs both over a trace, refused lines among the others, and holds each reply and the tables left to one another.
+/// Runs the judge and the step over lent tables over a trace, refused lines among the others, and holds the replies to one another.
 fn follow(trace: &[u8], reference_rows: usize, pin_rows: usize) -> usize {
     let mut judge = Judge::new(reference_rows, pin_rows);
     let mut lent = Slices::new(reference_rows, pin_rows);
-    let mut steps = 0;
+    let (mut steps, mut accepted) = (0, 0);
     for line in trace.split_inclusive(|&byte| byte == b'\n') {
         for other in [line, b"N\t1\t1\t1\t5\n", b"R\t1\t6\t5\t0\n"] {
-            let stepped = lent.step(other);
-            assert_eq!(
-                stepped,
-                judge.step(other),
-                "{}",
-                String::from_utf8_lossy(other)
-            );
+            let stepped = lent.tested_step(other);
+            let told = String::from_utf8_lossy(other);
+            assert_eq!(stepped, judge.step(other), "{told}");
             steps += 1;
+            accepted += u64::from(stepped.is_ok());
         }
     }
-    assert_known(&mut lent, &judge);
+    assert_eq!(*lent.at(0, LINES), accepted);
+    assert_left(&mut lent);
     steps
 }
 
-/// The tables hold what the judge knows.
-fn assert_known(lent: &mut Slices, judge: &Judge) {
-    assert_rows(&lent.rows, &lent.marks, judge.references().rows());
-    assert_rows(&lent.pins, &lent.pin_marks, judge.pins().rows());
-    assert_eq!(*lent.at(0, LINES), judge.lines().into());
-    assert_eq!(*lent.at(0, CLOSED), judge.is_closed().into());
-    for number in 1..=16 {
-        let thread = judge.thread(number);
-        let row = number as usize;
-        assert_eq!(*lent.at(row, ENV), thread.env.into());
-        assert_eq!(*lent.at(row, PENDING), thread.pending.into());
-        assert_eq!(*lent.at(row, MONITORS), thread.monitors.into());
-        assert_eq!(*lent.at(row, FRAMES), thread.frames.len() as u64);
-        for (index, frame) in thread.frames.iter().enumerate() {
-            assert_eq!(*lent.at(row, CAPACITIES + index), frame.capacity.into());
-            assert_eq!(*lent.at(row, PUSHED + index), frame.pushed.into());
+/// What a start and accepted lines leave.
+fn assert_left(lent: &mut Slices) {
+    assert_rows::<REFERENCE_NUMBERS>(&lent.rows, &lent.marks);
+    assert_rows::<PIN_NUMBERS>(&lent.pins, &lent.pin_marks);
+    assert!(*lent.at(0, CLOSED) <= 1);
+    for row in 1..=16 {
+        let [frames, items] = [FRAMES, ITEMS].map(|column| *lent.at(row, column) as usize);
+        assert!(*lent.at(row, PENDING) <= 1);
+        assert!(frames == 0 || *lent.at(row, ENV) > 0);
+        assert!((0..frames).all(|index| *lent.at(row, PUSHED + index) <= 1));
+        let mut own = 0;
+        for index in 0..frames {
+            own += 1 - *lent.at(row, PUSHED + index);
         }
-        assert_eq!(*lent.at(row, ITEMS), thread.items.len() as u64);
-        let natives = thread.items.iter();
-        let natives = natives.filter(|item| matches!(item, Item::Native { .. }));
-        assert_eq!(*lent.at(row, NATIVES), natives.count() as u64);
-        for (index, item) in thread.items.iter().enumerate() {
-            let (function, asked) = match *item {
-                Item::Native { .. } => (0, 0),
-                Item::Call { function, capacity } => (function, capacity.max(0)),
-            };
-            assert_eq!(*lent.at(row, FUNCTIONS + index), function.into());
-            assert_eq!(*lent.at(row, ASKED + index), asked as u64);
+        assert!(frames == 0 || *lent.at(row, PUSHED) == 0);
+        // Natives and open calls by turns, a native the lowest, each native with a frame of its own.
+        for index in 0..items {
+            let function = *lent.at(row, FUNCTIONS + index);
+            assert_eq!(function == NATIVE, index % 2 == 0);
+            assert!(function == NATIVE || (4..=232).contains(&function));
         }
+        assert_eq!(*lent.at(row, NATIVES), items.div_ceil(2) as u64);
+        assert_eq!(*lent.at(row, NATIVES), own);
     }
 }
 
-/// The rows are the same, and those that are not zero are marked.
-fn assert_rows(rows: &[u32], marks: &[u64], known: &[Row]) {
-    assert_eq!(rows, known.concat());
-    for (index, row) in known.iter().enumerate() {
+/// The rows that are not zero are marked, and no others.
+fn assert_rows<const NUMBERS: usize>(numbers: &[Number], marks: &[u64]) {
+    for (index, row) in numbers.as_chunks::<NUMBERS>().0.iter().enumerate() {
         let marked = marks[index / WORD] >> (index % WORD) & 1 == 1;
-        assert_eq!(marked, *row != [0; STRIDE]);
+        assert_eq!(marked, *row != [0; NUMBERS]);
     }
 }
 

@@ -2,10 +2,10 @@
 
 use crate::common::{findings, line, refusal};
 use plain::facts::{facts, PlaceKind, ResultKind, FIRST_FUNCTION, LAST_FUNCTION};
+use plain::limits::{PIN_ROWS, REFERENCE_ROWS};
 use plain::line::{read, write, Event};
 use plain::make::{make, PROFILES};
 use plain::random::Random;
-use plain::report::{PIN_ROWS, REFERENCE_ROWS};
 
 /// What the reader says of a line given with spaces for tabs.
 fn said(text: &str) -> u8 {

@@ -4,20 +4,22 @@ use crate::common::trace;
 use plain::big::{big, natives, KINDS};
 use plain::coverage::Coverage;
 use plain::judge::Judge;
+use plain::lent::rows::THREAD;
+use plain::limits::{PIN_ROWS, REFERENCE_ROWS};
 use plain::make::{make, PROFILES};
 use plain::random::Random;
-use plain::report::{report, PIN_ROWS, REFERENCE_ROWS};
+use plain::report::report;
 use plain::shrink::shrink;
 
 #[test]
 fn every_refusal_rule_place_and_function_comes_up() {
-    let mut coverage = Coverage::default();
+    let mut coverage = Coverage::of_traces();
     for seed in 0..60 {
         for profile in &PROFILES {
             let (fewest, most) = profile.usual_lines;
             let lines = Random::new(seed).between(fewest, most) as usize;
             let trace = make(profile, seed, lines, REFERENCE_ROWS, PIN_ROWS);
-            coverage.add(&trace, REFERENCE_ROWS, PIN_ROWS);
+            coverage.add_trace(&trace, REFERENCE_ROWS, PIN_ROWS);
         }
     }
     assert!(coverage.is_whole(), "{coverage}");
@@ -62,11 +64,11 @@ fn traces_run_long_before_they_are_refused() {
                     break;
                 }
             }
-            accepted += judge.lines();
+            accepted += judge.tables().book.lines();
         }
     }
     assert!(accepted * 10 > made * 9, "{accepted} of {made}");
-    assert!(accepted > 20 * PROFILES.len() as u32 * 120);
+    assert!(accepted > 20 * PROFILES.len() as u64 * 120);
 }
 
 #[test]
@@ -94,21 +96,21 @@ fn the_steady_trace_keeps_about_2000_handles_alive_over_16_threads() {
     let mut judge = Judge::new(REFERENCE_ROWS, PIN_ROWS);
     for line in trace.split_inclusive(|&byte| byte == b'\n') {
         judge.step(line).unwrap();
-        if judge.lines() > 15_000 {
-            let alive = judge.references().alive();
+        if judge.tables().book.lines() > 15_000 {
+            let alive = judge.tables().references.rows.used();
             assert!((1_950..=2_048).contains(&alive), "{alive}");
         }
     }
     for thread in 1..=16 {
-        let rows = judge.references().rows();
-        let own = rows.iter().filter(|row| row[0] == thread).count();
+        let rows = judge.tables().references.rows;
+        let own = rows.count(|row| row[THREAD] == thread);
         assert!(own > 30, "{own} locals of thread {thread}");
     }
 }
 
 #[test]
 fn the_nest_and_buffers_traces_are_deep_and_full() {
-    let most = |name, measure: fn(&Judge) -> usize| {
+    let most = |name, measure: fn(&mut Judge) -> usize| {
         let kind = KINDS.iter().find(|kind| kind.name == name).unwrap();
         let mut trace = Vec::new();
         big(kind, 20_000, &mut trace).unwrap();
@@ -116,12 +118,12 @@ fn the_nest_and_buffers_traces_are_deep_and_full() {
         let lines = trace.split_inclusive(|&byte| byte == b'\n');
         let measured = lines.map(|line| {
             judge.step(line).unwrap();
-            measure(&judge)
+            measure(&mut judge)
         });
         measured.max().unwrap()
     };
-    assert_eq!(most("nest", |judge| judge.thread(1).items.len()), 64);
-    assert!(most("buffers", |judge| judge.pins().outstanding()) > 230);
+    assert_eq!(most("nest", |judge| judge.tables().book.items(1)), 64);
+    assert!(most("buffers", |judge| judge.tables().pins.rows.used()) > 230);
 }
 
 #[test]

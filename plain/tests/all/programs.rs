@@ -1,8 +1,9 @@
 //! The programs, run as they are.
 
 use crate::common::trace;
+use plain::limits::{PIN_ROWS, REFERENCE_ROWS};
 use plain::make::{make, profile};
-use plain::report::{report, PIN_ROWS, REFERENCE_ROWS};
+use plain::report::report;
 use std::io::{ErrorKind, Read, Write};
 use std::process::{Command, Output, Stdio};
 

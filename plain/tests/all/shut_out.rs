@@ -34,9 +34,9 @@ fn room_counted_from_handles_ever_made() {
         "R 1 22 0 0",
         "X 1 0",
     ];
-    let (judge, found) = judged_with(2, 1, &round.repeat(50));
+    let (mut judge, found) = judged_with(2, 1, &round.repeat(50));
     assert!(found.is_empty());
-    assert_eq!(judge.references().alive(), 0);
+    assert_eq!(judge.tables().references.rows.used(), 0);
 }
 
 #[test]

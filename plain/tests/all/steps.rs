@@ -123,7 +123,7 @@ fn line_1000001_is_1_whatever_it_holds_and_counts_accepted_lines() {
         assert_eq!(judge.step(&line(after)), Err(1), "{after}");
     }
     assert_eq!(judge, full);
-    assert_eq!(judge.lines(), 1_000_000);
+    assert_eq!(judge.tables().book.lines(), 1_000_000);
 }
 
 #[test]
@@ -243,7 +243,7 @@ fn handles_fill_the_room_to_the_last_row() {
 fn ns_handles_are_all_or_nothing() {
     let (mut judge, _) = judged_with(2, 0, &["N 1 100 5"]);
     assert_eq!(judge.step(&line("N 2 200 5 9")), Err(7));
-    assert_eq!(judge.references().alive(), 1);
+    assert_eq!(judge.tables().references.rows.used(), 1);
     assert!(judge.step(&line("N 2 200 5")).is_ok());
 }
 
@@ -305,8 +305,8 @@ fn a_thread_has_at_most_64_frames() {
     for _ in 1..64 {
         lines.extend(push);
     }
-    let (judge, _) = judged(&lines);
-    assert_eq!(judge.thread(1).frames.len(), 64);
+    let (mut judge, _) = judged(&lines);
+    assert_eq!(judge.tables().book.frames(1), 64);
     lines.push("C 1 100 4 0 0 0 0");
     assert_eq!(refusal(&[&lines[..], &["N 1 100"]].concat()), 7);
     lines.extend(["R 1 4 0 0", "C 1 100 20 0 0 0 0", "N 1 100"]);
@@ -315,9 +315,9 @@ fn a_thread_has_at_most_64_frames() {
 
 #[test]
 fn room_is_at_most_65536_rows() {
-    let judge = Judge::new(1_000_000, 65_537);
-    assert_eq!(judge.references().free(), 65_536);
-    assert_eq!(judge.pins().free(), 65_536);
+    let mut judge = Judge::new(1_000_000, 65_537);
+    assert_eq!(judge.tables().references.rows.free(), 65_536);
+    assert_eq!(judge.tables().pins.rows.free(), 65_536);
 }
 
 #[test]

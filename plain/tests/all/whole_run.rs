@@ -1,7 +1,8 @@
 //! The whole run and the cases P1 to P12, each by its report.
 
 use crate::common::trace;
-use plain::report::{report, PIN_ROWS, REFERENCE_ROWS};
+use plain::limits::{PIN_ROWS, REFERENCE_ROWS};
+use plain::report::report;
 
 #[track_caller]
 fn assert_report(lines: &[&str], expected: &[&str]) {

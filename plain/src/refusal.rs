@@ -1,0 +1,17 @@
+//! The numbers given instead of an event, in the order in which they are tested but for 8, which is first.
+
+pub type Refusal = u8;
+
+/// No line: too long, without LF, or one too many.
+pub const NO_LINE: Refusal = 1;
+/// The letter, the count of fields or the form of a number is wrong.
+pub const MALFORMED: Refusal = 2;
+pub const OUT_OF_RANGE: Refusal = 3;
+pub const OUT_OF_STEP: Refusal = 4;
+/// An N's env is not its thread's, or is another thread's.
+pub const WRONG_ENV: Refusal = 5;
+/// It makes a handle already alive, or names one twice.
+pub const ALREADY_ALIVE: Refusal = 6;
+pub const NO_ROOM: Refusal = 7;
+/// The lent thread book is unfit.
+pub const UNFIT_BOOK: Refusal = 8;
