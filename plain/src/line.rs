@@ -102,15 +102,15 @@ impl Event {
                 thread,
                 env,
                 function,
-                places: [a, b, c],
-                capacity: n,
+                places,
+                capacity,
             } => {
-                let [a, b, c] = [a, b, c].map(Field::from);
-                let (thread, env, function) = (thread.into(), env.into(), function.into());
-                (
-                    b'C',
-                    Numbers::of([thread, env, function, a, b, c, n.into()]),
-                )
+                let mut numbers = Numbers::of([thread.into(), env.into(), function.into()]);
+                for place in places {
+                    numbers.push(place.into());
+                }
+                numbers.push(capacity.into());
+                (b'C', numbers)
             }
             Event::R {
                 thread,
@@ -127,7 +127,7 @@ impl Event {
     }
 
     /// Whether each N handle, unused place, capacity and result is what is said of it.
-    fn is_told(&self) -> bool {
+    fn fits(&self) -> bool {
         match *self {
             Event::N { count, handles, .. } => {
                 handles[..count].iter().all(|handle| handle % 4 == LOCAL)
@@ -139,8 +139,8 @@ impl Event {
                 ..
             } => {
                 let facts = known(function);
-                let is_told = |(kind, value)| kind != PlaceKind::Unused || value == 0;
-                facts.places.into_iter().zip(places).all(is_told)
+                let is_zero = |(kind, value)| kind != PlaceKind::Unused || value == 0;
+                facts.places.into_iter().zip(places).all(is_zero)
                     && (facts.uses_capacity || capacity == 0)
             }
             Event::R {
@@ -173,7 +173,7 @@ pub fn read(line: &[u8]) -> Result<Event, Refusal> {
     let form = form.ok_or(MALFORMED)?;
     let numbers = &numbers[..count];
     match Event::of(form.letter, numbers) {
-        Some(event) if form.holds(numbers) && event.is_told() => Ok(event),
+        Some(event) if form.holds(numbers) && event.fits() => Ok(event),
         _ => Err(OUT_OF_RANGE),
     }
 }
@@ -181,7 +181,7 @@ pub fn read(line: &[u8]) -> Result<Event, Refusal> {
 /// Writes the event's line at the start of the buffer and gives its length; bytes past it stay.
 pub fn write(event: &Event, buffer: &mut [u8]) -> Result<usize, Refusal> {
     let (letter, numbers) = event.parts().ok_or(OUT_OF_RANGE)?;
-    if !form(letter).is_some_and(|form| form.holds(&numbers)) || !event.is_told() {
+    if !form(letter).is_some_and(|form| form.holds(&numbers)) || !event.fits() {
         return Err(OUT_OF_RANGE);
     }
     let mut line = Line::new();

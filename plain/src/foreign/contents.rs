@@ -3,6 +3,7 @@
 use super::lengths::{great, of_book, of_rows};
 use crate::facts::{FIRST_FUNCTION, GLOBAL, LAST_FUNCTION};
 use crate::lent::book::*;
+use crate::lent::references::HANDLE;
 use crate::lent::rows::WORD;
 use crate::lent::slices::Slices;
 use crate::limits::*;
@@ -21,29 +22,31 @@ pub struct Foreign {
 const HIGH: Word = 1 << 32;
 
 pub fn make(random: &mut Random) -> Foreign {
-    match random.below(100) {
-        0..4 => nothing(),
-        4..10 => wild(random),
-        10..59 => small(random),
-        59 => full(random),
-        60..65 => started(random),
-        _ => damaged(random),
+    let mut lines = Vec::new();
+    let (profile, slices) = match random.below(100) {
+        0..4 => ("nothing", nothing()),
+        4..10 => ("wild", wild(random)),
+        10..59 => ("small", small(random)),
+        59 => ("full", full(random)),
+        60..65 => ("started", started(random)),
+        _ => ("damaged", damaged(random, &mut lines)),
+    };
+    Foreign {
+        profile,
+        slices,
+        lines,
     }
 }
 
 /// Five empty slices.
-fn nothing() -> Foreign {
+fn nothing() -> Slices {
     let mut slices = Slices::new(0, 0);
     slices.book.clear();
-    Foreign {
-        profile: "nothing",
-        slices,
-        lines: Vec::new(),
-    }
+    slices
 }
 
 /// Any numbers.
-fn wild(random: &mut Random) -> Foreign {
+fn wild(random: &mut Random) -> Slices {
     let mut slices = lengths(random);
     for number in slices.rows.iter_mut().chain(&mut slices.pins) {
         *number = random.number() as Number;
@@ -52,15 +55,11 @@ fn wild(random: &mut Random) -> Foreign {
     for number in words.chain(&mut slices.book) {
         *number = random.number();
     }
-    Foreign {
-        profile: "wild",
-        slices,
-        lines: Vec::new(),
-    }
+    slices
 }
 
 /// Small numbers, so that counts, tops, threads and handles meet; the book is mostly fit.
-fn small(random: &mut Random) -> Foreign {
+fn small(random: &mut Random) -> Slices {
     let mut slices = lengths(random);
     let threads = random.pick(&[1, 2, 4, THREADS]);
     fill(&mut slices.rows, || small_reference(random, threads));
@@ -71,17 +70,15 @@ fn small(random: &mut Random) -> Foreign {
     if random.percent(15) && slices.book.len() >= WHOLE {
         spoil_book(random, &mut slices.book);
     }
-    Foreign {
-        profile: "small",
-        slices,
-        lines: Vec::new(),
-    }
+    slices
 }
 
 /// About as many rows as a room can have, all of them used but some at its end.
-fn full(random: &mut Random) -> Foreign {
+fn full(random: &mut Random) -> Slices {
     let mut slices = Slices::new(great(random), great(random));
-    fill(&mut slices.rows, || [0, GLOBAL, 0]);
+    let mut global = [0; REFERENCE_NUMBERS];
+    global[HANDLE] = GLOBAL;
+    fill(&mut slices.rows, || global);
     let rows = slices.rows.len() - 8 * REFERENCE_NUMBERS;
     fill(&mut slices.rows[rows..], || small_reference(random, 2));
     let pins = slices.pins.len() - 8 * PIN_NUMBERS;
@@ -93,26 +90,19 @@ fn full(random: &mut Random) -> Foreign {
         marks[last] = random.number();
     }
     small_book(random, &mut slices.book, 2);
-    Foreign {
-        profile: "full",
-        slices,
-        lines: Vec::new(),
-    }
+    slices
 }
 
 /// Lengths of every sort, and a start over any numbers.
-fn started(random: &mut Random) -> Foreign {
-    let mut foreign = wild(random);
-    foreign.slices.start();
-    Foreign {
-        profile: "started",
-        ..foreign
-    }
+fn started(random: &mut Random) -> Slices {
+    let mut slices = wild(random);
+    slices.start();
+    slices
 }
 
-/// What the step leaves of a trace from a start, with some numbers changed.
-fn damaged(random: &mut Random) -> Foreign {
-    let (mut slices, lines) = traced(random);
+/// What the step leaves of a trace from a start, with some numbers changed; the rest of the trace may follow.
+fn damaged(random: &mut Random, follow: &mut Vec<Vec<u8>>) -> Slices {
+    let mut slices = traced(random, follow);
     for _ in 0..random.below(7) {
         match random.below(9) {
             0 => damage_row(random, &mut slices.rows),
@@ -122,15 +112,11 @@ fn damaged(random: &mut Random) -> Foreign {
             _ => damage_book(random, &mut slices.book),
         }
     }
-    Foreign {
-        profile: "damaged",
-        slices,
-        lines,
-    }
+    slices
 }
 
-/// Tables from a start and some lines of a made trace, and the rest of the trace.
-fn traced(random: &mut Random) -> (Slices, Vec<Vec<u8>>) {
+/// Tables from a start and some lines of a made trace; the rest of the trace may follow.
+fn traced(random: &mut Random, follow: &mut Vec<Vec<u8>>) -> Slices {
     let mut slices = lengths(random);
     slices.book.resize(WHOLE, 0);
     let tables = slices.tables();
@@ -142,12 +128,12 @@ fn traced(random: &mut Random) -> (Slices, Vec<Vec<u8>>) {
         .split_inclusive(|&byte| byte == b'\n')
         .map(Vec::from)
         .collect();
-    let rest = lines.split_off(random.below(lines.len() + 1));
+    *follow = lines.split_off(random.below(lines.len() + 1));
     for line in lines {
         // A refused line leaves the tables as they are.
         let _ = slices.step(&line);
     }
-    (slices, rest)
+    slices
 }
 
 /// Slices of some lengths, every number 0.

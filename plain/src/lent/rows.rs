@@ -70,7 +70,7 @@ impl<'a, const NUMBERS: usize> Rows<'a, NUMBERS> {
 
     /// The lowest used row that matches.
     fn lowest(&self, matches: impl Fn(&[Number; NUMBERS]) -> bool) -> Option<usize> {
-        // Rows are passed over four at a time.
+        // Four rows at a time: how fast a shorter loop is depends on where it is linked.
         let (fours, _) = self.rows.as_chunks::<4>();
         let passed = fours.iter().position(|four| four.iter().any(&matches));
         let first = 4 * passed.unwrap_or(fours.len());
