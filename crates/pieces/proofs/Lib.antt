@@ -1,4 +1,5 @@
 pub mod Sizes
+pub mod Nexts
 pub mod Shifts
 pub mod Cuts
 pub mod Runs

@@ -1,11 +1,12 @@
 -- A run of the input, piece by piece, is the run of its lines. Assumes nothing.
-use mathlib.Core.Path.{_≡_, refl, ap, _∙_}
+use mathlib.Core.Path.{_≡_, refl, sym, ap, _∙_}
 use mathlib.Core.Bool.{Bool, true, false}
-use mathlib.Core.List.{List, [], _∷_, _++_}
-use Prim.Native.Nat.{ℕ, suc, _<_}
+use mathlib.Core.List.{List, [], _∷_, _++_, append-nil}
+use Prim.Native.Nat.{ℕ, zero, suc, _≤_}
 use native.Mathlib.Omega.{arith}
 use lib.Dec.{eqb, leb}
-use lib.ListN.{length, take, drop, getD}
+use lib.ListN.{length, take, drop, getD, drop-of-length-le}
+use lib.Seq.{take-all, take-append-le, drop-append-le}
 use borrow.Author.Tests.{eqb-true, eqb-false}
 use Rattle.words.specs.Choice.{if_then_else_}
 use Rattle.words.specs.Text.{line-feed}
@@ -17,8 +18,11 @@ use Rattle.book.specs.Threads.{lines-in}
 use Rattle.book.specs.Unfit.{unfit}
 use Rattle.tables.specs.Tables.{Tables}
 use Rattle.tables.specs.Stepping.{Stepped, untouched, step-of}
-use Rattle.demands.specs.Calls.{ran, go-on-in, run-in}
-use Rattle.pieces.specs.Pieces.{piece-length}
+use Rattle.demands.specs.Calls.{Ran, ran, go-on-in, run-in}
+use Rattle.pieces.specs.declared.Next.the-variants as Next
+use Rattle.pieces.specs.Pieces.{piece-length, next-by, next-of, Behind}
+use Rattle.pieces.proofs.Sizes.{piece-some, piece-stays}
+use Rattle.pieces.proofs.Nexts.{end-next}
 use Rattle.pieces.proofs.Cuts.{line-first, overlong-first, last-line, no-line}
 
 module _ (T : Tables) (fs : List Finding) where
@@ -47,22 +51,44 @@ module _ (T : Tables) (fs : List Finding) where
           let o = overlong-first s n size (eqb-false (getD s n 0) line-feed e) in
           ap (run-in T fs) (o .are) ∙ refused-alike 1 (o .line) (take (suc n) s) (o .line-refused) (o .piece-refused) (o .others) (lines-of (drop (suc n) s))
 
-  -- a step on the piece, and the run goes on with what is left
-  pub run-piece : (s : List ℕ) (n : ℕ) → piece-length s ≡ suc n
-      → run-in T fs (lines-of s)
-      ≡ go-on-in T fs (step-of T (take (suc n) s) .reply) (λ gs. run-in (step-of T (take (suc n) s) .left) (fs ++ gs) (lines-of (drop (suc n) s)))
-  unfolding run-in
-  run-piece s n size = by-piece s n size
+  -- a step on the line, and the run goes on with the lines behind it
+  abbrev gone-on : List ℕ → List (List ℕ) → Ran
+  gone-on line others = go-on-in T fs (step-of T line .reply) (λ gs. run-in (step-of T line .left) (fs ++ gs) others)
 
-  -- a step on what is left at the end of the input
-  pub run-last : (s : List ℕ) → 0 < length s → piece-length s ≡ 0
-      → run-in T fs (lines-of s) ≡ go-on-in T fs (step-of T s .reply) (λ gs. run-in (step-of T s .left) (fs ++ gs) [])
+  run-piece : (s next : List ℕ) (n : ℕ) → piece-length s ≡ suc n → run-in T fs (lines-of (s ++ next)) ≡ gone-on (take (suc n) s) (lines-of (drop (suc n) s ++ next))
   unfolding run-in
-  run-last [] some size = absurd (omega arith)
-  run-last (b ∷ s) some size = ap (run-in T fs) (last-line b s size)
+  run-piece s next n size =
+      let fits : suc n ≤ length s = omega (arith, piece-some s n size .1) in
+      by-piece (s ++ next) n (piece-stays s next n size)
+      ∙ λ i. gone-on (take-append-le (suc n) s next fits i) (lines-of (drop-append-le (suc n) s next fits i))
 
-  -- and where nothing is left
-  pub run-none : (s : List ℕ) → length s ≡ 0 → run-in T fs (lines-of s) ≡ ran T fs 0
+  run-last : (s : List ℕ) (n : ℕ) → piece-length s ≡ 0 → length s ≡ suc n → run-in T fs (lines-of s) ≡ gone-on (take (suc n) s) (lines-of (drop (suc n) s ++ []))
+  unfolding run-in
+  run-last [] n size all = absurd (omega arith)
+  run-last (b ∷ s) n size all =
+      let line : b ∷ s ≡ take (suc n) (b ∷ s) = sym (take-all (suc n) (b ∷ s) (omega arith)) in
+      let end : length (b ∷ s) ≤ suc n = omega arith in
+      let others : [] ≡ drop (suc n) (b ∷ s) = sym (drop-of-length-le (b ∷ s) end) in
+      ap (run-in T fs) (last-line b s size) ∙ λ i. gone-on (line i) ((sym no-line ∙ ap lines-of (sym (append-nil []) ∙ ap (λ (x : List ℕ). x ++ []) others)) i)
+
+  run-none : (s : List ℕ) → length s ≡ 0 → run-in T fs (lines-of s) ≡ ran T fs 0
   unfolding run-in
   run-none [] none = ap (run-in T fs) no-line
   run-none (b ∷ s) none = absurd (omega arith)
+
+  module _ (ended : Bool) (s next : List ℕ) (behind : Behind ended next) where
+    -- a line comes next
+    pub run-line : (n : ℕ) → next-of ended s ≡ Next.Line n → run-in T fs (lines-of (s ++ next)) ≡ gone-on (take n s) (lines-of (drop n s ++ next))
+    unfolding next-of
+    run-line n h = go ended (piece-length s) (length s) refl refl refl h
+      where
+        go : (o : Bool) (p m : ℕ) → ended ≡ o → piece-length s ≡ p → length s ≡ m → next-by o p m ≡ Next.Line n
+            → run-in T fs (lines-of (s ++ next)) ≡ gone-on (take n s) (lines-of (drop n s ++ next))
+        go o (suc p) m q size all h = let k : suc p ≡ n = cc in rw (← k) (run-piece s next p size)
+        go false zero m q size all h = let z : _≡_ {A = ℕ} 0 1 = cc in absurd (omega arith)
+        go true zero zero q size all h = let z : _≡_ {A = ℕ} 0 1 = cc in absurd (omega arith)
+        go true zero (suc m) q size all h = let k : suc m ≡ n = cc in rw (← k, behind q, append-nil s) (run-last s m size all)
+
+    -- the end comes next
+    pub run-end : next-of ended s ≡ Next.End → run-in T fs (lines-of (s ++ next)) ≡ ran T fs 0
+    run-end h = let e = end-next ended s h in rw (behind (e .0), append-nil s) (run-none s (e .1))

@@ -1,4 +1,4 @@
-// Unread input, cut into the pieces that are handed to the step one after another.
+// Unread input, cut into the lines that are handed to the step one after another.
 use lines::LINE_FEED;
 use lines::LONGEST;
 ghost use mathlib.Core.Path.{_≡_};
@@ -6,7 +6,7 @@ ghost use Prim.Native.Nat.{_+_, _≤_};
 ghost use lib.ListN.{length, drop};
 ghost use lib.Seq.{paste};
 ghost use Rattle.words.specs.Lists.{place-of};
-ghost use Rattle.pieces.specs.Pieces.{ends-line, before-lf, piece-length};
+ghost use Rattle.pieces.specs.Pieces.{ends-line, before-lf, next-of};
 ghost use Rattle.pieces.specs.Shifted.{shifted};
 
 // The place of the first LF, or the length.
@@ -33,15 +33,29 @@ fn before_lf(s: &[u8]) -> usize
     first_lf(s)
 }
 
-// How many of the unread bytes are handed to the step next; 0: none before more are read.
-pub fn next_piece(s: &[u8]) -> usize
-    ensures { λ r. ⌜ r ≡ piece-length (now (s .entry)) ⌝ }
+// What comes next: a line of so many bytes, more must be read, or the end.
+pub enum Next {
+    Line(usize),
+    More,
+    End,
+}
+
+// What comes next of the unread bytes, behind which the input may have ended: a line with its LF, or 129 bytes that no LF ends.
+// At the end the rest is a line too, without its LF.
+pub fn next_line(s: &[u8], ended: bool) -> Next
+    ensures { λ r. ⌜ r ≡ next-of ended (now (s .entry)) ⌝ }
 {
     let k = before_lf(s);
     if k < s.len() {
-        return k + 1;
+        return Next::Line(k + 1);
     }
-    0
+    if ended {
+        if k == 0 {
+            return Next::End;
+        }
+        return Next::Line(k);
+    }
+    Next::More
 }
 
 fn move_down(d: &mut [u8], from: usize, n: usize)

@@ -1,6 +1,3 @@
-pub mod Printing
+pub mod Reading
 pub mod Judging
-pub mod Lines
-pub mod Pieces
 pub mod Turns
-pub mod Ends

@@ -1,38 +1,31 @@
--- Why the program ends: a turn that goes on has read a byte at least, and a byte read is one of at most 129 of an accepted line or of at most
--- 128 that are unread. Assumes nothing.
-use Prim.Native.Nat.{ℕ, suc, _+_, _*_, _≤_, _<_}
-use mathlib.Core.Path.{_≡_}
+-- Why the program ends: a turn that goes on has accepted a line, has read a byte or has found the end of the input, and a byte read is one of at most 129
+-- of an accepted line or one of a buffer of those that are unread. Assumes nothing.
+use Prim.Native.Nat.{ℕ, suc, _+_, _*_, _-_}
+use mathlib.Core.Bool.{Bool, true, false}
 use Rattle.lines.specs.Line.{longest}
+use Rattle.history.specs.Replies.{most-lines}
 use Rattle.book.specs.Threads.{lines-in}
 use Rattle.answers.specs.Answer.{most-found}
 use Rattle.tables.specs.Tables.{Tables}
-use Rattle.trace.specs.Following.{Follows}
 use Rattle.program.specs.declared.Run.{Run}
 
 abbrev pub buffer-size : ℕ
 buffer-size = 65536
 
+abbrev pub most-printed : ℕ
+most-printed = most-found * most-lines
+
 unfoldable pub lines-accepted : Tables → ℕ
 lines-accepted T = lines-in (T .book)
 
--- what holds throughout a run
-pub record Going (T : Tables) (r : Run) : Type 0 where
-  pub follows : Follows T (lines-accepted T)
-  pub printed : r .printed ≤ most-found * lines-accepted T
-  pub waiting : r .waiting ≤ buffer-size
-  pub short : r .rest ≤ longest
+abbrev pub one-if : Bool → ℕ
+one-if true = 1
+one-if false = 0
 
--- after the lines of the first `to` bytes
-pub record Passed (to : ℕ) (S T : Tables) (q : Run) : Type 0 where
-  pub going : Going T q
-  pub within : q .rest ≤ to
-  pub covered : q .stop ≡ 0 → suc longest * lines-accepted S + to ≤ suc longest * lines-accepted T + q .rest
+-- for each accepted line its bytes and one more, the bytes that are unread, and one for the end
+abbrev pub come-by : Tables → Run → ℕ
+come-by T r = suc (suc longest) * lines-accepted T + (r .to - r .from) + one-if (r .ended)
 
--- the bytes that the accepted lines may have, and those that are unread
-abbrev pub bytes : Tables → Run → ℕ
-bytes T r = suc longest * lines-accepted T + r .rest
-
--- after a turn
-pub record Turned (S : Tables) (r : Run) (T : Tables) (q : Run) : Type 0 where
-  pub going : Going T q
-  pub more : q .stop ≡ 0 → bytes S r < bytes T q
+-- never more than this
+abbrev pub most-come-by : ℕ
+most-come-by = suc (suc longest) * most-lines + buffer-size + 1

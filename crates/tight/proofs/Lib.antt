@@ -15,4 +15,5 @@ pub mod LineKinds
 pub mod Judge
 pub mod Exported
 pub mod Pieces
+pub mod Run
 pub mod Trace

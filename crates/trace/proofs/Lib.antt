@@ -1,5 +1,3 @@
-pub mod Following
-pub mod Answering
-pub mod Cutting
+pub mod Putting
 pub mod Going
 pub mod Reporting

@@ -1,58 +1,65 @@
--- What is known on the way through a trace, and at its end. Assumes nothing.
-use Prim.Native.Nat.{ℕ, _*_, _≤_}
+-- What is known on the way through a trace, from one function to the next. Assumes nothing.
+use Prim.Native.Nat.{ℕ, _+_, _*_, _≤_}
 use mathlib.Core.Path.{_≡_}
+use mathlib.Core.Bool.{Bool, true, false}
 use mathlib.Core.List.{List}
-use lib.ListN.{length, drop}
+use lib.ListN.{length, take}
 use Rattle.words.specs.Choice.{if_then_else_}
-use Rattle.words.specs.Lists.{joined}
 use Rattle.numbers.specs.Writing.{put, has-room}
 use Rattle.history.specs.Replies.{most-lines}
-use Rattle.history.specs.Report.{lines-of, shown-finding}
-use Rattle.history.specs.declared.Finding.{Finding}
-use Rattle.book.specs.Threads.{lines-in}
 use Rattle.answers.specs.Answer.{most-found}
-use Rattle.report.specs.Shown.{most-shown}
 use Rattle.tables.specs.Tables.{Tables}
-use Rattle.demands.specs.Calls.{run-in}
+use Rattle.demands.specs.Calls.{report-in}
+use Rattle.run.specs.declared.Passed.{Passed}
+use Rattle.run.specs.declared.Stop.{Stop}
+use Rattle.run.specs.declared.Stop.the-variants as Stop
 use Rattle.trace.specs.declared.Run.{Run}
-use Rattle.trace.specs.Following.{Follows}
-use Rattle.trace.specs.Whole.{run-over}
+use Rattle.trace.specs.Whole.{run-of}
 
 -- the bytes at a place, or nothing written where there is no room
 unfoldable pub put-fitting : List ℕ → ℕ → List ℕ → List ℕ
 put-fitting d at bs = if has-room d at bs then put d at bs else d
 
-abbrev pub all-shown : List Finding → List ℕ
-all-shown fs = joined fs shown-finding
+-- findings are put into a slice of this size before they are copied
+abbrev pub scratch-size : ℕ
+scratch-size = 4096
 
--- these findings are counted, and stand at the front of the bytes lent where they have room there
-pub record Counts (fs : List Finding) (out : List ℕ) (r : Run) (out' : List ℕ) : Type 0 where
-  pub findings : r .findings ≡ length fs
-  pub bytes : r .bytes ≡ length (all-shown fs)
-  pub shown : length (all-shown fs) ≤ length out → out' ≡ put out 0 (all-shown fs)
-  pub as-long : length out' ≡ length out
-
--- they are of this many lines
+-- these are the findings of so many lines
 pub record Few (r : Run) (lines : ℕ) : Type 0 where
-  pub lines-fit : lines ≤ most-lines
-  pub findings-fit : r .findings ≤ most-found * lines
-  pub bytes-fit : r .bytes ≤ most-shown * lines
+  pub findings : r .findings ≤ most-found * lines
+  pub bytes : r .bytes ≤ scratch-size * lines
 
--- before the byte `at` of the trace
-pub record Going (T : Tables) (trace out : List ℕ) (at : ℕ) (r : Run) (T' : Tables) (out' : List ℕ) : Type 0 where
-  pub found : List Finding
-  pub lines : ℕ
-  pub follows : Follows T' lines
-  pub few : Few r lines
-  pub counts : Counts found out r out'
-  pub within : at ≤ length trace
-  pub none-refused : r .refusal ≡ 0
-  pub same : run-over T trace ≡ run-in T' found (lines-of (drop at trace))
+-- the refusal, or 0
+abbrev pub refusal-of : Stop → ℕ
+refusal-of (Stop.Refused k) = k
+refusal-of Stop.Full = 0
+refusal-of Stop.More = 0
+refusal-of Stop.End = 0
 
--- at the end
-pub record Done (T : Tables) (trace out : List ℕ) (r : Run) (T' : Tables) (out' : List ℕ) : Type 0 where
-  pub left : T' ≡ run-over T trace .left
-  pub refusal : r .refusal ≡ run-over T trace .refusal
-  pub counts : Counts (run-over T trace .found) out r out'
-  pub few : Few r most-lines
-  pub few-lines : lines-in (T' .book) ≤ most-lines
+abbrev pub is-full : Stop → Bool
+is-full (Stop.Refused k) = false
+is-full Stop.Full = true
+is-full Stop.More = false
+is-full Stop.End = false
+
+-- after one call of the loop, which has left its findings at the front of `scratch`
+pub record Passes-on (r : Run) (p : Passed) (scratch out : List ℕ) (q : Run) (out' : List ℕ) : Type 0 where
+  pub at : q .at ≡ r .at + p .taken
+  pub findings : q .findings ≡ r .findings + p .findings
+  pub bytes : q .bytes ≡ r .bytes + p .put
+  pub refusal : q .refusal ≡ refusal-of (p .stop)
+  pub going : q .going ≡ is-full (p .stop)
+  pub shown : out' ≡ put-fitting out (r .bytes) (take (p .put) scratch)
+
+-- all sums on the way fit
+pub record Sums-fit (trace : List ℕ) (r : Run) (p : Passed) : Type 0 where
+  pub at : r .at + p .taken ≤ length trace
+  pub findings : r .findings + p .findings ≤ most-found * most-lines
+  pub bytes : r .bytes + p .put ≤ scratch-size * most-lines
+  pub put : p .put ≤ scratch-size
+
+-- the report is so long, and stands at the front of the bytes lent where it has room there
+pub record Reported (T : Tables) (trace out : List ℕ) (width : ℕ) (T' : Tables) (out' : List ℕ) : Type 0 where
+  pub long : width ≡ length (report-in T trace)
+  pub left : T' ≡ run-of T trace .left
+  pub shown : width ≤ length out → out' ≡ put out 0 (report-in T trace)

@@ -1,7 +1,7 @@
 -- What the judging of a whole lent trace answers, and what it leaves. Assumes nothing.
 use Prim.Native.Nat.{ℕ}
 use mathlib.Core.List.{List, []}
-use lib.Dec.{eqb, ltb}
+use lib.Dec.{ltb}
 use lib.ListN.{length}
 use Rattle.words.specs.Choice.{if_then_else_}
 use Rattle.numbers.specs.Writing.{put, has-room}
@@ -12,11 +12,6 @@ use Rattle.book.specs.Layout.{whole}
 use Rattle.tables.specs.Tables.{Tables}
 use Rattle.tables.specs.Stepping.{start-of}
 use Rattle.demands.specs.Calls.{room-of, Ran, run-in}
-use Rattle.pieces.specs.Pieces.{piece-length}
-
--- how many bytes the next line has; what is left at the end is a line too, without its LF
-unfoldable pub line-length : List ℕ → ℕ
-line-length s = if eqb (piece-length s) 0 then length s else piece-length s
 
 -- the run of the trace over these tables
 unfoldable pub run-over : Tables → List ℕ → Ran

@@ -1,61 +1,117 @@
 // The judging of a whole lent trace: its report's bytes in a lent slice.
-use answers::Answer;
 use lines::Wrote;
+use run::Passed;
+use run::Stop;
 ghost use mathlib.Core.Path.{_≡_};
 ghost use Prim.Native.Nat.{_+_, _*_, _≤_};
-ghost use lib.ListN.{length};
-ghost use Rattle.numbers.specs.Writing.{put};
+ghost use lib.ListN.{length, take};
+ghost use lib.Seq.{paste};
 ghost use Rattle.history.specs.Replies.{most-lines};
 ghost use Rattle.history.specs.Report.{end-line};
 ghost use Rattle.book.specs.Layout.{whole};
 ghost use Rattle.book.specs.Threads.{lines-in, closed-in};
-ghost use Rattle.answers.specs.Answer.{most-found};
-ghost use Rattle.report.specs.Shown.{most-shown, shown-answer};
 ghost use Rattle.tables.specs.Tables.{tables};
-ghost use Rattle.demands.specs.Calls.{report-in};
-ghost use Rattle.trace.specs.Following.{Follows};
-ghost use Rattle.trace.specs.Whole.{line-length, run-of, leaves, whole-outcome};
-ghost use Rattle.trace.specs.Running.{Few, Done, put-fitting};
+ghost use Rattle.trace.specs.Whole.{leaves, whole-outcome};
+ghost use Rattle.trace.specs.Running.{put-fitting, scratch-size, Few, refusal-of, is-full, Sums-fit, Passes-on, Reported};
 
 // The numbers for a book that is short, and for a slice that is short for the report.
 const UNFIT: u8 = 8;
 
 const NO_ROOM: u8 = 7;
 
-// A run so far: how many findings, how many bytes they take, and the refusal that ended it, or 0.
+// Findings are put here before they are copied.
+const SCRATCH: usize = 4096;
+
+// A run so far: how many bytes of the trace are taken, how many findings there are, how many bytes they take, the refusal or 0, and whether it goes on.
 struct Run {
-    findings: u32,
+    at: usize,
+    findings: usize,
     bytes: usize,
     refusal: u8,
+    going: bool,
 }
 
-// How many bytes the next line has; what is left at the end is a line too, without its LF. 0: nothing is left.
-fn next_line(s: &[u8]) -> usize
-    ensures { λ r. ⌜ r ≡ line-length (now (s .entry)) ⌝ }
+fn refusal_of(stop: Stop) -> u8
+    ensures { λ r. ⌜ r ≡ refusal-of stop ⌝ }
 {
-    let n = pieces::next_piece(s);
-    if n == 0 {
-        return s.len();
+    match stop {
+        Stop::Refused(k) => k,
+        Stop::Full => 0,
+        Stop::More => 0,
+        Stop::End => 0,
     }
-    n
 }
 
-// With the findings of an accepted line, put behind those before it where there is room.
-fn with_answer(run: Run, answer: Answer, out: &mut [u8]) -> Run
-    requires { ⌜ (run .findings ≤ most-found * most-lines) × (run .bytes ≤ most-shown * most-lines) × (answer .count ≤ most-found) ⌝ }
-    ensures { λ r. ⌜ (r .findings ≡ run .findings + answer .count) × (r .bytes ≡ run .bytes + length (shown-answer answer)) × (r .refusal ≡ run .refusal) × (length (shown-answer answer) ≤ most-shown) × (now (out .exit) ≡ put-fitting (now (out .entry)) (run .bytes) (shown-answer answer)) ⌝ }
+fn is_full(stop: Stop) -> bool
+    ensures { λ r. ⌜ r ≡ is-full stop ⌝ }
 {
-    let w = report::findings_width(answer);
-    report::put_findings(out, run.bytes, answer);
+    match stop {
+        Stop::Refused(_) => false,
+        Stop::Full => true,
+        Stop::More => false,
+        Stop::End => false,
+    }
+}
+
+fn copy(out: &mut [u8], at: usize, s: &[u8], n: usize)
+    requires { ⌜ (at + n ≤ length (now out)) × (n ≤ length (now s)) ⌝ }
+    ensures { λ _. ⌜ now (out .exit) ≡ paste (now (out .entry)) at (now (s .entry)) n ⌝ }
+{
+    let mut i = 0;
+    while i < n {
+        out[at + i] = s[i];
+        i += 1;
+    }
+}
+
+// The first n bytes of s at a place, where there is room.
+fn put_front(out: &mut [u8], at: usize, s: &[u8], n: usize)
+    requires { ⌜ (at + n ≤ scratch-size * most-lines) × (n ≤ length (now s)) ⌝ }
+    ensures { λ _. ⌜ now (out .exit) ≡ put-fitting (now (out .entry)) at (take n (now (s .entry))) ⌝ }
+{
+    if out.len() < at + n {
+        return;
+    }
+    copy(out, at, s, n);
+}
+
+// With what one call of the loop has put into `scratch`, copied behind the findings before where there is room.
+fn with_passed(
+    run: Run,
+    passed: Passed,
+    trace: &[u8],
+    scratch: &[u8; SCRATCH],
+    out: &mut [u8],
+) -> Run
+    requires { ⌜ Sums-fit (now trace) run passed ⌝ }
+    ensures { λ q. ⌜ Passes-on run passed (now (scratch .entry)) (now (out .entry)) q (now (out .exit)) ⌝ }
+{
+    put_front(out, run.bytes, scratch, passed.put);
+    let stop = passed.stop;
     Run {
-        findings: run.findings + answer.count as u32,
-        bytes: run.bytes + w,
-        refusal: run.refusal,
+        at: run.at + passed.taken,
+        findings: run.findings + passed.findings,
+        bytes: run.bytes + passed.put,
+        refusal: refusal_of(stop),
+        going: is_full(stop),
     }
 }
 
-// Line by line, until one is refused or the trace is at its end.
-fn run_lines(
+// The last line, behind the findings where there is room; how long the report is.
+fn put_last(run: Run, book: &[u64], out: &mut [u8]) -> usize
+    requires { ⌜ (lines-in (now book) ≤ most-lines) × Few run most-lines ⌝ }
+    ensures { λ r. ⌜ (r ≡ run .bytes + length (end-line (closed-in (now (book .entry))) (lines-in (now (book .entry))) (run .refusal) (run .findings))) × (now (out .exit) ≡ put-fitting (now (out .entry)) (run .bytes) (end-line (closed-in (now (book .entry))) (lines-in (now (book .entry))) (run .refusal) (run .findings))) ⌝ }
+{
+    let closed = book::is_closed(book);
+    let lines = book::lines_of(book) as u32;
+    let findings = run.findings as u32;
+    let width = report::end_width(closed, lines, run.refusal, findings);
+    report::put_end(out, run.bytes, closed, lines, run.refusal, findings);
+    run.bytes + width
+}
+
+// The report of the trace at the front of `out` where it has room there; how long it is.
+fn report_into(
     trace: &[u8],
     rows: &mut [u32],
     marks: &mut [u64],
@@ -63,102 +119,34 @@ fn run_lines(
     pinmarks: &mut [u64],
     book: &mut [u64],
     out: &mut [u8],
-) -> Run
-    requires { ⌜ Follows (tables (now rows) (now marks) (now pins) (now pinmarks) (now book)) 0 ⌝ }
-    ensures { λ r. ⌜ Done (tables (now (rows .entry)) (now (marks .entry)) (now (pins .entry)) (now (pinmarks .entry)) (now (book .entry))) (now (trace .entry)) (now (out .entry)) r (tables (now (rows .exit)) (now (marks .exit)) (now (pins .exit)) (now (pinmarks .exit)) (now (book .exit))) (now (out .exit)) ⌝ }
+) -> usize
+    requires { ⌜ whole ≤ length (now book) ⌝ }
+    ensures { λ r. ⌜ Reported (tables (now (rows .entry)) (now (marks .entry)) (now (pins .entry)) (now (pinmarks .entry)) (now (book .entry))) (now (trace .entry)) (now (out .entry)) r (tables (now (rows .exit)) (now (marks .exit)) (now (pins .exit)) (now (pinmarks .exit)) (now (book .exit))) (now (out .exit)) ⌝ }
 {
+    judge::start(rows, marks, pins, pinmarks, book);
+    let mut scratch = [0; SCRATCH];
     let mut so_far = Run {
+        at: 0,
         findings: 0,
         bytes: 0,
         refusal: 0,
+        going: true,
     };
-    let mut at = 0;
-    loop {
-        let n = next_line(&trace[at..]);
-        if n == 0 {
-            return so_far;
-        }
-        let e = at + n;
-        let answer = judge::step(&trace[at..e], rows, marks, pins, pinmarks, book);
-        if answer.refusal != 0 {
-            return Run {
-                findings: so_far.findings,
-                bytes: so_far.bytes,
-                refusal: answer.refusal,
-            };
-        }
-        so_far = with_answer(so_far, answer, out);
-        at = e;
+    while so_far.going {
+        let at = so_far.at;
+        let passed = run::run_lines(
+            &trace[at..],
+            true,
+            rows,
+            marks,
+            pins,
+            pinmarks,
+            book,
+            &mut scratch,
+        );
+        so_far = with_passed(so_far, passed, trace, &scratch, out);
     }
-}
-
-// How many lines were accepted.
-fn lines_of(book: &[u64]) -> u32
-    requires { ⌜ lines-in (now book) ≤ most-lines ⌝ }
-    ensures { λ r. ⌜ r ≡ lines-in (now (book .entry)) ⌝ }
-{
-    book::lines_of(book) as u32
-}
-
-// How many bytes the report has.
-fn width(run: Run, book: &[u64]) -> usize
-    requires { ⌜ (lines-in (now book) ≤ most-lines) × Few run most-lines ⌝ }
-    ensures { λ r. ⌜ r ≡ run .bytes + length (end-line (closed-in (now (book .entry))) (lines-in (now (book .entry))) (run .refusal) (run .findings)) ⌝ }
-{
-    let n = lines_of(book);
-    run.bytes + report::end_width(book::is_closed(book), n, run.refusal, run.findings)
-}
-
-// How many bytes the report of the trace has.
-fn measure(
-    trace: &[u8],
-    rows: &mut [u32],
-    marks: &mut [u64],
-    pins: &mut [u32],
-    pinmarks: &mut [u64],
-    book: &mut [u64],
-) -> usize
-    requires { ⌜ whole ≤ length (now book) ⌝ }
-    ensures { λ r. ⌜ (r ≡ length (report-in (tables (now (rows .entry)) (now (marks .entry)) (now (pins .entry)) (now (pinmarks .entry)) (now (book .entry))) (now (trace .entry)))) × (tables (now (rows .exit)) (now (marks .exit)) (now (pins .exit)) (now (pinmarks .exit)) (now (book .exit)) ≡ run-of (tables (now (rows .entry)) (now (marks .entry)) (now (pins .entry)) (now (pinmarks .entry)) (now (book .entry))) (now (trace .entry)) .left) ⌝ }
-{
-    judge::start(rows, marks, pins, pinmarks, book);
-    let mut unused = [0];
-    let ran = run_lines(trace, rows, marks, pins, pinmarks, book, &mut unused);
-    width(ran, book)
-}
-
-// The last line, behind the findings.
-fn put_last(run: Run, book: &[u64], out: &mut [u8])
-    requires { ⌜ lines-in (now book) ≤ most-lines ⌝ }
-    ensures { λ _. ⌜ now (out .exit) ≡ put-fitting (now (out .entry)) (run .bytes) (end-line (closed-in (now (book .entry))) (lines-in (now (book .entry))) (run .refusal) (run .findings)) ⌝ }
-{
-    let n = lines_of(book);
-    report::put_end(
-        out,
-        run.bytes,
-        book::is_closed(book),
-        n,
-        run.refusal,
-        run.findings,
-    );
-}
-
-// The report of the trace at the front of a slice that has room for it.
-fn print(
-    trace: &[u8],
-    rows: &mut [u32],
-    marks: &mut [u64],
-    pins: &mut [u32],
-    pinmarks: &mut [u64],
-    book: &mut [u64],
-    out: &mut [u8],
-)
-    requires { ⌜ (whole ≤ length (now book)) × (length (report-in (tables (now rows) (now marks) (now pins) (now pinmarks) (now book)) (now trace)) ≤ length (now out)) ⌝ }
-    ensures { λ _. ⌜ (tables (now (rows .exit)) (now (marks .exit)) (now (pins .exit)) (now (pinmarks .exit)) (now (book .exit)) ≡ run-of (tables (now (rows .entry)) (now (marks .entry)) (now (pins .entry)) (now (pinmarks .entry)) (now (book .entry))) (now (trace .entry)) .left) × (now (out .exit) ≡ put (now (out .entry)) 0 (report-in (tables (now (rows .entry)) (now (marks .entry)) (now (pins .entry)) (now (pinmarks .entry)) (now (book .entry))) (now (trace .entry)))) ⌝ }
-{
-    judge::start(rows, marks, pins, pinmarks, book);
-    let ran = run_lines(trace, rows, marks, pins, pinmarks, book, out);
-    put_last(ran, book, out);
+    put_last(so_far, book, out)
 }
 
 // Judges all lines of a trace from a start, and writes the report at the start of `out`: findings, then the `end` line.
@@ -177,10 +165,11 @@ pub fn judge_trace(
     if book.len() < book::WHOLE {
         return Wrote::Refused(UNFIT);
     }
-    let w = measure(trace, rows, marks, pins, pinmarks, book);
+    let mut unused = [0];
+    let w = report_into(trace, rows, marks, pins, pinmarks, book, &mut unused);
     if out.len() < w {
         return Wrote::Refused(NO_ROOM);
     }
-    print(trace, rows, marks, pins, pinmarks, book, out);
+    report_into(trace, rows, marks, pins, pinmarks, book, out);
     Wrote::Bytes(w)
 }

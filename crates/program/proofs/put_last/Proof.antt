@@ -1,5 +1,6 @@
 -- `program::put_last` meets its contract. Assumes nothing.
-use Rattle.program.proofs.Printing.{last-put}
+use native.Mathlib.Omega.{arith}
+use Rattle.run.proofs.Putting.{last-put, last-fits}
 use borrow.Author.Needs.{needs}
 use Rattle.program.proofs.put_last.Statement.{statement}
 use Rattle.program.proofs.put_last.Tie as tie
@@ -11,6 +12,11 @@ put-last-spec =
     (λ c κs. search needs)
     (λ c κs. search needs)
     (λ c. search needs)
+    (λ c. search needs)
     (λ c κs. search needs)
     (λ c κs. search needs)
-    (λ c. last-put (c .before .before .before .before .before .before .before .args .run .refusal) (c .before .before .before .before .before .before .before .args .run .printed) (c .before .before .before .before .before .is-closed .ensures) (c .before .before .before .lines-of .ensures) (c .before .before .end-width .ensures) (c .put-end .ensures) (search needs)))
+    (λ c. let at-width = c .before .before in
+    let at-lines = at-width .before .before in
+    let run = at-lines .before .before .before .before .args .run in
+    let last = last-put (run .refusal) (run .printed) (at-lines .before .before .is-closed .ensures) (at-lines .lines-of .ensures) (at-width .end-width .ensures) (c .put-end .ensures) in
+    (last .width, omega (arith, last .short), last-fits last (search needs))))

@@ -1,36 +1,45 @@
 -- `trace::judge_trace` meets its contract. Assumes nothing.
-use Rattle.trace.proofs.Reporting.{book-short, out-short, fits-again, whole-printed}
-use native.Mathlib.Omega.{arith}
 use mathlib.Core.Path.{_∙_}
+use native.Mathlib.Omega.{arith}
+use Rattle.trace.proofs.Reporting.{book-short, out-short, whole-printed}
+use borrow.Author.Needs.{needs}
 use Rattle.trace.proofs.judge_trace.Statement.{statement}
 use Rattle.trace.proofs.judge_trace.Tie as tie
 
-returns-2 : tie.Need-returns-2
-returns-2 c = out-short _ _ _ (c .before .before .before .before .before .before .before .before .before .before .before .before .before .before .before .before .before .if1 .left) _ (c .before .before .before .before .before .before .before .before .before .before .before .measure .ensures .0) _ (c .if2 .taken) (c .before .before .before .before .before .before .before .before .before .before .before .measure .ensures .1)
-
-print-requires : tie.Need-print-requires
-print-requires c κs = (omega (arith, c .before .before .before .before .before .before .before .before .before .before .before .before .before .before .before .before .before .before .before .before .before .before .before .if1 .left, c .before .before .before .before .before .before .before .before .before .before .before .before .before .before .before .before .before .measure .kept .1 .1 .1 .1 .1 .0), fits-again _ _ _ (record { reference-rows = c .before .before .before .before .before .before .before .before .before .before .before .before .before .before .before .before .before .measure .kept .1 .0; reference-marks = c .before .before .before .before .before .before .before .before .before .before .before .before .before .before .before .before .before .measure .kept .1 .1 .0; pin-rows = c .before .before .before .before .before .before .before .before .before .before .before .before .before .before .before .before .before .measure .kept .1 .1 .1 .0; pin-marks = c .before .before .before .before .before .before .before .before .before .before .before .before .before .before .before .before .before .measure .kept .1 .1 .1 .1 .0; books = c .before .before .before .before .before .before .before .before .before .before .before .before .before .before .before .before .before .measure .kept .1 .1 .1 .1 .1 .0 }) _ _ (c .before .before .before .before .before .before .before .before .before .before .before .before .before .before .before .before .before .measure .ensures .0) (c .before .before .before .before .before .before .if2 .left))
-
 returns-3 : tie.Need-returns-3
-returns-3 c = whole-printed _ _ _ (c .before .before .before .before .before .before .before .before .before .before .before .before .before .before .before .before .before .before .before .before .before .before .before .before .before .before .before .before .before .before .before .before .before .before .before .before .if1 .left) _ (c .before .before .before .before .before .before .before .before .before .before .before .before .before .before .before .before .before .before .before .before .before .before .before .before .before .before .before .before .before .before .measure .ensures .0) _ _ _ (c .before .before .before .before .before .before .before .before .before .before .before .before .before .before .before .before .before .before .before .if2 .left) (record { reference-rows = c .before .before .before .before .before .before .before .before .before .before .before .before .before .before .before .before .before .before .before .before .before .before .before .before .before .before .before .before .before .before .measure .kept .1 .0; reference-marks = c .before .before .before .before .before .before .before .before .before .before .before .before .before .before .before .before .before .before .before .before .before .before .before .before .before .before .before .before .before .before .measure .kept .1 .1 .0; pin-rows = c .before .before .before .before .before .before .before .before .before .before .before .before .before .before .before .before .before .before .before .before .before .before .before .before .before .before .before .before .before .before .measure .kept .1 .1 .1 .0; pin-marks = c .before .before .before .before .before .before .before .before .before .before .before .before .before .before .before .before .before .before .before .before .before .before .before .before .before .before .before .before .before .before .measure .kept .1 .1 .1 .1 .0; books = c .before .before .before .before .before .before .before .before .before .before .before .before .before .before .before .before .before .before .before .before .before .before .before .before .before .before .before .before .before .before .measure .kept .1 .1 .1 .1 .1 .0 }) (c .before .before .before .before .before .before .before .before .before .before .before .before .print .ensures .0) (c .before .before .before .before .before .before .before .before .before .before .before .before .print .ensures .1)
+returns-3 c =
+    let second = c .before .before .before .before .before .before .before .before .before .before .before .before in
+    let at-room = second .before .before .before .before .before .before .before in
+    let first = at-room .before .before .before .before .before .before .before .before .before .before .before .before in
+    let kept = first .report-into .kept .1 in
+    whole-printed _ _ _ (omega (arith, first .before .before .before .before .before .before .before .if1 .left)) (first .report-into .ensures) (omega (arith, at-room .if2 .left))
+    (record {
+      reference-rows = kept .0;
+      reference-marks = kept .1 .0;
+      pin-rows = kept .1 .1 .0;
+      pin-marks = kept .1 .1 .1 .0;
+      books = kept .1 .1 .1 .1 .0;
+    })
+    (second .report-into2 .ensures)
 
 pub judge-trace-spec : {M : Type 1} → statement M
 judge-trace-spec =
     tie.close
     (tie.spec
     (λ c. book-short _ _ _ (c .if1 .taken))
-    (λ c κs. c .before .before .before .before .before .if1 .left)
-    (λ c. c .before .before .before .before .before .before .before .before .before .before .before .measure .kept .1 .0)
-    (λ c. c .before .before .before .before .before .before .before .before .before .before .before .measure .kept .1 .1 .0)
-    (λ c. c .before .before .before .before .before .before .before .before .before .before .before .measure .kept .1 .1 .1 .0)
-    (λ c. c .before .before .before .before .before .before .before .before .before .before .before .measure .kept .1 .1 .1 .1 .0)
-    (λ c. c .before .before .before .before .before .before .before .before .before .before .before .measure .kept .1 .1 .1 .1 .1 .0)
-    returns-2
-    print-requires
-    (λ c. c .before .before .before .before .before .before .before .before .before .before .before .before .print .kept .1 .0 ∙ c .before .before .before .before .before .before .before .before .before .before .before .before .before .before .before .before .before .before .before .before .before .before .before .before .before .before .before .before .before .before .measure .kept .1 .0)
-    (λ c. c .before .before .before .before .before .before .before .before .before .before .before .before .print .kept .1 .1 .0 ∙ c .before .before .before .before .before .before .before .before .before .before .before .before .before .before .before .before .before .before .before .before .before .before .before .before .before .before .before .before .before .before .measure .kept .1 .1 .0)
-    (λ c. c .before .before .before .before .before .before .before .before .before .before .before .before .print .kept .1 .1 .1 .0 ∙ c .before .before .before .before .before .before .before .before .before .before .before .before .before .before .before .before .before .before .before .before .before .before .before .before .before .before .before .before .before .before .measure .kept .1 .1 .1 .0)
-    (λ c. c .before .before .before .before .before .before .before .before .before .before .before .before .print .kept .1 .1 .1 .1 .0 ∙ c .before .before .before .before .before .before .before .before .before .before .before .before .before .before .before .before .before .before .before .before .before .before .before .before .before .before .before .before .before .before .measure .kept .1 .1 .1 .1 .0)
-    (λ c. c .before .before .before .before .before .before .before .before .before .before .before .before .print .kept .1 .1 .1 .1 .1 .0 ∙ c .before .before .before .before .before .before .before .before .before .before .before .before .before .before .before .before .before .before .before .before .before .before .before .before .before .before .before .before .before .before .measure .kept .1 .1 .1 .1 .1 .0)
-    (λ c. c .before .before .before .before .before .before .before .before .before .before .before .before .print .kept .1 .1 .1 .1 .1 .1 .0)
+    (λ c. search needs)
+    (λ c κs. omega (arith, c .before .before .before .before .before .before .if1 .left))
+    (λ c. c .before .before .before .before .before .before .before .before .before .before .before .before .report-into .kept .1 .0)
+    (λ c. c .before .before .before .before .before .before .before .before .before .before .before .before .report-into .kept .1 .1 .0)
+    (λ c. c .before .before .before .before .before .before .before .before .before .before .before .before .report-into .kept .1 .1 .1 .0)
+    (λ c. c .before .before .before .before .before .before .before .before .before .before .before .before .report-into .kept .1 .1 .1 .1 .0)
+    (λ c. c .before .before .before .before .before .before .before .before .before .before .before .before .report-into .kept .1 .1 .1 .1 .1 .0)
+    (λ c. let first = c .before .before .before .before .before .before .before .before .before .before .before .before in out-short _ _ _ (omega (arith, first .before .before .before .before .before .before .before .if1 .left)) (first .report-into .ensures) (c .if2 .taken))
+    (λ c κs. let first = c .before .before .before .before .before .before .before .before .before .before .before .before .before .before .before .before .before .before in omega (arith, first .before .before .before .before .before .before .before .if1 .left, first .report-into .kept .1 .1 .1 .1 .1 .0))
+    (λ c. let second = c .before .before .before .before .before .before .before .before .before .before .before .before in second .report-into2 .kept .1 .0 ∙ second .before .before .before .before .before .before .before .before .before .before .before .before .before .before .before .before .before .before .before .report-into .kept .1 .0)
+    (λ c. let second = c .before .before .before .before .before .before .before .before .before .before .before .before in second .report-into2 .kept .1 .1 .0 ∙ second .before .before .before .before .before .before .before .before .before .before .before .before .before .before .before .before .before .before .before .report-into .kept .1 .1 .0)
+    (λ c. let second = c .before .before .before .before .before .before .before .before .before .before .before .before in second .report-into2 .kept .1 .1 .1 .0 ∙ second .before .before .before .before .before .before .before .before .before .before .before .before .before .before .before .before .before .before .before .report-into .kept .1 .1 .1 .0)
+    (λ c. let second = c .before .before .before .before .before .before .before .before .before .before .before .before in second .report-into2 .kept .1 .1 .1 .1 .0 ∙ second .before .before .before .before .before .before .before .before .before .before .before .before .before .before .before .before .before .before .before .report-into .kept .1 .1 .1 .1 .0)
+    (λ c. let second = c .before .before .before .before .before .before .before .before .before .before .before .before in second .report-into2 .kept .1 .1 .1 .1 .1 .0 ∙ second .before .before .before .before .before .before .before .before .before .before .before .before .before .before .before .before .before .before .before .report-into .kept .1 .1 .1 .1 .1 .0)
+    (λ c. c .before .before .before .before .before .before .before .before .before .before .before .before .report-into2 .kept .1 .1 .1 .1 .1 .1 .0)
     returns-3)

@@ -1,0 +1,24 @@
+-- `run::heard` meets its contract. Assumes nothing.
+use mathlib.Core.Path.{refl}
+use Rattle.run.specs.Way.{line-refused}
+use Rattle.run.proofs.Ways.{goes-on}
+use borrow.Author.Needs.{needs}
+use Rattle.run.proofs.heard.Statement.{statement}
+use Rattle.run.proofs.heard.Tie as tie
+
+pub heard-spec : {M : Type 1} → statement M
+heard-spec =
+    tie.close
+    (tie.spec
+    (λ c κs. search needs)
+    (λ c. let q = c .stopped .ensures in line-refused (c .before .if1 .taken) (q .0) (q .1) (q .2) refl)
+    (λ c κs. search needs)
+    (λ c κs. search needs)
+    (λ c. search needs)
+    (λ c. search needs)
+    (λ c κs. search needs)
+    (λ c. search needs)
+    (λ c. let at-put = c .before .before .before .before .before .before in
+    let at-width = at-put .before .before in
+    let q = c .aimed .ensures in
+    goes-on (at-width .before .if1 .left) (at-width .before .before .before .before .pre .1) (at-width .findings-width .ensures) (at-put .put-findings .ensures) refl refl refl (q .0) (q .1)))

@@ -1,0 +1,131 @@
+// The loop that holds the lent tables: the lines of a piece of the input, handed to the step one after another.
+use answers::Answer;
+use pieces::Next;
+ghost use mathlib.Core.Path.{_≡_};
+ghost use Prim.Native.Nat.{_+_, _≤_};
+ghost use lib.ListN.{length};
+ghost use Rattle.answers.specs.Answer.{most-found};
+ghost use Rattle.report.specs.Shown.{most-shown};
+ghost use Rattle.tables.specs.Tables.{tables};
+ghost use Rattle.run.specs.Running.{leaves, piece-outcome};
+ghost use Rattle.run.specs.Way.{As-far, Aims, Heard};
+
+// The findings of a line have at most so many bytes.
+const MOST_SHOWN: usize = 504;
+
+// Why a run stops: a line was refused, the slice has no room for the findings of one more, more must be read, or the input is at its end.
+pub enum Stop {
+    Refused(u8),
+    Full,
+    More,
+    End,
+}
+
+// How many bytes of the piece were taken, how many bytes of findings were put, how many findings these are, and why the run stopped.
+pub struct Passed {
+    pub taken: usize,
+    pub put: usize,
+    pub findings: usize,
+    pub stop: Stop,
+}
+
+// How far a run has come. The line that comes next stands from `at` up to `to`; where there is none, `stop` says why.
+struct Way {
+    at: usize,
+    to: usize,
+    put: usize,
+    findings: usize,
+    stop: Stop,
+}
+
+fn stopped(way: Way, stop: Stop) -> Way
+    ensures { λ q. ⌜ As-far way q × (q .to ≡ q .at) × (q .stop ≡ stop) ⌝ }
+{
+    Way {
+        at: way.at,
+        to: way.at,
+        put: way.put,
+        findings: way.findings,
+        stop,
+    }
+}
+
+// The line that comes next.
+fn aimed(way: Way, input: &[u8], ended: bool, size: usize) -> Way
+    requires { ⌜ (way .at ≤ length (now input)) × (way .put ≤ size) ⌝ }
+    ensures { λ q. ⌜ As-far way q × Aims ended size (now (input .entry)) q ⌝ }
+{
+    let at = way.at;
+    let next = pieces::next_line(&input[at..], ended);
+    match next {
+        Next::Line(n) => {
+            if size - way.put < MOST_SHOWN {
+                return stopped(way, Stop::Full);
+            }
+            let mut found = way;
+            found.to = at + n;
+            found
+        }
+        Next::More => stopped(way, Stop::More),
+        Next::End => stopped(way, Stop::End),
+    }
+}
+
+// After the answer to the line that came next: its findings stand behind those before them.
+fn heard(way: Way, answer: Answer, input: &[u8], ended: bool, out: &mut [u8]) -> Way
+    requires { ⌜ (way .to ≤ length (now input)) × (way .put + most-shown ≤ length (now out)) × (way .findings ≤ way .put) × (answer .count ≤ most-found) ⌝ }
+    ensures { λ q. ⌜ Heard ended (now (input .entry)) answer way (now (out .entry)) q (now (out .exit)) ⌝ }
+{
+    let refusal = answer.refusal;
+    if refusal != 0 {
+        return stopped(way, Stop::Refused(refusal));
+    }
+    let width = report::findings_width(answer);
+    report::put_findings(out, way.put, answer);
+    let stop = way.stop;
+    let passed = Way {
+        at: way.to,
+        to: way.to,
+        put: way.put + width,
+        findings: way.findings + answer.count,
+        stop,
+    };
+    aimed(passed, input, ended, out.len())
+}
+
+// Judges the lines of a piece of the input, behind which it may have ended, and puts their findings at the front of `out`.
+// It stops before a line that is refused, and before one whose findings may have no room.
+pub fn run_lines(
+    input: &[u8],
+    ended: bool,
+    rows: &mut [u32],
+    marks: &mut [u64],
+    pins: &mut [u32],
+    pinmarks: &mut [u64],
+    book: &mut [u64],
+    out: &mut [u8],
+) -> Passed
+    ensures { λ r. ⌜ leaves r (tables (now (rows .exit)) (now (marks .exit)) (now (pins .exit)) (now (pinmarks .exit)) (now (book .exit))) (now (out .exit)) ≡ piece-outcome ended (tables (now (rows .entry)) (now (marks .entry)) (now (pins .entry)) (now (pinmarks .entry)) (now (book .entry))) (now (input .entry)) (now (out .entry)) ⌝ }
+{
+    let start = Way {
+        at: 0,
+        to: 0,
+        put: 0,
+        findings: 0,
+        stop: Stop::More,
+    };
+    let mut way = aimed(start, input, ended, out.len());
+    while way.at < way.to {
+        let at = way.at;
+        let to = way.to;
+        let answer = judge::step(&input[at..to], rows, marks, pins, pinmarks, book);
+        way = heard(way, answer, input, ended, out);
+    }
+    let stop = way.stop;
+    Passed {
+        taken: way.at,
+        put: way.put,
+        findings: way.findings,
+        stop,
+    }
+}
