@@ -2,14 +2,15 @@
 use Prim.Native.Nat.{ℕ, _+_, _-_, _≤_, _<_}
 use mathlib.Core.Path.{_≡_, refl, sym, ap, subst, _∙_}
 use mathlib.Core.Bool.{Bool, true, false}
-use mathlib.Core.List.{List}
+use mathlib.Core.List.{List, []}
 use native.Mathlib.Omega.{arith}
 use borrow.Author.Tests.{lt-ltb}
 use lib.ListN.{length, take, drop, length-drop}
 use lib.Seq.{take-all}
-use Rattle.numbers.specs.Writing.{put, Puts}
-use Rattle.numbers.specs.declared.Room.{Room}
-use Rattle.numbers.proofs.Put.{length-put}
+use Rattle.words.specs.Lists.{joined}
+use Rattle.numbers.specs.Writing.{put}
+use Rattle.numbers.proofs.Put.{put-none, length-put}
+use Rattle.history.specs.Report.{shown-finding}
 use Rattle.history.specs.declared.Finding.{Finding}
 use Rattle.answers.specs.declared.Answer.{Answer}
 use Rattle.report.specs.Shown.{most-shown, shown-answer}
@@ -18,7 +19,6 @@ use Rattle.pieces.specs.declared.Next.{Next}
 use Rattle.pieces.specs.declared.Next.the-variants as Next
 use Rattle.pieces.specs.Pieces.{next-of, pieces-of}
 use Rattle.pieces.proofs.Nexts.{Line-next, line-next, more-next, end-next, pieces-next}
-use Rattle.run.proofs.Putting.{put-there}
 use Rattle.run.specs.declared.Way.{Way}
 use Rattle.run.specs.declared.Stop.{Stop}
 use Rattle.run.specs.declared.Stop.the-variants as Stop
@@ -82,11 +82,17 @@ module _ (ended : Bool) (size : ℕ) (s : List ℕ) (w : Way) {x : Next} (e : x 
 
 -- ---- after the answer to a line
 
-pub goes-on : {ended : Bool} {s out out' : List ℕ} {a : Answer} {w p q : Way} {r : Room} {n : ℕ} → a .refusal ≡ 0 → w .put + most-shown ≤ length out
-    → (n ≡ length (shown-answer a)) × (n ≤ most-shown) → Puts out (w .put) (shown-answer a) r out' → p .at ≡ w .to → p .put ≡ w .put + n → p .findings ≡ w .findings + a .count
-    → As-far p q → Aims ended (length out') s q → Heard ended s a w out q out'
-goes-on {ended} {s} {out} {out'} {a} {w} {p} {q} z room width puts at put findings far aims =
-    let left = put-there puts (omega (arith, room, width)) in
-    let long : length out' ≡ length out = ap length left ∙ length-put out (w .put) (shown-answer a) (omega (arith, room, width)) in
-    line-accepted z (far .at ∙ at) (omega (arith, far .put, put, width)) (far .findings ∙ findings) (subst (λ (n : ℕ). Aims ended n s q) long aims) left
-    (omega (arith, far .put, put, width, room))
+-- an answer without findings
+pub none-shown : (d : List ℕ) (at : ℕ) (a : Answer) → a .count ≡ 0 → (0 ≡ length (shown-answer a)) × (0 ≤ most-shown) × (d ≡ put d at (shown-answer a))
+unfolding shown-answer
+none-shown d at a z =
+    let none : [] ≡ shown-answer a = ap (λ (n : ℕ). joined (take n (a .found)) shown-finding) (sym z) in
+    (ap length none, omega arith, sym (put-none d at) ∙ ap (put d at) none)
+
+pub goes-on : {ended : Bool} {s out out' : List ℕ} {a : Answer} {w p q : Way} {n : ℕ} → a .refusal ≡ 0 → w .put + most-shown ≤ length out
+    → (n ≡ length (shown-answer a)) × (n ≤ most-shown) × (out' ≡ put out (w .put) (shown-answer a)) → p .at ≡ w .to → p .put ≡ w .put + n
+    → p .findings ≡ w .findings + a .count → As-far p q → Aims ended (length out') s q → Heard ended s a w out q out'
+goes-on {ended} {s} {out} {out'} {a} {w} {p} {q} z room shown at put findings far aims =
+    let long : length out' ≡ length out = ap length (shown .2) ∙ length-put out (w .put) (shown-answer a) (omega (arith, room, shown .0, shown .1)) in
+    line-accepted z (far .at ∙ at) (omega (arith, far .put, put, shown .0)) (far .findings ∙ findings) (subst (λ (n : ℕ). Aims ended n s q) long aims) (shown .2)
+    (omega (arith, far .put, put, shown .1, room))

@@ -4,8 +4,9 @@ use pieces::Next;
 ghost use mathlib.Core.Path.{_≡_};
 ghost use Prim.Native.Nat.{_+_, _≤_};
 ghost use lib.ListN.{length};
+ghost use Rattle.numbers.specs.Writing.{put};
 ghost use Rattle.answers.specs.Answer.{most-found};
-ghost use Rattle.report.specs.Shown.{most-shown};
+ghost use Rattle.report.specs.Shown.{most-shown, shown-answer};
 ghost use Rattle.tables.specs.Tables.{tables};
 ghost use Rattle.run.specs.Running.{leaves, piece-outcome};
 ghost use Rattle.run.specs.Way.{As-far, Aims, Heard};
@@ -71,6 +72,18 @@ fn aimed(way: Way, input: &[u8], ended: bool, size: usize) -> Way
     }
 }
 
+// The findings of an answer at a place where they have room; how long they are.
+fn put_found(out: &mut [u8], at: usize, answer: Answer) -> usize
+    requires { ⌜ at + most-shown ≤ length (now out) ⌝ }
+    ensures { λ r. ⌜ (r ≡ length (shown-answer answer)) × (r ≤ most-shown) × (now (out .exit) ≡ put (now (out .entry)) at (shown-answer answer)) ⌝ }
+{
+    if answer.count == 0 {
+        return 0;
+    }
+    report::put_findings(out, at, answer);
+    report::findings_width(answer)
+}
+
 // After the answer to the line that came next: its findings stand behind those before them.
 fn heard(way: Way, answer: Answer, input: &[u8], ended: bool, out: &mut [u8]) -> Way
     requires { ⌜ (way .to ≤ length (now input)) × (way .put + most-shown ≤ length (now out)) × (way .findings ≤ way .put) × (answer .count ≤ most-found) ⌝ }
@@ -80,8 +93,7 @@ fn heard(way: Way, answer: Answer, input: &[u8], ended: bool, out: &mut [u8]) ->
     if refusal != 0 {
         return stopped(way, Stop::Refused(refusal));
     }
-    let width = report::findings_width(answer);
-    report::put_findings(out, way.put, answer);
+    let width = put_found(out, way.put, answer);
     let stop = way.stop;
     let passed = Way {
         at: way.to,

@@ -13,12 +13,11 @@ heard-spec =
     (λ c κs. search needs)
     (λ c. let q = c .stopped .ensures in line-refused (c .before .if1 .taken) (q .0) (q .1) (q .2) refl)
     (λ c κs. search needs)
-    (λ c κs. search needs)
     (λ c. search needs)
     (λ c. search needs)
     (λ c κs. search needs)
     (λ c. search needs)
     (λ c. let at-put = c .before .before .before .before .before .before in
-    let at-width = at-put .before .before in
+    let at-test = at-put .before .before in
     let q = c .aimed .ensures in
-    goes-on (at-width .before .if1 .left) (at-width .before .before .before .before .pre .1) (at-width .findings-width .ensures) (at-put .put-findings .ensures) refl refl refl (q .0) (q .1)))
+    goes-on (at-test .if1 .left) (at-test .before .before .before .pre .1) (at-put .put-found .ensures) refl refl refl (q .0) (q .1)))
