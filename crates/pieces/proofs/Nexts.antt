@@ -1,6 +1,6 @@
 -- What comes next of the unread bytes, and all their pieces one after the other. Assumes nothing.
 use Prim.Native.Nat.{ℕ, zero, suc, _+_, _≤_, _<_}
-use mathlib.Core.Path.{_≡_, refl, sym, ap, _∙_}
+use mathlib.Core.Path.{_≡_, refl, sym, ap, subst, _∙_}
 use mathlib.Core.Bool.{Bool, true, false}
 use mathlib.Core.List.{List, _∷_}
 use native.Mathlib.Numerals.{add-one}
@@ -46,6 +46,23 @@ module _ (s : List ℕ) (ended : Bool) (k : ℕ) (e : k ≡ before-lf s) where
 
 -- ---- what it tells
 
+-- a piece, or what is left at the end; more is read only before it
+pub data Comes (ended : Bool) (s : List ℕ) : Next → Type 0 where
+  is-piece : (n : ℕ) → piece-length s ≡ suc n → Comes ended s (Next.Line (suc n))
+  is-rest : (n : ℕ) → ended ≡ true → piece-length s ≡ 0 → length s ≡ suc n → Comes ended s (Next.Line (suc n))
+  is-more : ended ≡ false → piece-length s ≡ 0 → Comes ended s Next.More
+  is-end : ended ≡ true → length s ≡ 0 → Comes ended s Next.End
+
+pub comes : (ended : Bool) (s : List ℕ) (x : Next) → next-of ended s ≡ x → Comes ended s x
+unfolding next-of
+comes ended s x h = subst (Comes ended s) h (go ended (piece-length s) (length s) refl refl refl)
+  where
+    go : (o : Bool) (p m : ℕ) → ended ≡ o → piece-length s ≡ p → length s ≡ m → Comes ended s (next-by o p m)
+    go o (suc p) m t size all = is-piece p size
+    go false zero m t size all = is-more t size
+    go true zero zero t size all = is-end t all
+    go true zero (suc m) t size all = is-rest m t size all
+
 -- a line has a byte at least, and 129 at most
 pub record Line-next (s : List ℕ) (n : ℕ) : Type 0 where
   pub some : 0 < n
@@ -53,35 +70,24 @@ pub record Line-next (s : List ℕ) (n : ℕ) : Type 0 where
   pub short : n ≤ suc longest
 
 pub line-next : (ended : Bool) (s : List ℕ) (n : ℕ) → next-of ended s ≡ Next.Line n → Line-next s n
-unfolding next-of
-line-next ended s n h = go ended (piece-length s) (length s) refl refl h
+line-next ended s n h = go n (comes ended s (Next.Line n) h)
   where
-    go : (o : Bool) (p m : ℕ) → piece-length s ≡ p → length s ≡ m → next-by o p m ≡ Next.Line n → Line-next s n
-    go o (suc p) m q l h = let k : suc p ≡ n = cc in record { some = omega arith; within = omega (arith, piece-within s); short = omega (arith, piece-within s) }
-    go false zero m q l h = let z : _≡_ {A = ℕ} 0 1 = cc in absurd (omega arith)
-    go true zero zero q l h = let z : _≡_ {A = ℕ} 0 1 = cc in absurd (omega arith)
-    go true zero (suc m) q l h = let k : suc m ≡ n = cc in record { some = omega arith; within = omega arith; short = omega (arith, piece-none s q) }
+    go : (n : ℕ) → Comes ended s (Next.Line n) → Line-next s n
+    go _ (is-piece p size) = record { some = omega arith; within = omega (arith, piece-within s); short = omega (arith, piece-within s) }
+    go _ (is-rest m t size all) = record { some = omega arith; within = omega arith; short = omega (arith, piece-none s size) }
 
--- more is read only before the end, and where at most 128 bytes are unread
+-- more is read only where at most 128 bytes are unread
 pub more-next : (ended : Bool) (s : List ℕ) → next-of ended s ≡ Next.More → (ended ≡ false) × (length s ≤ longest)
-unfolding next-of
-more-next ended s h = go ended (piece-length s) (length s) refl h
+more-next ended s h = go (comes ended s Next.More h)
   where
-    go : (o : Bool) (p m : ℕ) → piece-length s ≡ p → next-by o p m ≡ Next.More → (o ≡ false) × (length s ≤ longest)
-    go o (suc p) m q h = let z : _≡_ {A = ℕ} 0 1 = cc in absurd (omega arith)
-    go false zero m q h = (refl, piece-none s q .0)
-    go true zero zero q h = let z : _≡_ {A = ℕ} 0 1 = cc in absurd (omega arith)
-    go true zero (suc m) q h = let z : _≡_ {A = ℕ} 0 1 = cc in absurd (omega arith)
+    go : Comes ended s Next.More → (ended ≡ false) × (length s ≤ longest)
+    go (is-more t size) = (t, piece-none s size .0)
 
 pub end-next : (ended : Bool) (s : List ℕ) → next-of ended s ≡ Next.End → (ended ≡ true) × (length s ≡ 0)
-unfolding next-of
-end-next ended s h = go ended (piece-length s) (length s) h
+end-next ended s h = go (comes ended s Next.End h)
   where
-    go : (o : Bool) (p m : ℕ) → next-by o p m ≡ Next.End → (o ≡ true) × (m ≡ 0)
-    go o (suc p) m h = let z : _≡_ {A = ℕ} 0 1 = cc in absurd (omega arith)
-    go false zero m h = let z : _≡_ {A = ℕ} 0 1 = cc in absurd (omega arith)
-    go true zero zero h = (refl, refl)
-    go true zero (suc m) h = let z : _≡_ {A = ℕ} 0 1 = cc in absurd (omega arith)
+    go : Comes ended s Next.End → (ended ≡ true) × (length s ≡ 0)
+    go (is-end t all) = (t, all)
 
 -- ---- all pieces
 

@@ -2,7 +2,7 @@
 use mathlib.Core.Path.{_≡_, refl, sym, ap, _∙_}
 use mathlib.Core.Bool.{Bool, true, false}
 use mathlib.Core.List.{List, [], _∷_, _++_, append-nil}
-use Prim.Native.Nat.{ℕ, zero, suc, _≤_}
+use Prim.Native.Nat.{ℕ, suc, _≤_}
 use native.Mathlib.Omega.{arith}
 use lib.Dec.{eqb, leb}
 use lib.ListN.{length, take, drop, getD, drop-of-length-le}
@@ -20,9 +20,9 @@ use Rattle.tables.specs.Tables.{Tables}
 use Rattle.tables.specs.Stepping.{Stepped, untouched, step-of}
 use Rattle.demands.specs.Calls.{Ran, ran, go-on-in, run-in}
 use Rattle.pieces.specs.declared.Next.the-variants as Next
-use Rattle.pieces.specs.Pieces.{piece-length, next-by, next-of, Behind}
+use Rattle.pieces.specs.Pieces.{piece-length, next-of, Behind}
 use Rattle.pieces.proofs.Sizes.{piece-some, piece-stays}
-use Rattle.pieces.proofs.Nexts.{end-next}
+use Rattle.pieces.proofs.Nexts.{Comes, is-piece, is-rest, comes, end-next}
 use Rattle.pieces.proofs.Cuts.{line-first, overlong-first, last-line, no-line}
 
 module _ (T : Tables) (fs : List Finding) where
@@ -79,15 +79,11 @@ module _ (T : Tables) (fs : List Finding) where
   module _ (ended : Bool) (s next : List ℕ) (behind : Behind ended next) where
     -- a line comes next
     pub run-line : (n : ℕ) → next-of ended s ≡ Next.Line n → run-in T fs (lines-of (s ++ next)) ≡ gone-on (take n s) (lines-of (drop n s ++ next))
-    unfolding next-of
-    run-line n h = go ended (piece-length s) (length s) refl refl refl h
+    run-line n h = go n (comes ended s (Next.Line n) h)
       where
-        go : (o : Bool) (p m : ℕ) → ended ≡ o → piece-length s ≡ p → length s ≡ m → next-by o p m ≡ Next.Line n
-            → run-in T fs (lines-of (s ++ next)) ≡ gone-on (take n s) (lines-of (drop n s ++ next))
-        go o (suc p) m q size all h = let k : suc p ≡ n = cc in rw (← k) (run-piece s next p size)
-        go false zero m q size all h = let z : _≡_ {A = ℕ} 0 1 = cc in absurd (omega arith)
-        go true zero zero q size all h = let z : _≡_ {A = ℕ} 0 1 = cc in absurd (omega arith)
-        go true zero (suc m) q size all h = let k : suc m ≡ n = cc in rw (← k, behind q, append-nil s) (run-last s m size all)
+        go : (n : ℕ) → Comes ended s (Next.Line n) → run-in T fs (lines-of (s ++ next)) ≡ gone-on (take n s) (lines-of (drop n s ++ next))
+        go _ (is-piece p size) = run-piece s next p size
+        go _ (is-rest m t size all) = rw (behind t, append-nil s) (run-last s m size all)
 
     -- the end comes next
     pub run-end : next-of ended s ≡ Next.End → run-in T fs (lines-of (s ++ next)) ≡ ran T fs 0
