@@ -63,9 +63,9 @@ fn aimed(way: Way, input: &[u8], ended: bool, size: usize) -> Way
             if size - way.put < MOST_SHOWN {
                 return stopped(way, Stop::Full);
             }
-            let mut found = way;
-            found.to = at + n;
-            found
+            let mut line = way;
+            line.to = at + n;
+            line
         }
         Next::More => stopped(way, Stop::More),
         Next::End => stopped(way, Stop::End),

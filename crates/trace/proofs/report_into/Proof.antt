@@ -20,6 +20,29 @@ Inv-loop trace rows₀ marks₀ pins₀ pinmarks₀ book₀ out₀ scratch₀ so
 abbrev μ-loop : tie.MeasureT-loop
 μ-loop trace rows₀ marks₀ pins₀ pinmarks₀ book₀ out₀ scratch₀ so-far₀ rows marks pins pinmarks book out scratch so-far = still trace so-far
 
+loop-holds : tie.Need-loop-holds Inv-loop μ-loop
+loop-holds c =
+    let at-start = c .before .before .before .before .before .before .before .before .before .before in (
+      record { reference-rows = refl; reference-marks = refl; pin-rows = refl; pin-marks = refl; books = refl },
+      refl,
+      going-start (started _ (at-start .before .before .before .before .before .before .before .before .before .before .before .before .before .pre) (at-start .start .ensures)) refl refl refl refl,
+    )
+
+with-passed-requires : tie.Need-with-passed-requires Inv-loop μ-loop
+with-passed-requires c κs =
+    let at-run = c .before .before .before .before .before .before .before .before .before .before .before .before .before in
+    let at-test = at-run .before .before .before .before .before .before .before .before in
+    let inv = at-test .before .loop .inv in
+    sums-fit _ (inv .2) (at-test .loop-test .taken) (inv .1) (at-run .run-lines .kept .1 .1 .1 .1 .1 .1 .1 .0) (at-run .run-lines .ensures)
+
+loop-less : tie.Need-loop-less Inv-loop μ-loop
+loop-less c =
+    let at-passed = c .before .before in
+    let at-run = at-passed .before .before .before .before .before .before .before .before .before .before .before .before .before .before in
+    let at-test = at-run .before .before .before .before .before .before .before .before in
+    let inv = at-test .before .loop .inv in
+    less _ (inv .2) (at-test .loop-test .taken) (inv .1) (at-run .run-lines .kept .1 .1 .1 .1 .1 .1 .1 .0) (at-run .run-lines .ensures) (at-passed .with-passed .ensures)
+
 loop-again : tie.Need-loop-again Inv-loop μ-loop
 loop-again c =
     let at-passed = c .before .before in
@@ -38,6 +61,12 @@ loop-again c =
       going-on _ (inv .2) (at-test .loop-test .taken) (inv .1) (kept .1 .1 .1 .1 .1 .0) (at-run .run-lines .ensures) (at-passed .with-passed .ensures),
     )
 
+returns : tie.Need-returns Inv-loop μ-loop
+returns c =
+    let at-put = c .before .before in
+    let at-test = at-put .before .before .before in
+    reported _ (at-test .before .before .before .before .before .before .before .before .before .before .before .before .start .ensures) (at-test .before .loop .inv .2) (at-test .loop-test .left) (at-put .put-last .ensures)
+
 pub report-into-spec : {M : Type 1} → statement M
 report-into-spec =
     tie.close
@@ -45,26 +74,14 @@ report-into-spec =
     Inv-loop
     μ-loop
     (λ c κs. search needs)
-    (λ c. let at-start = c .before .before .before .before .before .before .before .before .before .before in
-    let at-entry = at-start .before .before .before .before .before .before .before .before .before .before .before .before .before in (
-      record { reference-rows = refl; reference-marks = refl; pin-rows = refl; pin-marks = refl; books = refl },
-      refl,
-      going-start (started _ (at-entry .pre) (at-start .start .ensures)) refl refl refl refl,
-    ))
+    loop-holds
     (λ c. omega (arith, c .before .loop .inv .2 .within))
     (λ c. omega (arith, c .before .loop .inv .2 .within))
     (λ c. search needs)
     (λ c. sym (c .before .before .before .before .before .before .before .before .loop .inv .1))
     (λ c κs. search needs)
-    (λ c κs. let at-run = c .before .before .before .before .before .before .before .before .before .before .before .before .before in
-    let at-test = at-run .before .before .before .before .before .before .before .before in
-    let inv = at-test .before .loop .inv in
-    sums-fit _ (inv .2) (at-test .loop-test .taken) (inv .1) (at-run .run-lines .kept .1 .1 .1 .1 .1 .1 .1 .0) (at-run .run-lines .ensures))
-    (λ c. let at-passed = c .before .before in
-    let at-run = at-passed .before .before .before .before .before .before .before .before .before .before .before .before .before .before in
-    let at-test = at-run .before .before .before .before .before .before .before .before in
-    let inv = at-test .before .loop .inv in
-    less _ (inv .2) (at-test .loop-test .taken) (inv .1) (at-run .run-lines .kept .1 .1 .1 .1 .1 .1 .1 .0) (at-run .run-lines .ensures) (at-passed .with-passed .ensures))
+    with-passed-requires
+    loop-less
     loop-again
     (λ c κs. few-at-end (c .before .before .before .loop .inv .2))
     (λ c. let at-loop = c .before .before .before .before .before .before in at-loop .loop .inv .0 .reference-rows ∙ at-loop .before .before .before .before .before .before .before .before .before .before .before .start .kept .0)
@@ -73,7 +90,4 @@ report-into-spec =
     (λ c. let at-loop = c .before .before .before .before .before .before in at-loop .loop .inv .0 .pin-marks ∙ at-loop .before .before .before .before .before .before .before .before .before .before .before .start .kept .1 .1 .1 .0)
     (λ c. let at-loop = c .before .before .before .before .before .before in at-loop .loop .inv .0 .books ∙ at-loop .before .before .before .before .before .before .before .before .before .before .before .start .kept .1 .1 .1 .1 .0)
     (λ c. c .before .before .put-last .kept .1 .1 .0 ∙ c .before .before .before .before .before .before .loop .inv .2 .as-long)
-    (λ c. let at-put = c .before .before in
-    let at-test = at-put .before .before .before in
-    let at-start = at-test .before .before .before .before .before .before .before .before .before .before .before .before in
-    reported _ (at-start .start .ensures) (at-test .before .loop .inv .2) (at-test .loop-test .left) (at-put .put-last .ensures)))
+    returns)
