@@ -2,8 +2,8 @@
 use Prim.Native.Nat.{ℕ, zero, suc, _+_, _-_, _≤_, _<_}
 use mathlib.Core.Path.{_≡_, refl, sym, ap, ap₂, subst, _∙_}
 use mathlib.Core.Bool.{Bool}
-use mathlib.Core.List.{List, [], _∷_, _++_, append-assoc}
-use native.Mathlib.Nat.{zero-add}
+use mathlib.Core.List.{List, [], _∷_, _++_, append-assoc, append-nil}
+use native.Mathlib.Nat.{zero-add, add-zero, add-assoc}
 use native.Mathlib.Omega.{arith}
 use borrow.Author.Tests.{le-ltb}
 use lib.ListN.{length, take, drop, length-append, length-drop}
@@ -22,10 +22,11 @@ use Rattle.tables.specs.Stepping.{step-of}
 use Rattle.kinds.specs.Outcome.{leaves as answers-leaving}
 use Rattle.judge.specs.Outcome.{step-outcome}
 use Rattle.pieces.specs.declared.Next.the-variants as Next
-use Rattle.pieces.specs.Pieces.{pieces-of}
 use Rattle.pieces.proofs.Nexts.{pieces-next}
 use Rattle.run.specs.declared.Way.{Way}
-use Rattle.run.specs.Running.{all-shown, Run, stands, go-on, run-lines, run-of, leaves, outcome, piece-outcome}
+use Rattle.run.specs.declared.Stop.{Stop}
+use Rattle.run.specs.declared.Stop.the-variants as Stop
+use Rattle.run.specs.Running.{all-shown, Run, stands, stops, behind, go-on, run-lines, run-of, leaves, outcome, piece-outcome}
 use Rattle.run.specs.Way.{Line-comes, Aims, Heard, line-refused, line-accepted}
 use Rattle.run.proofs.Answering.{takes, refuses, few-counted}
 
@@ -40,6 +41,17 @@ no-longer : (fs : List Finding) → length fs ≤ length (all-shown fs)
 no-longer [] = omega arith
 no-longer (f ∷ fs) = simp length-append (omega (arith, no-longer fs))
 
+-- ---- runs behind each other
+
+behind-none : (r : Run) → r ≡ behind [] 0 r
+behind-none r i = stands (r .left) (r .found) (sym (zero-add (r .taken)) i) (r .stop)
+
+behind-stops : (fs : List Finding) (n : ℕ) (T : Tables) (stop : Stop) → behind fs n (stops T stop) ≡ stands T fs n stop
+behind-stops fs n T stop i = stands T (append-nil fs i) (add-zero n i) stop
+
+behind-both : (fs gs : List Finding) (n m : ℕ) (r : Run) → behind fs n (behind gs m r) ≡ behind (fs ++ gs) (n + m) r
+behind-both fs gs n m r i = stands (r .left) (sym (append-assoc fs gs (r .found)) i) (sym (add-assoc n m (r .taken)) i) (r .stop)
+
 -- ---- before the byte `at` of the piece
 
 pub record Going (ended : Bool) (T : Tables) (s out : List ℕ) (w : Way) (T' : Tables) (out' : List ℕ) : Type 0 where
@@ -50,14 +62,13 @@ pub record Going (ended : Bool) (T : Tables) (s out : List ℕ) (w : Way) (T' : 
   pub as-long : length out' ≡ length out
   pub fits : w .put ≤ length out
   pub line : w .at < w .to → Line-comes ended (length out) s w
-  pub same : w .at < w .to → run-of ended (length out) T s ≡ run-lines ended (length out) T' found (w .at) (pieces-of ended (drop (w .at) s))
+  pub same : w .at < w .to → run-of ended (length out) T s ≡ behind found (w .at) (run-of ended (length out - w .put) T' (drop (w .at) s))
   pub done : w .to ≤ w .at → run-of ended (length out) T s ≡ stands T' found (w .at) (w .stop)
 
 pub going-start : {ended : Bool} {T : Tables} {s out : List ℕ} {w : Way} → w .at ≡ 0 → w .put ≡ 0 → w .findings ≡ 0 → Aims ended (length out) s w → Going ended T s out w T out
-unfolding run-of
 going-start {ended} {T} {s} {out} {w} at p f aims =
-    let start : run-of ended (length out) T s ≡ run-lines ended (length out) T [] (w .at) (pieces-of ended (drop (w .at) s)) =
-    ap (λ (i : ℕ). run-lines ended (length out) T [] i (pieces-of ended (drop i s))) (sym at)
+    let start : run-of ended (length out) T s ≡ run-of ended (length out - w .put) T (drop (w .at) s) =
+    ap (λ (n : ℕ). run-of ended n T s) (omega (arith, p)) ∙ ap (λ (i : ℕ). run-of ended (length out - w .put) T (drop i s)) (sym at)
     in
     record {
       found = [];
@@ -67,8 +78,10 @@ going-start {ended} {T} {s} {out} {w} at p f aims =
       as-long = refl;
       fits = omega (arith, p);
       line = aims .line;
-      same = λ _. start;
-      done = λ h. start ∙ aims .none h T [] p;
+      same = λ _.
+          start ∙ behind-none (run-of ended (length out - w .put) T (drop (w .at) s))
+          ∙ λ i. behind [] (sym at i) (run-of ended (length out - w .put) T (drop (w .at) s));
+      done = λ h. start ∙ aims .none h T ∙ λ i. stands T [] (sym at i) (w .stop);
     }
 
 pub going-end : {ended : Bool} {T T' : Tables} {s out out' : List ℕ} {w : Way} → Going ended T s out w T' out' → w .to ≤ w .at
@@ -118,18 +131,19 @@ module _ {ended : Bool} {T S : Tables} {s out out1 : List ℕ} {w : Way} (g : Go
     its-length = length-take-le (w .to - w .at) (drop (w .at) s) (omega (arith, length-drop (w .at) s, g .line some .within))
 
     gone-on : Reply → Run
-    gone-on r = go-on S (g .found) (w .at) r (λ gs. run-lines ended (length out) (step-of S its-line .left) (g .found ++ gs) (w .to) (pieces-of ended (drop (w .to) s)))
+    gone-on r =
+        behind (g .found) (w .at)
+        (go-on S r (λ gs. behind gs (w .to - w .at) (run-of ended (length out - w .put - length (all-shown gs)) (step-of S its-line .left) (drop (w .to) s))))
 
     stepped : run-of ended (length out) T s ≡ gone-on (step-of S its-line .reply)
-    unfolding run-lines gone-on
+    unfolding run-of run-lines gone-on
     stepped =
         let l = g .line some in
-        let room : length (all-shown (g .found)) + most-shown ≤ length out = omega (arith, l .roomy, g .bytes) in
-        let to : w .at + length its-line ≡ w .to = omega (arith, its-length, some) in
+        let room : most-shown ≤ length out - w .put = omega (arith, l .roomy) in
         let sum : w .at + (w .to - w .at) ≡ w .to = omega (arith, some) in
         let past : drop (w .to - w .at) (drop (w .at) s) ≡ drop (w .to) s = drop-drop (w .to - w .at) (w .at) s ∙ ap (λ (n : ℕ). drop n s) sum in
         g .same some
-        ∙ rw (pieces-next ended (drop (w .at) s) (Next.Line (w .to - w .at)) (l .next), le-ltb (length out) (length (all-shown (g .found)) + most-shown) room, to, past)
+        ∙ rw (pieces-next ended (drop (w .at) s) (Next.Line (w .to - w .at)) (l .next), le-ltb (length out - w .put) most-shown room, its-length, past)
 
     pub going-on : {q : Way} {out' : List ℕ} → Heard ended s a w out1 q out' → Going ended T s out q S' out'
     unfolding gone-on answer-of
@@ -144,7 +158,8 @@ module _ {ended : Bool} {T S : Tables} {s out out1 : List ℕ} {w : Way} (g : Go
           fits = omega (arith, far .put, g .fits);
           line = λ more. absurd (omega (arith, more, to));
           same = λ more. absurd (omega (arith, more, to));
-          done = λ _. stepped ∙ ap gone-on (t .reply) ∙ λ i. stands (sym (t .left) i) (g .found) (sym (far .at) i) (sym stop i);
+          done = λ _. stepped ∙ ap gone-on (t .reply) ∙ behind-stops (g .found) (w .at) S (Stop.Refused (a .refusal))
+              ∙ λ i. stands (sym (t .left) i) (g .found) (sym (far .at) i) (sym stop i);
         }
     going-on {q} {out'} (line-accepted z at put-is findings aims out-is fits) =
         let t = takes S its-line a S' h z in
@@ -163,9 +178,12 @@ module _ {ended : Bool} {T S : Tables} {s out out1 : List ℕ} {w : Way} (g : Go
         in
         let size : length out1 ≡ length out = g .as-long in
         let aims : Aims ended (length out) s q = subst (λ (n : ℕ). Aims ended n s q) size aims in
-        let same : run-of ended (length out) T s ≡ run-lines ended (length out) S' (g .found ++ gs) (q .at) (pieces-of ended (drop (q .at) s)) =
+        let sum : w .at + (w .to - w .at) ≡ q .at = omega (arith, some, at) in
+        let rest : length out - w .put - length (all-shown gs) ≡ length out - q .put = omega (arith, put-is, ap length its) in
+        let same : run-of ended (length out) T s ≡ behind (g .found ++ gs) (q .at) (run-of ended (length out - q .put) S' (drop (q .at) s)) =
         stepped ∙ ap gone-on (t .reply)
-        ∙ ap₂ (λ (X : Tables) (n : ℕ). run-lines ended (length out) X (g .found ++ gs) n (pieces-of ended (drop n s))) (sym (t .left)) (sym at)
+        ∙ behind-both (g .found) gs (w .at) (w .to - w .at) (run-of ended (length out - w .put - length (all-shown gs)) (step-of S its-line .left) (drop (w .to) s))
+        ∙ λ i. behind (g .found ++ gs) (sum i) (run-of ended (rest i) (sym (t .left) i) (drop (sym at i) s))
         in
         record {
           found = g .found ++ gs;
@@ -176,5 +194,5 @@ module _ {ended : Bool} {T S : Tables} {s out out1 : List ℕ} {w : Way} (g : Go
           fits = omega (arith, fits, size);
           line = aims .line;
           same = λ _. same;
-          done = λ h. same ∙ aims .none h S' (g .found ++ gs) bytes;
+          done = λ h. same ∙ ap (behind (g .found ++ gs) (q .at)) (aims .none h S') ∙ behind-stops (g .found ++ gs) (q .at) S' (q .stop);
         }

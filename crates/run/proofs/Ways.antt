@@ -1,6 +1,6 @@
 -- What comes next on the way through a piece. Assumes nothing.
 use Prim.Native.Nat.{ℕ, _+_, _-_, _≤_, _<_}
-use mathlib.Core.Path.{_≡_, refl, sym, ap, subst, _∙_}
+use mathlib.Core.Path.{_≡_, sym, ap, subst, _∙_}
 use mathlib.Core.Bool.{Bool, true, false}
 use mathlib.Core.List.{List, []}
 use native.Mathlib.Omega.{arith}
@@ -11,32 +11,27 @@ use Rattle.words.specs.Lists.{joined}
 use Rattle.numbers.specs.Writing.{put}
 use Rattle.numbers.proofs.Put.{put-none, length-put}
 use Rattle.history.specs.Report.{shown-finding}
-use Rattle.history.specs.declared.Finding.{Finding}
 use Rattle.answers.specs.declared.Answer.{Answer}
 use Rattle.report.specs.Shown.{most-shown, shown-answer}
 use Rattle.tables.specs.Tables.{Tables}
 use Rattle.pieces.specs.declared.Next.{Next}
 use Rattle.pieces.specs.declared.Next.the-variants as Next
-use Rattle.pieces.specs.Pieces.{next-of, pieces-of}
+use Rattle.pieces.specs.Pieces.{next-of}
 use Rattle.pieces.proofs.Nexts.{Line-next, line-next, more-next, end-next, pieces-next}
 use Rattle.run.specs.declared.Way.{Way}
 use Rattle.run.specs.declared.Stop.{Stop}
 use Rattle.run.specs.declared.Stop.the-variants as Stop
-use Rattle.run.specs.Running.{all-shown, stands, run-lines}
+use Rattle.run.specs.Running.{stops, run-lines, run-of}
 use Rattle.run.specs.Way.{As-far, Aims, Heard, line-accepted}
 
 module _ (ended : Bool) (size : ℕ) (s : List ℕ) (w : Way) {x : Next} (e : x ≡ next-of ended (take (length s - w .at) (drop (w .at) s))) where
   next-is : {y : Next} → x ≡ y → next-of ended (drop (w .at) s) ≡ y
   next-is p = ap (next-of ended) (sym (take-all (length s - w .at) (drop (w .at) s) (omega (arith, length-drop (w .at) s)))) ∙ sym e ∙ p
 
-  stops : {q : Way} (stop : Stop) → As-far w q → q .to ≡ q .at → q .stop ≡ stop
-      → ((T : Tables) (fs : List Finding) → w .put ≡ length (all-shown fs) → run-lines ended size T fs (w .at) (pieces-of ended (drop (w .at) s)) ≡ stands T fs (w .at) stop)
-      → Aims ended size s q
-  stops {q} stop far to told run =
-      record {
-        line = λ some. absurd (omega (arith, some, to));
-        none = λ _ T fs put. rw (far .at, told) (run T fs (sym (far .put) ∙ put));
-      }
+  stopped : {q : Way} (stop : Stop) → As-far w q → q .to ≡ q .at → q .stop ≡ stop
+      → ((T : Tables) → run-of ended (size - w .put) T (drop (w .at) s) ≡ stops T stop) → Aims ended size s q
+  stopped {q} stop far to told run =
+      record { line = λ some. absurd (omega (arith, some, to)); none = λ _ T. rw (far .at, far .put, told) (run T) }
 
   module _ {n : ℕ} (p : x ≡ Next.Line n) where
     there : Line-next (drop (w .at) s) n
@@ -60,25 +55,22 @@ module _ (ended : Bool) (size : ℕ) (s : List ℕ) (w : Way) {x : Next} (e : x 
         }
 
     -- there is no room for its findings
-    pub aim-full : {q : Way} → w .put ≤ size → size - w .put < most-shown → As-far w q → q .to ≡ q .at → q .stop ≡ Stop.Full → Aims ended size s q
-    unfolding run-lines
-    aim-full fits room far to told =
-        stops Stop.Full far to told
-        (λ T fs put.
-        let over : size < length (all-shown fs) + most-shown = omega (arith, fits, room, put) in
-        rw (pieces-next ended (drop (w .at) s) (Next.Line n) (next-is p), lt-ltb size (length (all-shown fs) + most-shown) over) refl)
+    pub aim-full : {q : Way} → size - w .put < most-shown → As-far w q → q .to ≡ q .at → q .stop ≡ Stop.Full → Aims ended size s q
+    unfolding run-of run-lines
+    aim-full room far to told =
+        stopped Stop.Full far to told (λ T. rw (pieces-next ended (drop (w .at) s) (Next.Line n) (next-is p), lt-ltb (size - w .put) most-shown room))
 
   pub aim-more : {q : Way} → x ≡ Next.More → As-far w q → q .to ≡ q .at → q .stop ≡ Stop.More → Aims ended size s q
-  unfolding run-lines
+  unfolding run-of run-lines
   aim-more p far to told =
       let before-end : ended ≡ false = more-next ended (drop (w .at) s) (next-is p) .0 in
-      stops Stop.More far to told (λ T fs _. rw (pieces-next ended (drop (w .at) s) Next.More (next-is p), before-end) refl)
+      stopped Stop.More far to told (λ T. rw (pieces-next ended (drop (w .at) s) Next.More (next-is p), before-end))
 
   pub aim-end : {q : Way} → x ≡ Next.End → As-far w q → q .to ≡ q .at → q .stop ≡ Stop.End → Aims ended size s q
-  unfolding run-lines
+  unfolding run-of run-lines
   aim-end p far to told =
       let at-end : ended ≡ true = end-next ended (drop (w .at) s) (next-is p) .0 in
-      stops Stop.End far to told (λ T fs _. rw (pieces-next ended (drop (w .at) s) Next.End (next-is p), at-end) refl)
+      stopped Stop.End far to told (λ T. rw (pieces-next ended (drop (w .at) s) Next.End (next-is p), at-end))
 
 -- ---- after the answer to a line
 

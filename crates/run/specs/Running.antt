@@ -1,5 +1,5 @@
 -- The run over a piece of the input, line by line, with the findings behind each other in a lent slice. Assumes nothing.
-use Prim.Native.Nat.{ℕ, _+_}
+use Prim.Native.Nat.{ℕ, _+_, _-_}
 use mathlib.Core.Bool.{Bool}
 use mathlib.Core.List.{List, [], _∷_, _++_}
 use lib.Dec.{ltb}
@@ -32,20 +32,28 @@ pub record Run : Type 0 where
 abbrev pub stands : Tables → List Finding → ℕ → Stop → Run
 stands T fs at stop = record { left = T; found = fs; taken = at; stop = stop }
 
-abbrev pub go-on : Tables → List Finding → ℕ → Reply → (List Finding → Run) → Run
-go-on T fs at (not-accepted k) rest = stands T fs at (Stop.Refused k)
-go-on T fs at (accepted gs) rest = rest gs
+-- before a line
+abbrev pub stops : Tables → Stop → Run
+stops T stop = stands T [] 0 stop
 
--- the next line is taken where the slice, of this size, has room for the findings of one more
-unfoldable pub run-lines : Bool → ℕ → Tables → List Finding → ℕ → List (List ℕ) → Run
-run-lines ended size T fs at [] = stands T fs at (if ended then Stop.End else Stop.More)
-run-lines ended size T fs at (line ∷ lines) =
-    let rest : List Finding → Run = λ gs. run-lines ended size (step-of T line .left) (fs ++ gs) (at + length line) lines in
-    if ltb size (length (all-shown fs) + most-shown) then stands T fs at Stop.Full else go-on T fs at (step-of T line .reply) rest
+-- behind so many bytes and these findings
+abbrev pub behind : List Finding → ℕ → Run → Run
+behind fs n r = stands (r .left) (fs ++ r .found) (n + r .taken) (r .stop)
+
+abbrev pub go-on : Tables → Reply → (List Finding → Run) → Run
+go-on T (not-accepted k) rest = stops T (Stop.Refused k)
+go-on T (accepted fs) rest = rest fs
+
+-- the next line is taken where there is room for its findings
+unfoldable pub run-lines : Bool → ℕ → Tables → List (List ℕ) → Run
+run-lines ended room T [] = stops T (if ended then Stop.End else Stop.More)
+run-lines ended room T (line ∷ lines) =
+    let rest : List Finding → Run = λ fs. behind fs (length line) (run-lines ended (room - length (all-shown fs)) (step-of T line .left) lines) in
+    if ltb room most-shown then stops T Stop.Full else go-on T (step-of T line .reply) rest
 
 -- over all pieces of these bytes
 unfoldable pub run-of : Bool → ℕ → Tables → List ℕ → Run
-run-of ended size T s = run-lines ended size T [] 0 (pieces-of ended s)
+run-of ended room T s = run-lines ended room T (pieces-of ended s)
 
 -- the reply, the tables left and the bytes left
 pub record Outcome : Type 0 where

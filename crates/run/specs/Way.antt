@@ -5,15 +5,14 @@ use mathlib.Core.Bool.{Bool}
 use mathlib.Core.List.{List}
 use lib.ListN.{length, drop}
 use Rattle.numbers.specs.Writing.{put}
-use Rattle.history.specs.declared.Finding.{Finding}
 use Rattle.answers.specs.declared.Answer.{Answer}
 use Rattle.report.specs.Shown.{most-shown, shown-answer}
 use Rattle.tables.specs.Tables.{Tables}
 use Rattle.pieces.specs.declared.Next.the-variants as Next
-use Rattle.pieces.specs.Pieces.{next-of, pieces-of}
+use Rattle.pieces.specs.Pieces.{next-of}
 use Rattle.run.specs.declared.Way.{Way}
 use Rattle.run.specs.declared.Stop.the-variants as Stop
-use Rattle.run.specs.Running.{all-shown, stands, run-lines}
+use Rattle.run.specs.Running.{stops, run-of}
 
 -- the way q has come as far as w
 pub record As-far (w q : Way) : Type 0 where
@@ -30,8 +29,7 @@ pub record Line-comes (ended : Bool) (size : ℕ) (s : List ℕ) (q : Way) : Typ
 -- a line comes next, or the run stops here
 pub record Aims (ended : Bool) (size : ℕ) (s : List ℕ) (q : Way) : Type 0 where
   pub line : q .at < q .to → Line-comes ended size s q
-  pub none : q .to ≤ q .at → (T : Tables) (fs : List Finding) → q .put ≡ length (all-shown fs)
-      → run-lines ended size T fs (q .at) (pieces-of ended (drop (q .at) s)) ≡ stands T fs (q .at) (q .stop)
+  pub none : q .to ≤ q .at → (T : Tables) → run-of ended (size - q .put) T (drop (q .at) s) ≡ stops T (q .stop)
 
 -- after the answer to the line that came next
 pub data Heard (ended : Bool) (s : List ℕ) (a : Answer) (w : Way) (out : List ℕ) (q : Way) (out' : List ℕ) : Type 0 where

@@ -19,9 +19,8 @@ aimed-spec =
     (λ c. search needs)
     (λ c κs. search needs)
     (λ c. let at-cut = c .before .before .before .before in
-    let fits = at-cut .before .before .before .before .before .pre .1 in
     let q = c .stopped .ensures in
-    (q .0, aim-full _ _ _ _ (at-cut .before .before .next-line .ensures) (at-cut .next .given .1) fits (c .before .if1 .taken) (q .0) (q .1) (q .2)))
+    (q .0, aim-full _ _ _ _ (at-cut .before .before .next-line .ensures) (at-cut .next .given .1) (c .before .if1 .taken) (q .0) (q .1) (q .2)))
     (λ c. let at-cut = c .before .before .before in
     let start = at-cut .before .before .before .before .before in
     omega (arith, line-within _ (start .args .size) (now (start .args .input)) (start .args .way) (at-cut .before .before .next-line .ensures) (at-cut .next .given .1) (start .pre .0)))
