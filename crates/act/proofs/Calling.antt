@@ -8,40 +8,33 @@ use lib.Dec.{eqb}
 use lib.IntN.{ℤ}
 use lib.ListN.{length}
 use Rattle.words.specs.Choice.{if_then_else_}
-use Rattle.facts.specs.Table.{fact-of, family, is-critical}
+use Rattle.facts.specs.Table.{fact-of, family}
 use Rattle.facts.specs.Named.{PopLocalFrame}
+use Rattle.facts.specs.declared.Place.{Place}
+use Rattle.facts.specs.Results.{is-buffer-place}
 use Rattle.lines.specs.Line.{C}
 use Rattle.rows.specs.Table.{Table, table, found, ended, ended-all}
 use Rattle.rows.specs.References.{references, is-handle, from-frame}
 use Rattle.rows.specs.Pins.{pins, is-buffer}
 use Rattle.history.specs.Frames.{top-pushed}
-use Rattle.history.specs.Buffers.{is-buffer-place}
 use Rattle.book.specs.Threads.{thread-in}
 use Rattle.book.specs.Moves.{frame-popped, line-counted}
-use Rattle.tables.specs.Tables.{tables}
+use Rattle.tables.specs.Tables.{Tables, tables}
 use Rattle.tables.specs.Acting.{first-ended, is-delete, delete-owner, pin-owner, references-after, pins-after, book-after, acted}
 use Rattle.act.specs.Books.{popped, called-book}
-use Rattle.act.specs.Calls.{deleted, top-ended, called-references, released}
+use Rattle.act.specs.Calls.{deleted, top-ended, called-references, released, called}
 use Rattle.act.proofs.Choosing.{chosen, passed-over}
 
 -- ---- a handle
 
-module _ (T : Table) (t f a : ℕ) (b : Bool) (e : b ≡ is-delete f a) where
-  pub handle-ended : (T' : Table) (o r : ℕ) → b ≡ true → o ≡ delete-owner f t → r ≡ found references (is-handle o a) T → T' ≡ ended references T r
-      → T' ≡ deleted T t f a
-  unfolding deleted first-ended
-  handle-ended T' o r h eo er k =
-      chosen
-      (is-delete f a)
-      (ended references T (found references (is-handle (delete-owner f t) a) T))
-      T
-      (sym e ∙ h)
-      (k ∙ ap (ended references T) (er ∙ ap (λ (s : ℕ). found references (is-handle s a) T) eo))
-
-  pub no-handle-ended : b ≡ false → T ≡ deleted T t f a
+module _ (T : Table) (f a row : ℕ) (b : Bool) (e : b ≡ is-delete f a) where
+  pub handle-ended : (T' : Table) → b ≡ true → T' ≡ ended references T row → T' ≡ deleted T f a row
   unfolding deleted
-  no-handle-ended h =
-      passed-over (is-delete f a) (first-ended references (is-handle (delete-owner f t) a) T) T (sym e ∙ h) refl
+  handle-ended T' h k = chosen (is-delete f a) (ended references T row) T (sym e ∙ h) k
+
+  pub no-handle-ended : b ≡ false → T ≡ deleted T f a row
+  unfolding deleted
+  no-handle-ended h = passed-over (is-delete f a) (ended references T row) T (sym e ∙ h) refl
 
 -- ---- the top frame
 
@@ -75,35 +68,20 @@ module _ (T : Table) (b : List ℕ) (t f : ℕ) (y : Bool) (e : y ≡ (eqb f Pop
       (sym e ∙ h)
       refl
 
-pub references-called : (T S S' : Table) (b : List ℕ) (t f a : ℕ) → S ≡ deleted T t f a → S' ≡ top-ended S b t f → S' ≡ called-references T b t f a
+pub references-called : (T S S' : Table) (b : List ℕ) (t f a row : ℕ) → S ≡ deleted T f a row → S' ≡ top-ended S b t f → S' ≡ called-references T b t f a row
 unfolding called-references
-references-called T S S' b t f a e k = k ∙ ap (λ (X : Table). top-ended X b t f) e
+references-called T S S' b t f a row e k = k ∙ ap (λ (X : Table). top-ended X b t f) e
 
 -- ---- a buffer
 
-module _ (P : Table) (t f v : ℕ) (b : Bool) (e : b ≡ is-buffer-place (fact-of f .b)) where
-  pub buffer-ended : (P' : Table) (k o r : ℕ) → b ≡ true → k ≡ family f → o ≡ (if is-critical k then t else 0) → r ≡ found pins (is-buffer o k v) P
-      → P' ≡ ended pins P r → P' ≡ released P t f v
-  unfolding released first-ended
-  buffer-ended P' k o r h ek eo er q =
-      chosen
-      (is-buffer-place (fact-of f .b))
-      (ended pins P (found pins (is-buffer (pin-owner f t) (family f) v) P))
-      P
-      (sym e ∙ h)
-      (q
-      ∙ ap (ended pins P) (er ∙ ap (λ (s : ℕ). found pins (is-buffer s k v) P) eo)
-      ∙ ap (λ (j : ℕ). ended pins P (found pins (is-buffer (if is-critical j then t else 0) j v) P)) ek)
-
-  pub no-buffer-ended : b ≡ false → P ≡ released P t f v
+module _ (P : Table) (p : Place) (row : ℕ) (b : Bool) (e : b ≡ is-buffer-place p) where
+  pub buffer-ended : (P' : Table) → b ≡ true → P' ≡ ended pins P row → P' ≡ released P p row
   unfolding released
-  no-buffer-ended h =
-      passed-over
-      (is-buffer-place (fact-of f .b))
-      (first-ended pins (is-buffer (pin-owner f t) (family f) v) P)
-      P
-      (sym e ∙ h)
-      refl
+  buffer-ended P' h q = chosen (is-buffer-place p) (ended pins P row) P (sym e ∙ h) q
+
+  pub no-buffer-ended : b ≡ false → P ≡ released P p row
+  unfolding released
+  no-buffer-ended h = passed-over (is-buffer-place p) (ended pins P row) P (sym e ∙ h) refl
 
 -- ---- the book
 
@@ -132,24 +110,44 @@ one-of-two true true top T D E h = absurd (false≢true (sym (h refl)))
 one-of-two true false top T D E h = refl
 one-of-two false pop top T D E h = refl
 
-module _ (rs ms ps ns b rs' ms' ps' ns' b' : List ℕ) (t f a v : ℕ) where
-  pub called : table rs' ms' ≡ called-references (table rs ms) b t f a → table ps' ns' ≡ released (table ps ns) t f v → b' ≡ called-book b t f
-      → (env c : ℕ) (n : ℤ) (m : ℕ) → tables rs' ms' ps' ns' b' ≡ acted (C t env f a v c n) m (tables rs ms ps ns b)
-  unfolding acted references-after pins-after book-after called-references deleted top-ended released called-book popped
-  called er ep eb env c n m =
-      let rows : table rs' ms'
-      ≡ (if is-delete f a then first-ended references (is-handle (delete-owner f t) a) (table rs ms)
-      else if eqb f PopLocalFrame && top-pushed (thread-in b t .frames) then
-      ended-all references (from-frame t (length (thread-in b t .frames))) (table rs ms)
-      else table rs ms) =
-      er
-      ∙ one-of-two
-      (is-delete f a)
-      (eqb f PopLocalFrame)
-      (top-pushed (thread-in b t .frames))
-      (table rs ms)
-      (first-ended references (is-handle (delete-owner f t) a) (table rs ms))
-      (ended-all references (from-frame t (length (thread-in b t .frames))))
-      (no-delete f a)
-      in
-      λ i. record { references = rows i; pins = ep i; book = eb i }
+pub tables-called : (rs ms ps ns b rs' ms' ps' ns' b' : List ℕ) (t f a x : ℕ) (p : Place) (y : ℕ) → table rs' ms' ≡ called-references (table rs ms) b t f a x
+    → table ps' ns' ≡ released (table ps ns) p y → b' ≡ called-book b t f → tables rs' ms' ps' ns' b' ≡ called (tables rs ms ps ns b) t f a x p y
+unfolding called
+tables-called rs ms ps ns b rs' ms' ps' ns' b' t f a x p y er ep eb i = record { references = er i; pins = ep i; book = eb i }
+
+if-same : {A : Type 0} (d : Bool) (x y z : A) → (d ≡ true → x ≡ y) → (if d then x else z) ≡ (if d then y else z)
+if-same true x y z h = h refl
+if-same false x y z h = refl
+
+called-acts : (T : Tables) (t env f a b c : ℕ) (n : ℤ) (m x y : ℕ) → (is-delete f a ≡ true → x ≡ found references (is-handle (delete-owner f t) a) (T .references))
+    → (is-buffer-place (fact-of f .b) ≡ true → y ≡ found pins (is-buffer (pin-owner f t) (family f) b) (T .pins)) → called T t f a x (fact-of f .b) y ≡ acted (C t env f a b c n) m T
+unfolding called acted references-after pins-after book-after called-references deleted top-ended released called-book popped first-ended
+called-acts T t env f a b c n m x y hx hy =
+    let rows : (if eqb f PopLocalFrame && top-pushed (thread-in (T .book) t .frames) then
+    ended-all references (from-frame t (length (thread-in (T .book) t .frames))) (if is-delete f a then ended references (T .references) x else T .references)
+    else if is-delete f a then ended references (T .references) x
+    else T .references)
+    ≡ (if is-delete f a then ended references (T .references) (found references (is-handle (delete-owner f t) a) (T .references))
+    else if eqb f PopLocalFrame && top-pushed (thread-in (T .book) t .frames) then
+    ended-all references (from-frame t (length (thread-in (T .book) t .frames))) (T .references)
+    else T .references) =
+    one-of-two
+    (is-delete f a)
+    (eqb f PopLocalFrame)
+    (top-pushed (thread-in (T .book) t .frames))
+    (T .references)
+    (ended references (T .references) x)
+    (ended-all references (from-frame t (length (thread-in (T .book) t .frames))))
+    (no-delete f a)
+    ∙ if-same (is-delete f a) _ _ _ (λ h. ap (ended references (T .references)) (hx h))
+    in
+    let buffers : (if is-buffer-place (fact-of f .b) then ended pins (T .pins) y else T .pins)
+    ≡ (if is-buffer-place (fact-of f .b) then ended pins (T .pins) (found pins (is-buffer (pin-owner f t) (family f) b) (T .pins)) else T .pins) =
+    if-same (is-buffer-place (fact-of f .b)) _ _ _ (λ h. ap (ended pins (T .pins)) (hy h))
+    in
+    λ i. record { references = rows i; pins = buffers i; book = called-book (T .book) t f }
+
+-- where the rows and the place told are those that an accepted C looks at
+pub called-is-acted : (T : Tables) (t env f a b c : ℕ) (n : ℤ) (m x : ℕ) (p : Place) (y : ℕ) → (is-delete f a ≡ true → x ≡ found references (is-handle (delete-owner f t) a) (T .references))
+    → p ≡ fact-of f .b → (is-buffer-place (fact-of f .b) ≡ true → y ≡ found pins (is-buffer (pin-owner f t) (family f) b) (T .pins)) → called T t f a x p y ≡ acted (C t env f a b c n) m T
+called-is-acted T t env f a b c n m x p y hx e hy = ap (λ (q : Place). called T t f a x q y) e ∙ called-acts T t env f a b c n m x y hx hy

@@ -3,5 +3,5 @@ pub mod Choosing
 pub mod Owning
 pub mod Calling
 pub mod Counting
-pub mod Giving
+pub mod Returning
 pub mod Whole

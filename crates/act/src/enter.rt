@@ -1,5 +1,7 @@
 // N opens a frame, makes its handles as locals in it, and clears pending.
+use rows::Number;
 use rows::references::Reference;
+use words::Handle;
 ghost use mathlib.Core.Path.{_≡_};
 ghost use mathlib.Core.Bool.{false};
 ghost use mathlib.Core.List.{List};
@@ -15,7 +17,7 @@ ghost use Rattle.act.specs.Books.{entered-book};
 const NATIVE_CAPACITY: u64 = 16;
 
 // A row for each handle, in their order.
-fn take_all(rows: &mut [u32], marks: &mut [u64], t: u32, d: u32, hs: &[u32])
+fn take_all(rows: &mut [Number], marks: &mut [u64], t: u32, d: u32, hs: &[Handle])
     ensures { λ _. ⌜ table (now (rows .exit)) (now (marks .exit)) ≡ all-taken references (table (now (rows .entry)) (now (marks .entry))) (locals t d (now (hs .entry))) ⌝ }
 {
     let mut i = 0;
@@ -34,7 +36,7 @@ fn take_all(rows: &mut [u32], marks: &mut [u64], t: u32, d: u32, hs: &[u32])
 }
 
 // A thread's env is that of its first N.
-fn keep_env(book: &mut [u64], t: u32, env: u32)
+fn keep_env(book: &mut [u64], t: u32, env: Handle)
     ensures { λ _. ⌜ now (book .exit) ≡ env-kept (now (book .entry)) t env ⌝ }
 {
     if book::env_of(book, t) == 0 {
@@ -42,7 +44,7 @@ fn keep_env(book: &mut [u64], t: u32, env: u32)
     }
 }
 
-fn write_book(book: &mut [u64], t: u32, env: u32)
+fn write_book(book: &mut [u64], t: u32, env: Handle)
     ensures { λ _. ⌜ now (book .exit) ≡ entered-book (now (book .entry)) t env ⌝ }
 {
     book::push_frame(book, t, NATIVE_CAPACITY, false);
@@ -51,7 +53,14 @@ fn write_book(book: &mut [u64], t: u32, env: u32)
     book::count_line(book);
 }
 
-pub fn enter(rows: &mut [u32], marks: &mut [u64], book: &mut [u64], t: u32, env: u32, hs: &[u32])
+pub fn enter(
+    rows: &mut [Number],
+    marks: &mut [u64],
+    book: &mut [u64],
+    t: u32,
+    env: Handle,
+    hs: &[Handle],
+)
     ensures { λ _. ⌜ ((ps ns : List ℕ) (n : ℕ) → tables (now (rows .exit)) (now (marks .exit)) ps ns (now (book .exit)) ≡ acted (N t env (now (hs .entry))) n (tables (now (rows .entry)) (now (marks .entry)) ps ns (now (book .entry)))) ⌝ }
 {
     let d = book::frames_of(book, t);

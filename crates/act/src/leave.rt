@@ -1,4 +1,5 @@
 // X ends all locals and frames of its native, pushed frames included.
+use rows::Number;
 ghost use mathlib.Core.Path.{_≡_};
 ghost use mathlib.Core.List.{List};
 ghost use Prim.Native.Nat.{ℕ};
@@ -14,7 +15,7 @@ fn write_book(book: &mut [u64], t: u32)
     book::count_line(book);
 }
 
-pub fn leave(rows: &mut [u32], marks: &mut [u64], book: &mut [u64], t: u32)
+pub fn leave(rows: &mut [Number], marks: &mut [u64], book: &mut [u64], t: u32)
     ensures { λ _. ⌜ ((ps ns : List ℕ) (n r : ℕ) → tables (now (rows .exit)) (now (marks .exit)) ps ns (now (book .exit)) ≡ acted (X t r) n (tables (now (rows .entry)) (now (marks .entry)) ps ns (now (book .entry)))) ⌝ }
 {
     let d = book::frames_left(book, t);

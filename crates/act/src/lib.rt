@@ -2,7 +2,6 @@
 pub mod call;
 pub mod end;
 pub mod enter;
-mod functions;
-pub mod give;
 pub mod leave;
 mod owner;
+pub mod returns;

@@ -1,4 +1,4 @@
--- What is judged of a line lists the line's findings, and nothing judged lists none.
+-- What is judged of a line lists its findings, rule by rule, and nothing judged lists none.
 use Prim.Native.Nat.{ℕ, suc, _+_}
 use mathlib.Core.Path.{_≡_, refl, _∙_}
 use mathlib.Core.Bool.{Bool, true, false, not, _&&_, _||_, false≢true}
@@ -8,25 +8,20 @@ use native.Mathlib.Omega.{arith}
 use borrow.Author.Tests.{ne-eqb, eqb-true, not-true}
 use lib.Dec.{eqb}
 use lib.IntN.{ℤ}
-use Rattle.words.specs.Lists.{joined, sum}
-use Rattle.facts.specs.Table.{fact-of}
-use Rattle.facts.specs.declared.Place.the-variants as Place
-use Rattle.lines.specs.Line.{N, X, C, R, Z}
-use Rattle.lines.specs.Reading.{size}
-use Rattle.history.specs.Thread.{all-threads}
+use Rattle.words.specs.Lists.{joined}
+use Rattle.lines.specs.Line.{N, R, Z}
+use Rattle.lines.specs.Reading.{above-zero}
 use Rattle.history.specs.Handles.{global-or-weak}
 use Rattle.history.specs.Acceptance.{everything}
 use Rattle.history.specs.Seen.{Seen}
-use Rattle.history.specs.Breaches.{when, is-rule, some-of, place-rule, rule-at, line-rule, call-rule, end-rule, overflows, breach}
-use Rattle.history.specs.Findings.{rules, places, found, of-line}
+use Rattle.history.specs.Breaches.{when, is-rule, some-of, place-rule, rule-at, line-rule, end-rule, overflows, breach}
+use Rattle.history.specs.Findings.{rules, found, of-line}
 use Rattle.history.specs.declared.Finding.{Finding}
 use Rattle.answers.specs.declared.Judged.{Judged}
 use Rattle.answers.specs.Listed.{rule-number, listed, is-clean}
-use Rattle.answers.specs.Judging.{judged-call, judged-leave}
-use Rattle.answers.proofs.Found.{of-one-rule}
 
 -- a rule is one of eleven
-by-rules : (f g : ℕ → List Finding) → f 1 ≡ g 1 → f 2 ≡ g 2 → f 3 ≡ g 3 → f 4 ≡ g 4 → f 5 ≡ g 5 → f 6 ≡ g 6 → f 7 ≡ g 7 → f 8 ≡ g 8 → f 9 ≡ g 9 → f 10 ≡ g 10 → f 11 ≡ g 11
+pub by-rules : (f g : ℕ → List Finding) → f 1 ≡ g 1 → f 2 ≡ g 2 → f 3 ≡ g 3 → f 4 ≡ g 4 → f 5 ≡ g 5 → f 6 ≡ g 6 → f 7 ≡ g 7 → f 8 ≡ g 8 → f 9 ≡ g 9 → f 10 ≡ g 10 → f 11 ≡ g 11
     → joined rules f ≡ joined rules g
 by-rules f g p1 p2 p3 p4 p5 p6 p7 p8 p9 p10 p11 i =
     p1 i ++ (p2 i ++ (p3 i ++ (p4 i ++ (p5 i ++ (p6 i ++ (p7 i ++ (p8 i ++ (p9 i ++ (p10 i ++ (p11 i ++ []))))))))))
@@ -38,72 +33,50 @@ is-rule-number k (some r) = refl
 
 -- the findings of one rule, where the whole line and the three places are as judged
 module _ (line : ℕ) (k : ℕ) (w : Option ℕ) (o1 o2 o3 : Option ℕ) (a b c : ℕ) where
-  abbrev as-seen : List Finding
+  abbrev pub as-seen : List Finding
   as-seen =
       found line (suc k) 0 w
       ++ (found line (suc k) 1 (when (is-rule (suc k) o1) a)
       ++ (found line (suc k) 2 (when (is-rule (suc k) o2) b)
       ++ (found line (suc k) 3 (when (is-rule (suc k) o3) c) ++ [])))
 
-  abbrev as-judged : List Finding
+  abbrev pub as-judged : List Finding
   as-judged =
       found line (suc k) 0 w
       ++ (found line (suc k) 1 (when (eqb (suc k) (rule-number o1)) a)
       ++ (found line (suc k) 2 (when (eqb (suc k) (rule-number o2)) b)
       ++ (found line (suc k) 3 (when (eqb (suc k) (rule-number o3)) c) ++ [])))
 
-  same-of-rule : as-judged ≡ as-seen
+  pub same-of-rule : as-judged ≡ as-seen
   same-of-rule i =
       found line (suc k) 0 w
       ++ (found line (suc k) 1 (when (is-rule-number k o1 i) a)
       ++ (found line (suc k) 2 (when (is-rule-number k o2 i) b)
       ++ (found line (suc k) 3 (when (is-rule-number k o3 i) c) ++ [])))
 
-pub call-listed : (t env f a b c : ℕ) (n : ℤ) (v : Seen) → listed (judged-call (suc (v .lines)) t env f a b c v) ≡ of-line (C t env f a b c n) v
-unfolding listed judged-call of-line breach rule-at line-rule call-rule
-call-listed t env f a b c n v =
-    by-rules (of-one-rule (judged-call (suc (v .lines)) t env f a b c v)) (λ rule. joined places λ place. found (suc (v .lines)) rule place (breach (C t env f a b c n) v rule place))
-    (same 0) (same 1) (same 2) (same 3) (same 4) (same 5) (same 6) (same 7) (same 8) (same 9) (same 10)
-  where
-    same : (k : ℕ)
-        → as-judged (suc (v .lines)) k (call-rule t env f v (suc k)) (place-rule (fact-of f .a) t f a v) (place-rule (fact-of f .b) t f b v) (place-rule (fact-of f .c) t f c v) a b c
-        ≡ as-seen (suc (v .lines)) k (call-rule t env f v (suc k)) (place-rule (fact-of f .a) t f a v) (place-rule (fact-of f .b) t f b v) (place-rule (fact-of f .c) t f c v) a b c
-    same k = same-of-rule (suc (v .lines)) k (call-rule t env f v (suc k)) (place-rule (fact-of f .a) t f a v) (place-rule (fact-of f .b) t f b v) (place-rule (fact-of f .c) t f c v) a b c
-
-pub leave-listed : (t r : ℕ) (v : Seen) → listed (judged-leave (suc (v .lines)) t r v) ≡ of-line (X t r) v
-unfolding listed judged-leave of-line breach rule-at line-rule place-rule
-leave-listed t r v =
-    by-rules (of-one-rule (judged-leave (suc (v .lines)) t r v)) (λ rule. joined places λ place. found (suc (v .lines)) rule place (breach (X t r) v rule place))
-    (same 0) (same 1) (same 2) (same 3) (same 4) (same 5) (same 6) (same 7) (same 8) (same 9) (same 10)
-  where
-    same : (k : ℕ)
-        → as-judged (suc (v .lines)) k (line-rule (X t r) v (suc k)) (place-rule Place.HandleOrNull t 0 r v) none none r 0 0
-        ≡ as-seen (suc (v .lines)) k (line-rule (X t r) v (suc k)) (place-rule Place.HandleOrNull t 0 r v) none none r r r
-    same k = same-of-rule (suc (v .lines)) k (line-rule (X t r) v (suc k)) (place-rule Place.HandleOrNull t 0 r v) none none r 0 0
-
-pub return-listed : (t f p : ℕ) (r : ℤ) (v : Seen) → of-line (R t f r p) v ≡ found (suc (v .lines)) 11 0 (when (overflows t f (size r) v) (size r))
+pub return-listed : (line t f p : ℕ) (r : ℤ) (v : Seen) → of-line line (R t f r p) v ≡ found line 11 0 (when (overflows t f (above-zero r) v) (above-zero r))
 unfolding of-line breach rule-at line-rule place-rule
-return-listed t f p r v =
-    let x = found (suc (v .lines)) 11 0 (when (overflows t f (size r) v) (size r)) in
+return-listed line t f p r v =
+    let x = found line 11 0 (when (overflows t f (above-zero r) v) (above-zero r)) in
     append-nil (x ++ []) ∙ append-nil x
 
-pub end-listed : (v : Seen)
-    → of-line Z v
-    ≡ found (suc (v .lines)) 8 0 (some-of (v .buffers everything))
-    ++ (found (suc (v .lines)) 9 0 (some-of (sum (v .monitors) all-threads)) ++ found (suc (v .lines)) 10 0 (some-of (v .handles global-or-weak)))
+pub end-listed : (line : ℕ) (v : Seen)
+    → of-line line Z v
+    ≡ found line 8 0 (some-of (v .buffers everything))
+    ++ (found line 9 0 (some-of (v .all-monitors)) ++ found line 10 0 (some-of (v .handles global-or-weak)))
 unfolding of-line breach rule-at line-rule end-rule place-rule
-end-listed v =
+end-listed line v =
     three
-    (found (suc (v .lines)) 8 0 (some-of (v .buffers everything)))
-    (found (suc (v .lines)) 9 0 (some-of (sum (v .monitors) all-threads)))
-    (found (suc (v .lines)) 10 0 (some-of (v .handles global-or-weak)))
+    (found line 8 0 (some-of (v .buffers everything)))
+    (found line 9 0 (some-of (v .all-monitors)))
+    (found line 10 0 (some-of (v .handles global-or-weak)))
   where
     three : (a b c : List Finding) → (a ++ []) ++ ((b ++ []) ++ ((c ++ []) ++ [])) ≡ a ++ (b ++ c)
     three a b c = λ i. append-nil a i ++ (append-nil b i ++ (append-nil (c ++ []) ∙ append-nil c) i)
 
-pub enter-listed : (t env : ℕ) (hs : List ℕ) (v : Seen) → of-line (N t env hs) v ≡ []
+pub enter-listed : (line t env : ℕ) (hs : List ℕ) (v : Seen) → of-line line (N t env hs) v ≡ []
 unfolding of-line breach rule-at line-rule place-rule
-enter-listed t env hs v = refl
+enter-listed line t env hs v = refl
 
 -- ---- nothing judged
 

@@ -1,5 +1,6 @@
 // What the judge answers to a line: the number given instead of an event, or the line's findings in their order.
 use history::Finding;
+use words::Handle;
 ghost use mathlib.Core.Path.{_≡_};
 ghost use mathlib.Core.List.{[]};
 ghost use Rattle.answers.specs.Answer.{refused-with, answer-of, with-found, found-if};
@@ -18,17 +19,17 @@ pub struct Answer {
 pub struct Judged {
     pub line: u32,
     pub foreign: bool,
-    pub env: u32,
+    pub env: Handle,
     pub pending: bool,
     pub critical: bool,
     pub unheld: bool,
     pub unpushed: bool,
     pub rule1: u32,
-    pub a: u32,
+    pub a: Handle,
     pub rule2: u32,
-    pub b: u32,
+    pub b: Handle,
     pub rule3: u32,
-    pub c: u32,
+    pub c: Handle,
 }
 
 pub fn refused(refusal: u8) -> Answer
@@ -76,7 +77,7 @@ pub fn and_found_if(
     line: u32,
     rule: u32,
     place: u32,
-    thing: u32,
+    thing: Handle,
 ) -> Answer
     ensures { λ r. ⌜ r ≡ found-if answer is line rule place thing ⌝ }
 {
@@ -96,7 +97,7 @@ pub fn and_found_if(
 }
 
 // The findings of one rule, by place.
-fn and_rule(answer: Answer, x: Judged, rule: u32, whole: bool, thing: u32) -> Answer
+fn and_rule(answer: Answer, x: Judged, rule: u32, whole: bool, thing: Handle) -> Answer
     ensures { λ r. ⌜ r ≡ of-rule answer x rule whole thing ⌝ }
 {
     let p0 = and_found_if(answer, whole, x.line, rule, 0, thing);

@@ -15,7 +15,7 @@ use Rattle.history.specs.Frames.{without-native, without-pushed}
 use Rattle.history.specs.Acceptance.{deepest}
 use Rattle.history.specs.Replies.{most-lines}
 use Rattle.book.specs.Layout.{width, lines-at, closed-at, env-at, pending-at, monitors-at, frames-at, capacity-at, items-at, natives-at, cell, Write, into, wrote, Stands}
-use Rattle.book.specs.Threads.{Row, Thread, thread-of, thread-in, frame-is, top-capacity, no-function, word, item-is, items-of, items-in, natives-of, natives, top-is, lines-in, closed-in}
+use Rattle.book.specs.Threads.{Row, Thread, thread-of, thread-in, frame-is, top-capacity, no-function, item-bound, item-is, items-of, items-in, natives-of, natives, top-is, lines-in, closed-in}
 use Rattle.book.specs.declared.Top.{Top}
 use Rattle.book.specs.declared.Top.the-variants as Top
 use Rattle.book.specs.Moves.{push-frame, frame-pushed, leave-native, native-left, pop-frame, frame-popped, raise-capacity, capacity-raised, push-item, item-pushed, pop-item, item-popped, env-set, pending-set, monitor-added, monitor-taken}
@@ -215,11 +215,11 @@ pub pushed-native : (n : ℕ) → item-is no-function n ≡ in-native
 unfolding item-is
 pushed-native n = refl
 
-pub pushed-call : (f n : ℕ) → 0 < f → f < word → n < word → item-is f n ≡ in-call f n
+pub pushed-call : (f n : ℕ) → 0 < f → f < item-bound → n < item-bound → item-is f n ≡ in-call f n
 unfolding item-is
 pushed-call f n z a b =
-    let x : f % word ≡ f = omega arith in
-    let y : n % word ≡ n = omega arith in
+    let x : f % item-bound ≡ f = omega arith in
+    let y : n % item-bound ≡ n = omega arith in
     rw (ne-eqb f no-function (λ q. absurd (omega arith)), x, y)
 
 -- ---- the top item has one form in the code

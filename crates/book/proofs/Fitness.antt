@@ -1,12 +1,12 @@
 -- For callers: when a book is fit, and what a fit one has. Assumes nothing.
 use Prim.Native.Nat.{ℕ, _≤_, min}
 use mathlib.Core.Path.{_≡_, refl, ap, _∙_}
-use mathlib.Core.Bool.{Bool, false, _&&_, _||_}
+use mathlib.Core.Bool.{Bool, false, _||_}
 use mathlib.Core.List.{List, []}
 use native.Mathlib.Decide.{ℕ-discrete}
 use native.Mathlib.Omega.{arith}
 use lib.ListN.{length}
-use lib.Dec.{eqb, ltb}
+use lib.Dec.{ltb}
 use borrow.Author.Tests.{le-ltb, ltb-false}
 use Rattle.words.specs.Lists.{any, sum}
 use Rattle.lines.specs.Line.{threads}
@@ -88,20 +88,12 @@ fit-threads b t h x y =
 pub fit-stands : (b : List ℕ) (t : ℕ) → unfit b ≡ false → t ≤ threads → Stands b t
 fit-stands b t h l = omega (arith, fit-long b h)
 
-pub fit-monitors : (b : List ℕ) (t : ℕ) → unfit b ≡ false → 1 ≤ t → t ≤ threads → thread-in b t .monitors ≤ most-lines
-unfolding overdone-in thread-in thread-of
-fit-monitors b t h x y =
-    ltb-false most-lines (cell b t monitors-at)
-    (or-right
-    (ltb deepest (cell b t items-at) || ltb deepest (cell b t frames-at) || ltb (cell b t frames-at) (cell b t natives-at) || (ltb 0 (cell b t items-at) && eqb (cell b t frames-at) 0))
-    (ltb most-lines (cell b t monitors-at)) (fit-threads b t h x y))
-
--- so monitors of all threads are their sum
-pub all-monitors-are : (b : List ℕ) → unfit b ≡ false → all-monitors b ≡ sum (λ (t : ℕ). thread-in b t .monitors) all-threads
+-- monitors of all threads are their sum, where no thread has too many
+pub all-monitors-are : (b : List ℕ) → ((t : ℕ) → thread-in b t .monitors ≤ most-lines) → all-monitors b ≡ sum (λ (t : ℕ). thread-in b t .monitors) all-threads
 unfolding all-monitors
-all-monitors-are b h =
+all-monitors-are b few =
     sum-same (λ (t : ℕ). min (thread-in b t .monitors) most-lines) (λ (t : ℕ). thread-in b t .monitors)
-    (λ t x y. omega (arith, fit-monitors b t h x y))
+    (λ t x y. omega (arith, few t))
 
 -- ---- fit before a move: only what it changes is to be looked at again
 fit-by : (b : List ℕ) → whole ≤ length b → lines-in b ≤ most-lines → ((t : ℕ) → 1 ≤ t → t ≤ threads → overdone-in b t ≡ false) → unfit b ≡ false

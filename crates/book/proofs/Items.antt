@@ -12,7 +12,7 @@ use Rattle.words.specs.Choice.{if_then_else_, one}
 use Rattle.history.specs.Items.{Item, in-native, in-call, top-of, is-native}
 use Rattle.history.specs.Acceptance.{deepest}
 use Rattle.book.specs.Layout.{width, frames-at, items-at, natives-at, function-at, asked-at, Write, into}
-use Rattle.book.specs.Threads.{Row, stack, opened, no-function, word, item-is, items-of, natives-of, natives}
+use Rattle.book.specs.Threads.{Row, stack, opened, no-function, item-bound, item-is, items-of, natives-of, natives}
 use Rattle.book.specs.Moves.{push-item, pop-item}
 use Rattle.book.specs.Changes.{Kept}
 use Rattle.book.proofs.Rows.{after, Among, none as nothing, more, after-apart}
@@ -142,7 +142,7 @@ natives-more : (f n : ℕ) (is : List Item) → natives (item-is f n ∷ is) ≡
 unfolding item-is
 natives-more f n is = go (eqb f no-function)
   where
-    go : (b : Bool) → natives ((if b then in-native else in-call (f % word) (n % word)) ∷ is) ≡ natives is + one b
+    go : (b : Bool) → natives ((if b then in-native else in-call (f % item-bound) (n % item-bound)) ∷ is) ≡ natives is + one b
     go true = omega arith
     go false = omega arith
 

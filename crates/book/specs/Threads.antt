@@ -75,11 +75,11 @@ abbrev pub no-function : ℕ
 no-function = 0
 
 -- an item's two numbers are read as unsigned 32-bit ones
-abbrev pub word : ℕ
-word = 4294967296
+abbrev pub item-bound : ℕ
+item-bound = 4294967296
 
 unfoldable pub item-is : ℕ → ℕ → Item
-item-is f n = if eqb f no-function then in-native else in-call (f % word) (n % word)
+item-is f n = if eqb f no-function then in-native else in-call (f % item-bound) (n % item-bound)
 
 unfoldable pub items-of : Row → List Item
 items-of c = stack (λ i. item-is (c (function-at i)) (c (asked-at i))) (opened c)

@@ -1,4 +1,5 @@
 // The lent thread book: a row of numbers for each thread, and row 0 for the trace itself. Every function takes any contents, any thread and a short book too.
+use lines::ranges::THREADS;
 ghost use Prim.Native.Nat.{_-_, _<_, _≤_, min, max};
 ghost use mathlib.Core.Path.{_≡_};
 ghost use mathlib.Core.Option.{some};
@@ -25,13 +26,11 @@ const WIDTH: usize = 264;
 
 pub const WHOLE: usize = 4488;
 
-const THREADS: u32 = 16;
-
 // The most open items, and frames, of a thread.
-const DEEPEST: u64 = 64;
+pub const DEEPEST: u64 = 64;
 
 // The most lines, and monitors.
-const MOST_LINES: u64 = 1000000;
+pub const MOST_LINES: u64 = 1000000;
 
 // The columns of a row. The first two are of row 0 alone, the last four of open items.
 const LINES: usize = 0;
@@ -59,7 +58,7 @@ const FUNCTIONS: usize = 136;
 const ASKED: usize = 200;
 
 // An item's two numbers are read as u32.
-const WORD: u64 = 4294967296;
+const ITEM_BOUND: u64 = 4294967296;
 
 // The function of a native, to push one.
 pub const NO_FUNCTION: u32 = 0;
@@ -302,7 +301,7 @@ fn item_is(f: u64, n: u64) -> Top
     if f == NO_FUNCTION as u64 {
         return Top::Native;
     }
-    Top::Call((f % WORD) as u32, (n % WORD) as u32)
+    Top::Call((f % ITEM_BOUND) as u32, (n % ITEM_BOUND) as u32)
 }
 
 pub fn top_item(book: &[u64], t: u32) -> Top

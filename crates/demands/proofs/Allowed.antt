@@ -11,12 +11,13 @@ use Rattle.words.specs.Choice.{if_then_else_}
 use Rattle.numbers.specs.Signed.{is-i32, largest-i32}
 use Rattle.facts.specs.Table.{fact-of, family, is-critical, is-function, first-function, last-function}
 use Rattle.facts.specs.Named.{PushLocalFrame, EnsureLocalCapacity}
+use Rattle.facts.specs.Results.{is-buffer-result}
 use Rattle.lines.specs.Line.{Line, N, X, C, R, Z, is-allowed, is-thread, is-env, is-value, threads, place-allows, capacity-allows, is-zero}
-use Rattle.lines.specs.Reading.{size}
+use Rattle.lines.specs.Reading.{above-zero}
 use Rattle.history.specs.Past.{History, thread-of, is-of}
 use Rattle.history.specs.Frames.{depth}
 use Rattle.history.specs.Handles.{Alive, makes}
-use Rattle.history.specs.Buffers.{Pin, ordinary, critical, pin, is-buffer-result, gets}
+use Rattle.history.specs.Buffers.{Pin, ordinary, critical, pin, gets}
 use Rattle.history.specs.Lives.{Makes, argument, local-result, global-result, weak-result}
 use Rattle.history.proofs.Tests.{and-left, and-right}
 use Rattle.history.proofs.Living.{made-makes}
@@ -62,16 +63,16 @@ unfolding gets
 gets-owned (N t env hs) h x m = absurd (List·Memᴰ·not-nil m)
 gets-owned (X t r) h x m = absurd (List·Memᴰ·not-nil m)
 gets-owned (C t env f a b c n) h x m = absurd (List·Memᴰ·not-nil m)
-gets-owned (R t f r p) h x m = go (is-buffer-result (fact-of f .result) && not (eqb (size r) 0)) m
+gets-owned (R t f r p) h x m = go (is-buffer-result (fact-of f .result) && not (eqb (above-zero r) 0)) m
   where
-    its-own : unowned (pin t f (size r)) ≡ false
+    its-own : unowned (pin t f (above-zero r)) ≡ false
     its-own = unfold pin in of-family (is-critical (family f))
       where
-        of-family : (q : Bool) → unowned (if q then critical t (family f) (size r) else ordinary (family f) (size r)) ≡ false
+        of-family : (q : Bool) → unowned (if q then critical t (family f) (above-zero r) else ordinary (family f) (above-zero r)) ≡ false
         of-family true = not-thread-zero t (thread-of-R t f r p h)
         of-family false = refl
 
-    go : (q : Bool) → List·Memᴰ x (if q then pin t f (size r) ∷ [] else []) → unowned x ≡ false
+    go : (q : Bool) → List·Memᴰ x (if q then pin t f (above-zero r) ∷ [] else []) → unowned x ≡ false
     go true m = ap unowned (List·Memᴰ·eq-of-singleton m) ∙ its-own
     go false m = absurd (List·Memᴰ·not-nil m)
 gets-owned Z h x m = absurd (List·Memᴰ·not-nil m)
@@ -82,13 +83,13 @@ gets-owned Z h x m = absurd (List·Memᴰ·not-nil m)
 pub record Asks (f : ℕ) (n : ℤ) : Type 0 where
   pub function-from : first-function ≤ f
   pub function-to : f ≤ last-function
-  pub size-to : size n ≤ largest-i32
+  pub size-to : above-zero n ≤ largest-i32
 
-i32-size : (n : ℤ) → is-i32 n ≡ true → size n ≤ largest-i32
+i32-size : (n : ℤ) → is-i32 n ≡ true → above-zero n ≤ largest-i32
 i32-size (pos n) h = leb-true n largest-i32 h
 i32-size (negsuc n) h = omega arith
 
-zero-size : (n : ℤ) → is-zero n ≡ true → size n ≤ largest-i32
+zero-size : (n : ℤ) → is-zero n ≡ true → above-zero n ≤ largest-i32
 zero-size (pos n) h = omega (arith, eqb-true n 0 h)
 zero-size (negsuc n) h = omega arith
 
@@ -103,6 +104,6 @@ asks t env f a b c n h =
       size-to = go (eqb f PushLocalFrame || eqb f EnsureLocalCapacity) (and-right places (capacity-allows f n) h);
     }
   where
-    go : (q : Bool) → (if q then is-i32 n else is-zero n) ≡ true → size n ≤ largest-i32
+    go : (q : Bool) → (if q then is-i32 n else is-zero n) ≡ true → above-zero n ≤ largest-i32
     go true k = i32-size n k
     go false k = zero-size n k

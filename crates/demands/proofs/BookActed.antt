@@ -15,7 +15,7 @@ use Rattle.history.specs.Past.{History, is-of}
 use Rattle.history.specs.Items.{items, top-of, asked}
 use Rattle.history.specs.Frames.{entered, pushed, frames, frames-after, without-pushed, depth}
 use Rattle.history.specs.Handles.{alive-in}
-use Rattle.history.specs.Capacities.{native-capacity, capacities, capacities-after}
+use Rattle.history.specs.Capacities.{native-capacity, Finds, capacities, capacities-after}
 use Rattle.history.specs.Thread.{pending, pending-after, monitors, monitors-after, env-after}
 use Rattle.history.specs.Acceptance.{deepest}
 use Rattle.history.specs.Replies.{most-lines}
@@ -34,7 +34,7 @@ unfoldable pub thread-after : Line → ℕ → ℕ → Thread → Thread
 thread-after e held n x =
     record {
       frames = frames-after e (x .frames);
-      capacities = capacities-after e (length (x .frames) - length (frames-after e (x .frames))) held n (x .capacities);
+      capacities = capacities-after e (record { gone = length (x .frames) - length (frames-after e (x .frames)); held = held; asked = n }) (x .capacities);
       pending = pending-after e (x .pending);
       monitors = monitors-after e (x .monitors);
       env = env-after e (x .env);
@@ -53,11 +53,14 @@ module _ (t : ℕ) (e : Line) (past : History) where
         env = own-env t e past o i;
       }
     where
+      finds : ℕ → Finds
+      finds d = record { gone = length (frames t past) - d; held = alive-in t (length (frames t past)) past; asked = asked (top-of (items t past)) }
+
       with-depth : capacities t (e ∷ past)
-          ≡ capacities-after e (length (frames t past) - length (frames-after e (frames t past))) (alive-in t (length (frames t past)) past) (asked (top-of (items t past))) (capacities t past)
+          ≡ capacities-after e (finds (length (frames-after e (frames t past)))) (capacities t past)
       with-depth =
           own-capacities t e past o
-          ∙ ap (λ (d : ℕ). capacities-after e (length (frames t past) - d) (alive-in t (length (frames t past)) past) (asked (top-of (items t past))) (capacities t past)) (own-depth t e past o)
+          ∙ ap (λ (d : ℕ). capacities-after e (finds d) (capacities t past)) (own-depth t e past o)
 
   pub past-thread-other : is-of t e ≡ false → past-thread t (e ∷ past) ≡ past-thread t past
   unfolding past-thread

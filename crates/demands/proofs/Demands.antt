@@ -1,5 +1,5 @@
 -- The judge over lent tables has all that is demanded of it. Assumes nothing.
-use Prim.Native.Nat.{ℕ, _<_}
+use Prim.Native.Nat.{ℕ, suc, _<_}
 use mathlib.Core.Path.{_≡_, refl, sym, ap, ap₂, _∙_}
 use mathlib.Core.Logic.{_↔_}
 use mathlib.Core.List.{List, [], _∷_, _++_}
@@ -57,7 +57,7 @@ module _ (T : Tables) (long : Long T) where
 
   refused-so : (past : History) (v : Read) (k : ℕ) → reply-of past v ≡ not-accepted k → v ≡ refused k
   refused-so past (refused j) k h = cc
-  refused-so past (says e) k h = absurd (accepted-not (of-line e (seen past)) k h)
+  refused-so past (says e) k h = absurd (accepted-not (of-line (suc (length past)) e (seen past)) k h)
 
   refused-are : (calls : List (List ℕ)) (bs : List ℕ) (k : ℕ)
       → (step-of (after (start-of T) calls) bs .reply ≡ not-accepted k) ↔ Weighs (room-of T) (heard (room-of T) calls) bs (refused k)

@@ -1,5 +1,5 @@
 -- Of tables that hold whatever they may: a refusal changes nothing, 8 is given exactly when the book is not fit, and a start forgets. Assumes nothing.
-use Prim.Native.Nat.{ℕ, _<_}
+use Prim.Native.Nat.{ℕ, suc, _<_}
 use mathlib.Core.Path.{_≡_, refl}
 use mathlib.Core.Logic.{_↔_}
 use mathlib.Core.Bool.{Bool, true, false, _&&_}
@@ -67,7 +67,7 @@ unfolding weighed-in
 line-sound T e is = go (eqb (refusal-in e (top-of is) (length is) T) 0)
   where
     fs : List Finding
-    fs = of-line e (seen-in T)
+    fs = of-line (suc (lines-in (T .book))) e (seen-in T)
 
     go : (q : Bool) → Sound 8 T (follow e (asked (top-of is)) (if q then accepted fs else not-accepted (refusal-in e (top-of is) (length is) T)) T)
     go true = stepped-sound 8 fs _ T

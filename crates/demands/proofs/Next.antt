@@ -12,7 +12,7 @@ use Rattle.words.specs.Choice.{if_then_else_}
 use Rattle.words.specs.Lists.{count}
 use Rattle.facts.specs.Named.{PushLocalFrame}
 use Rattle.lines.specs.Line.{Line, N, X, C, R, Z, is-allowed, is-zero, threads}
-use Rattle.lines.specs.Reading.{size}
+use Rattle.lines.specs.Reading.{above-zero}
 use Rattle.history.specs.Past.{History, thread-of, is-of, closed}
 use Rattle.history.specs.Items.{Item, items, items-after, top-of, asked}
 use Rattle.history.specs.Frames.{Frame, pushed, frames, frames-after, depth}
@@ -222,9 +222,9 @@ module _ (b : List ℕ) (past : History) (long : whole ≤ length b) (opened : I
   items-acted room (C t env f a d c n) fine fits =
       let e = C t env f a d c n in
       let k = asks t env f a d c n fine in
-      moved e t _ (λ is. item-is f (size n) ∷ is) (λ s. refl)
-      (ap (λ (i : Item). i ∷ items t past) (pushed-call f (size n) (omega (arith, k .function-from)) (omega (arith, k .function-to)) (omega (arith, k .size-to))))
-      (item-pushed-changes b t f (size n) (row-stands e t (eqb-self t) fine) (some-room t (fits .items-few)))
+      moved e t _ (λ is. item-is f (above-zero n) ∷ is) (λ s. refl)
+      (ap (λ (i : Item). i ∷ items t past) (pushed-call f (above-zero n) (omega (arith, k .function-from)) (omega (arith, k .function-to)) (omega (arith, k .size-to))))
+      (item-pushed-changes b t f (above-zero n) (row-stands e t (eqb-self t) fine) (some-room t (fits .items-few)))
   items-acted room (R t f r p) fine fits =
       moved (R t f r p) t _ tail (λ s. refl) refl (item-popped-changes b t (row-stands (R t f r p) t (eqb-self t) fine))
   items-acted room Z fine fits =

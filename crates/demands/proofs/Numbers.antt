@@ -8,6 +8,7 @@ use lib.ListN.{length}
 use Rattle.words.specs.Choice.{if_then_else_}
 use Rattle.facts.specs.Table.{fact-of, family}
 use Rattle.facts.specs.Named.{PopLocalFrame}
+use Rattle.facts.specs.Results.{is-buffer-place}
 use Rattle.lines.specs.Line.{Line, N, X, C, R, Z}
 use Rattle.lines.specs.Reading.{Read, says, refused, read}
 use Rattle.rows.specs.Table.{Layout, Table, row, row-at, found, taken, ended-all}
@@ -18,7 +19,7 @@ use Rattle.rows.proofs.ExactLaws.{Clean, clean-cleared, clean-taken, clean-ende
 use Rattle.history.specs.Past.{History, thread-of}
 use Rattle.history.specs.Items.{top-of, asked}
 use Rattle.history.specs.Frames.{without-native, top-pushed}
-use Rattle.history.specs.Buffers.{is-buffer-place, gets}
+use Rattle.history.specs.Buffers.{gets}
 use Rattle.history.specs.Acceptance.{Room, made-by}
 use Rattle.history.specs.Replies.{Reply, accepted, not-accepted, most-lines}
 use Rattle.book.specs.Threads.{thread-in, items-in, lines-in}
@@ -89,7 +90,7 @@ module _ (T : Tables) (k : Clean-tables T) where
   clean-read (refused j) = k
   clean-read (says e) =
       let is = items-in (T .book) (thread-of e) in
-      clean-line e (asked (top-of is)) (weighed-in e (top-of is) (length is) T)
+      clean-line e (asked (top-of is)) (weighed-in (suc (lines-in (T .book))) e (top-of is) (length is) T)
 
   -- whatever the line is
   clean-step : (bs : List ℕ) → Clean-tables (step-of T bs .left)

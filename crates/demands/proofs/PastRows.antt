@@ -11,12 +11,13 @@ use Rattle.words.specs.Choice.{one}
 use Rattle.words.specs.Lists.{keep, count, but-first}
 use Rattle.facts.specs.Table.{fact-of}
 use Rattle.facts.specs.Named.{DeleteGlobalRef, DeleteLocalRef, DeleteWeakGlobalRef}
+use Rattle.facts.specs.Results.{is-buffer-place}
 use Rattle.lines.specs.Line.{Line, N, X, C, R, Z, kind}
 use Rattle.rows.specs.Slots.{held, wipe, wipe-first}
 use Rattle.history.specs.Past.{History, thread-of}
 use Rattle.history.specs.Frames.{depth}
 use Rattle.history.specs.Handles.{Alive, local, shared, makes, same-handle, is-local, is-shared, deletes, frame-gone, ends, living}
-use Rattle.history.specs.Buffers.{Pin, ordinary, pin, same-pin, is-buffer-place, gets, releases, outstanding}
+use Rattle.history.specs.Buffers.{Pin, ordinary, pin, same-pin, gets, releases, outstanding}
 use Rattle.history.specs.Acceptance.{Room}
 use Rattle.history.specs.Accepted.{Accepted, at-start, and-line}
 use Rattle.history.proofs.Tests.{and-right, all-three, of-three}

@@ -12,6 +12,7 @@ use Rattle.words.specs.Choice.{if_then_else_}
 use Rattle.words.specs.Lists.{count}
 use Rattle.facts.specs.Table.{fact-of, family}
 use Rattle.facts.specs.Named.{PopLocalFrame}
+use Rattle.facts.specs.Results.{is-buffer-place}
 use Rattle.lines.specs.Line.{Line, N, X, C, R, Z, is-allowed}
 use Rattle.rows.specs.Slots.{wipe, wipe-first}
 use Rattle.rows.specs.Table.{Table, ended-all}
@@ -21,7 +22,7 @@ use Rattle.rows.specs.Pins.{pins, is-buffer}
 use Rattle.history.specs.Past.{History, thread-of}
 use Rattle.history.specs.Frames.{frames, without-native, without-pushed, top-pushed, depth}
 use Rattle.history.specs.Handles.{Alive, makes, deletes}
-use Rattle.history.specs.Buffers.{Pin, pin, same-pin, is-buffer-place, gets, releases}
+use Rattle.history.specs.Buffers.{Pin, pin, same-pin, gets, releases}
 use Rattle.history.specs.Acceptance.{Room, made-by}
 use Rattle.history.specs.Accepted.{Accepted}
 use Rattle.history.proofs.Tests.{eqb-self}

@@ -1,5 +1,5 @@
 -- The run of a whole input over lent tables prints the history's report. Assumes nothing.
-use Prim.Native.Nat.{ℕ}
+use Prim.Native.Nat.{ℕ, suc}
 use mathlib.Core.Path.{_≡_, refl, ap, ap₂, _∙_}
 use mathlib.Core.Bool.{Bool}
 use mathlib.Core.List.{List, [], _∷_, _++_}
@@ -40,7 +40,7 @@ run-is room (bs ∷ lines) T past tied so-far =
     ∙ go (verdict room past bs) refl (λ e is. run-is room lines (with-line-in e past T) (e ∷ past) (all-next room T e past tied is) is)
   where
     go : (v : Read) → verdict room past bs ≡ v
-        → ((e : Line) → Accepted room (e ∷ past) → printed (run-in (with-line-in e past T) (findings past ++ of-line e (seen past)) lines) ≡ shown (run room (e ∷ past) lines))
+        → ((e : Line) → Accepted room (e ∷ past) → printed (run-in (with-line-in e past T) (findings past ++ of-line (suc (length past)) e (seen past)) lines) ≡ shown (run room (e ∷ past) lines))
         → printed (go-on-in T (findings past) (answered past v T .reply) (λ gs. run-in (answered past v T .left) (findings past ++ gs) lines))
         ≡ shown (go-on past v (λ e. run room (e ∷ past) lines))
     go (refused k) is ih = printed-end room T past k tied

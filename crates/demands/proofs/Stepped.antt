@@ -1,5 +1,5 @@
 -- One step over tied tables is the history's reply, and leaves tables tied to the history with the line, if it was accepted. Assumes nothing.
-use Prim.Native.Nat.{ℕ}
+use Prim.Native.Nat.{ℕ, suc}
 use mathlib.Core.Path.{_≡_, refl, sym, subst}
 use mathlib.Core.Bool.{Bool, true, false}
 use mathlib.Core.List.{List, [], _∷_}
@@ -36,7 +36,7 @@ with-line-in e past T = with-items e (acted e (asked (top-of (items (thread-of e
 -- what the history says of the line, done to the tables
 abbrev pub answered : History → Read → Tables → Stepped
 answered past (refused k) T = untouched k T
-answered past (says e) T = stepped (accepted (of-line e (seen past))) (with-line-in e past T)
+answered past (says e) T = stepped (accepted (of-line (suc (length past)) e (seen past))) (with-line-in e past T)
 
 -- ---- an accepted line
 
@@ -63,10 +63,10 @@ all-next room T e past k accepts =
 module _ (room : Room) (T : Tables) (past : History) (k : All-tied room T past) (so-far : Accepted room past) where
   on-line-is : (e : Line) → on-line e (items-in (T .book) (thread-of e)) T ≡ answered past (weighed room past (says e)) T
   on-line-is e =
-      rw (k .opened .open-items (thread-of e), weighed-tied room T past (k .tables) so-far e)
+      rw (k .tables .lines, k .opened .open-items (thread-of e), weighed-tied room T past (k .tables) so-far e (suc (length past)))
       (go (eqb (refusal room e past) 0))
     where
-      go : (q : Bool) → follow e (asked (top-of (items (thread-of e) past))) (if q then accepted (of-line e (seen past)) else not-accepted (refusal room e past)) T
+      go : (q : Bool) → follow e (asked (top-of (items (thread-of e) past))) (if q then accepted (of-line (suc (length past)) e (seen past)) else not-accepted (refusal room e past)) T
           ≡ answered past (if q then says e else refused (refusal room e past)) T
       go true = refl
       go false = refl

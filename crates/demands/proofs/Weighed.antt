@@ -1,12 +1,13 @@
 -- Tied tables show what the history shows, and refuse what it refuses. Assumes nothing.
 use Prim.Native.Nat.{ℕ}
-use mathlib.Core.Path.{_≡_, refl, sym, ap, ap₂, _∙_}
+use mathlib.Core.Path.{_≡_, refl, sym, ap, ap₂, _∙_, fun-ext}
 use mathlib.Core.Bool.{Bool, _&&_}
 use mathlib.Core.List.{_∷_}
+use native.Mathlib.Omega.{arith}
 use lib.Dec.{eqb}
 use lib.ListN.{length}
 use Rattle.words.specs.Choice.{if_then_else_}
-use Rattle.words.specs.Lists.{count}
+use Rattle.words.specs.Lists.{count, sum}
 use Rattle.lines.specs.Line.{Line, N, X, C, R, Z}
 use Rattle.rows.specs.Slots.{held}
 use Rattle.rows.specs.Table.{room as room-of-rows, alive}
@@ -18,6 +19,7 @@ use Rattle.history.specs.Items.{items, top-of}
 use Rattle.history.specs.Frames.{frames, frames-after, depth}
 use Rattle.history.specs.Handles.{Alive, makes, living}
 use Rattle.history.specs.Buffers.{Pin, outstanding}
+use Rattle.history.specs.Thread.{all-threads, monitors}
 use Rattle.history.specs.Seen.{Seen, seen}
 use Rattle.history.specs.Acceptance.{Room, everything, in-step, env-right, made-by, makes-anew, has-room, has-item-room, first-refusal, refusal}
 use Rattle.history.specs.Findings.{of-line}
@@ -26,7 +28,9 @@ use Rattle.history.specs.Accepted.{Accepted}
 use Rattle.history.proofs.Tests.{eqb-self}
 use Rattle.history.proofs.Counts.{count-all}
 use Rattle.history.proofs.Threads.{own-frames}
-use Rattle.book.specs.Threads.{Thread, thread-in}
+use Rattle.history.proofs.Stacks.{monitors-in-lines, at-most-a-million}
+use Rattle.book.specs.Threads.{Thread, thread-in, all-monitors}
+use Rattle.book.proofs.Fitness.{all-monitors-are}
 use Rattle.tables.specs.Tables.{Tables, alive-of, reference-of, pin-of, pin-row-of, handles-in, buffers-in, seen-in}
 use Rattle.tables.specs.Weighing.{rows-left, refusal-in, weighed-in}
 use Rattle.demands.specs.PastRows.{padded, reference-rows, pin-rows}
@@ -76,6 +80,13 @@ module _ (room : Room) (T : Tables) (past : History) (tied : Tied room T past) (
       ∙ count-same unowned (λ x. test (pin-of (pin-row-of x))) test (λ x k. ap test (pin-of-row x k)) (held (pin-rows past)) (pins-owned room past so-far)
       ∙ pin-rows-hold past test
 
+  monitors-tied : all-monitors (T .book) ≡ sum (λ t. monitors t past) all-threads
+  unfolding past-thread
+  monitors-tied =
+      let held : (t : ℕ) → thread-in (T .book) t .monitors ≡ monitors t past = λ t. ap (λ (x : Thread). x .monitors) (tied .threads t) in
+      all-monitors-are (T .book) (λ t. omega (arith, held t, monitors-in-lines past t, at-most-a-million room past so-far))
+      ∙ ap (λ (f : ℕ → ℕ). sum f all-threads) (fun-ext held)
+
   pub seen-tied : seen-in T ≡ seen past
   unfolding seen-in seen past-thread
   seen-tied =
@@ -86,9 +97,9 @@ module _ (room : Room) (T : Tables) (past : History) (tied : Tied room T past) (
         pending = λ t. tied .threads t i .pending;
         monitors = λ t. tied .threads t i .monitors;
         env = λ t. tied .threads t i .env;
+        all-monitors = monitors-tied i;
         handles = λ test. handles-tied test i;
         buffers = λ test. buffers-tied test i;
-        lines = tied .lines i;
         closed = tied .end-mark i;
       }
 
@@ -145,8 +156,8 @@ module _ (room : Room) (T : Tables) (past : History) (tied : Tied room T past) (
         ∙ ap (λ (q : Bool). first-refusal (in-step e top (seen past .closed)) (env-right e (seen past)) (makes-anew e (seen past)) (q && has-item-room e many)) rows-left-tied
 
     -- the same reply
-    pub weighed-tied : weighed-in e (top-of (items (thread-of e) past)) (length (items (thread-of e) past)) T
-        ≡ (if eqb (refusal room e past) 0 then accepted (of-line e (seen past)) else not-accepted (refusal room e past))
+    pub weighed-tied : (line : ℕ) → weighed-in line e (top-of (items (thread-of e) past)) (length (items (thread-of e) past)) T
+        ≡ (if eqb (refusal room e past) 0 then accepted (of-line line e (seen past)) else not-accepted (refusal room e past))
     unfolding weighed-in
-    weighed-tied =
-        ap₂ (λ (k : ℕ) (v : Seen). if eqb k 0 then accepted (of-line e v) else not-accepted k) refusal-tied seen-tied
+    weighed-tied line =
+        ap₂ (λ (k : ℕ) (v : Seen). if eqb k 0 then accepted (of-line line e v) else not-accepted k) refusal-tied seen-tied

@@ -15,7 +15,7 @@ use Rattle.answers.specs.declared.Answer.{Answer}
 use Rattle.answers.specs.Answer.{most-found, answered, answer-of}
 use Rattle.tables.specs.Tables.{Tables}
 use Rattle.tables.specs.Stepping.{step-of}
-use Rattle.kinds.specs.Outcome.{Outcome, leaves}
+use Rattle.events.specs.Outcome.{Outcome, leaves}
 use Rattle.judge.specs.Outcome.{step-outcome}
 use Rattle.exported.specs.Told.{tells, number-told, in-front, told}
 

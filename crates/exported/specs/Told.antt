@@ -9,7 +9,7 @@ use Rattle.words.specs.Choice.{if_then_else_}
 use Rattle.words.specs.Lists.{joined}
 use Rattle.history.specs.declared.Finding.{Finding}
 use Rattle.tables.specs.Tables.{Tables}
-use Rattle.kinds.specs.Outcome.{Outcome}
+use Rattle.events.specs.Outcome.{Outcome}
 
 pub record Told : Type 0 where
   pub number : ℤ

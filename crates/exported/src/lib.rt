@@ -1,6 +1,8 @@
 // The judge for C and Rust: a start and one step over lent slices, the findings as numbers.
 use answers::Answer;
 use history::Finding;
+use rows::Number;
+use words::Handle;
 ghost use mathlib.Core.Path.{_≡_};
 ghost use Prim.Native.Nat.{_≤_};
 ghost use lib.ListN.{take};
@@ -16,9 +18,9 @@ const NUMBERS: usize = 4;
 // Clears all rows, marks and book.
 #[no_mangle]
 pub extern "C" fn weir_start(
-    rows: &mut [u32],
+    rows: &mut [Number],
     marks: &mut [u64],
-    pins: &mut [u32],
+    pins: &mut [Number],
     pinmarks: &mut [u64],
     book: &mut [u64],
 )
@@ -28,7 +30,7 @@ pub extern "C" fn weir_start(
 }
 
 // The four numbers of a finding at place `at`, if there is room for them.
-fn put(found: &mut [u32], at: usize, finding: Finding)
+fn put(found: &mut [Handle], at: usize, finding: Finding)
     requires { ⌜ at ≤ most-found ⌝ }
     ensures { λ _. ⌜ now (found .exit) ≡ put-at (now (found .entry)) at finding ⌝ }
 {
@@ -43,7 +45,7 @@ fn put(found: &mut [u32], at: usize, finding: Finding)
 }
 
 // The findings of an answer, one behind another.
-fn list(found: &mut [u32], answer: Answer)
+fn list(found: &mut [Handle], answer: Answer)
     requires { ⌜ answer .count ≤ most-found ⌝ }
     ensures { λ _. ⌜ now (found .exit) ≡ in-front (take (answer .count) (answer .found)) (now (found .entry)) ⌝ }
 {
@@ -72,12 +74,12 @@ fn number_told(refusal: u8, count: usize) -> i32
 #[no_mangle]
 pub extern "C" fn weir_step(
     line: &[u8],
-    rows: &mut [u32],
+    rows: &mut [Number],
     marks: &mut [u64],
-    pins: &mut [u32],
+    pins: &mut [Number],
     pinmarks: &mut [u64],
     book: &mut [u64],
-    found: &mut [u32],
+    found: &mut [Handle],
 ) -> i32
     ensures { λ r. ⌜ tells r (tables (now (rows .exit)) (now (marks .exit)) (now (pins .exit)) (now (pinmarks .exit)) (now (book .exit))) (now (found .exit)) ≡ told (step-outcome (tables (now (rows .entry)) (now (marks .entry)) (now (pins .entry)) (now (pinmarks .entry)) (now (book .entry))) (now (line .entry))) (now (found .entry)) ⌝ }
 {

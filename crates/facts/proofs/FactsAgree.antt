@@ -10,11 +10,8 @@ use borrow.Author.Tests.{eqb-true, eq-eqb}
 use Rattle.words.specs.Choice.{one}
 use Rattle.words.specs.Lists.{any, count}
 use Rattle.facts.specs.Table.{lists, first-function, last-function, is-function, Row, table, fact-of, is-allowed-pending, is-allowed-critical, in-pair, families, family, is-critical}
+use Rattle.facts.specs.Results.{is-buffer-result, is-buffer-place}
 use Rattle.facts.specs.Letters.{no-family}
-use Rattle.facts.specs.declared.Place.{Place}
-use Rattle.facts.specs.declared.Place.the-variants as Place
-use Rattle.facts.specs.declared.Result.{Result}
-use Rattle.facts.specs.declared.Result.the-variants as Result
 use Rattle.facts.proofs.Letters.{one-back}
 use Rattle.facts.proofs.Each.{each, each-at}
 use Rattle.facts.proofs.Outside.{how-many, above-last, gets, releases, no-fact-outside, no-row-outside, not-pending-outside, not-critical-outside, no-family-outside, no-pair-outside, no-getter-outside, no-releaser-outside}
@@ -72,25 +69,6 @@ pending-are-functions f h = go (is-function f) refl
     go false e = absurd (false≢true (sym (not-pending-outside f e) ∙ h))
 
 -- ---- buffers
-
-abbrev pub is-buffer-result : Result → Bool
-is-buffer-result Result.Local = false
-is-buffer-result Result.Global = false
-is-buffer-result Result.Weak = false
-is-buffer-result Result.Identity = false
-is-buffer-result Result.Buffer = true
-is-buffer-result Result.Status = false
-is-buffer-result Result.Nothing = false
-
-abbrev pub is-buffer-place : Place → Bool
-is-buffer-place Place.Handle = false
-is-buffer-place Place.HandleOrNull = false
-is-buffer-place Place.LocalOrNull = false
-is-buffer-place Place.GlobalOrNull = false
-is-buffer-place Place.WeakOrNull = false
-is-buffer-place Place.Identity = false
-is-buffer-place Place.Buffer = true
-is-buffer-place Place.Unused = false
 
 -- a buffer is got by the first function of a pair
 pub buffers-got : (f : ℕ) → is-buffer-result (fact-of f .result) ≡ any (gets f) families

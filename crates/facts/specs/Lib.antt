@@ -1,3 +1,4 @@
 pub mod Table
 pub mod Named
+pub mod Results
 pub mod Letters

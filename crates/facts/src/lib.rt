@@ -6,6 +6,9 @@ ghost use Rattle.facts.specs.Table.{place, result, fact-of, is-allowed-p
 ghost use Rattle.facts.specs.Letters.{family-in};
 
 mod columns; // columns.rt: the table of functions
+pub mod functions;
+pub mod handles;
+pub mod results;
 
 const NO_FAMILY: u32 = 12;
 

@@ -8,7 +8,7 @@ use lib.IntN.{ℤ, pos}
 use Rattle.words.specs.Choice.{if_then_else_}
 use Rattle.facts.specs.Named.{PushLocalFrame, PopLocalFrame, EnsureLocalCapacity, MonitorEnter, MonitorExit}
 use Rattle.lines.specs.Line.{N, X, C, R, is-zero}
-use Rattle.lines.specs.Reading.{size}
+use Rattle.lines.specs.Reading.{above-zero}
 use Rattle.history.specs.Past.{History}
 use Rattle.history.specs.Items.{in-native, in-call, items, top-of, asked}
 use Rattle.history.specs.Frames.{Frame, entered, pushed, frames, depth, without-native, without-pushed}
@@ -56,7 +56,7 @@ module _ (t r : ℕ) (past : History) where
 
 module _ (t env f a b c : ℕ) (n : ℤ) (past : History) where
   -- C opens a call, with max(n,0)
-  pub call-items : items t (C t env f a b c n ∷ past) ≡ in-call f (size n) ∷ items t past
+  pub call-items : items t (C t env f a b c n ∷ past) ≡ in-call f (above-zero n) ∷ items t past
   call-items = own-items t (C t env f a b c n) past (eqb-self t)
 
   -- no function clears what is pending by its call: the R line says what is pending

@@ -9,11 +9,12 @@ use lib.IntN.{ℤ}
 use Rattle.words.specs.Choice.{one}
 use Rattle.words.specs.Lists.{count, keep, but-first}
 use Rattle.facts.specs.Table.{fact-of}
+use Rattle.facts.specs.Results.{is-buffer-place}
 use Rattle.lines.specs.Line.{Line, C, Z}
 use Rattle.history.specs.Past.{History, thread-of}
 use Rattle.history.specs.Frames.{depth}
 use Rattle.history.specs.Handles.{Alive, local, shared, makes, deletes, ends, living}
-use Rattle.history.specs.Buffers.{Pin, pin, same-pin, is-buffer-place, gets, releases, outstanding}
+use Rattle.history.specs.Buffers.{Pin, pin, same-pin, gets, releases, outstanding}
 use Rattle.history.proofs.Tests.{true-not-false}
 use Rattle.history.proofs.Counts.{count-append, count-keep, count-but-first, keep-all, some-member}
 use Rattle.history.proofs.Threads.{other-depth}

@@ -16,9 +16,10 @@ use Rattle.facts.specs.Named.{PopLocalFrame, MonitorExit}
 use Rattle.facts.specs.declared.Place.{Place}
 use Rattle.facts.specs.declared.Place.the-variants as Place
 use Rattle.facts.specs.declared.Result.{Result}
+use Rattle.facts.specs.Results.{is-local-result}
 use Rattle.facts.specs.declared.Result.the-variants as Result
 use Rattle.lines.specs.Line.{Line, N, X, C, R, Z}
-use Rattle.lines.specs.Reading.{size}
+use Rattle.lines.specs.Reading.{above-zero}
 use Rattle.history.specs.Past.{History}
 use Rattle.history.specs.Frames.{frames, top-pushed, depth}
 use Rattle.history.specs.Handles.{living, global-or-weak, alive-in}
@@ -27,7 +28,7 @@ use Rattle.history.specs.Buffers.{Pin, ordinary, critical, critical-of, 
 use Rattle.history.specs.Thread.{pending, monitors, env-of, all-threads}
 use Rattle.history.specs.Seen.{seen}
 use Rattle.history.specs.Acceptance.{everything}
-use Rattle.history.specs.Breaches.{when, place-rule, value-at, rule-at, in-critical, is-local-result, exceeds, overflows, call-rule, some-of, end-rule, line-rule, is-rule, breach}
+use Rattle.history.specs.Breaches.{when, place-rule, is-there, rule-here, value-at, rule-at, in-critical, exceeds, overflows, call-rule, some-of, end-rule, line-rule, is-rule, breach}
 use Rattle.history.specs.Paper.{Outstanding, In-critical, Broken, at-a, at-b, at-c, at-result, other-env, not-allowed, called-in-critical, no-monitor, not-pushed, left-in-critical, overflow, buffers-left, monitors-left, handles-left}
 use Rattle.history.proofs.Tests.{and-left, and-right, all-three, true-not-false, eqb-self}
 use Rattle.history.proofs.Counts.{member-counts, some-member, count-all}
@@ -160,7 +161,7 @@ module _ (past : History) where
   unfolding overflows
   null-fits t f = rw and-false
 
-  return-right : (t f p rule : ℕ) (r : ℤ) → Right (R t f r p) rule 0 (when (eqb rule 11 && overflows t f (size r) (seen past)) (size r))
+  return-right : (t f p rule : ℕ) (r : ℤ) → Right (R t f r p) rule 0 (when (eqb rule 11 && overflows t f (above-zero r) (seen past)) (above-zero r))
   return-right t f p rule (pos h) =
       when-right (R t f (pos h) p) rule 0 (eqb rule 11 && overflows t f h (seen past)) h (λ k.
       rw (eqb-true rule 11 (and-left (eqb rule 11) (overflows t f h (seen past)) k)) (overflow-right t f h p (and-right (eqb rule 11) (overflows t f h (seen past)) k)))
@@ -181,17 +182,17 @@ module _ (past : History) where
   -- ---- places
 
   place-right : (e : Line) (rule place : ℕ) → rule-at e (seen past) place ≡ some rule → Broken past e rule place (value-at e place)
-  unfolding rule-at place-rule
+  unfolding rule-at place-rule is-there
   place-right (N t env hs) rule place h = absurd (Option·none-ne-some rule h)
   place-right (X t r) rule place h = go (eqb place 1) refl h
     where
-      go : (q : Bool) → eqb place 1 ≡ q → place-rule (if q then Place.HandleOrNull else Place.Unused) t 0 r (seen past) ≡ some rule → Broken past (X t r) rule place r
+      go : (q : Bool) → eqb place 1 ≡ q → rule-here (if q then Place.HandleOrNull else Place.Unused) t 0 r (seen past) ≡ some rule → Broken past (X t r) rule place r
       go true e k = rw (eqb-true place 1 e) (at-result t r rule (place-is past t 0 Place.HandleOrNull r rule .0 k))
       go false e k = absurd (Option·none-ne-some rule k)
   place-right (C t env f a b c n) rule place h = go (eqb place 1) refl (eqb place 2) refl (eqb place 3) refl h
     where
       go : (x : Bool) → eqb place 1 ≡ x → (y : Bool) → eqb place 2 ≡ y → (z : Bool) → eqb place 3 ≡ z
-          → place-rule (if x then fact-of f .a else if y then fact-of f .b else if z then fact-of f .c else Place.Unused) t f (if x then a else if y then b else c) (seen past) ≡ some rule
+          → rule-here (if x then fact-of f .a else if y then fact-of f .b else if z then fact-of f .c else Place.Unused) t f (if x then a else if y then b else c) (seen past) ≡ some rule
           → Broken past (C t env f a b c n) rule place (if x then a else if y then b else c)
       go true e y ey z ez k = rw (eqb-true place 1 e) (at-a t env f a b c rule n (place-is past t f (fact-of f .a) a rule .0 k))
       go false e true ey z ez k = rw (eqb-true place 2 ey) (at-b t env f a b c rule n (place-is past t f (fact-of f .b) b rule .0 k))
@@ -225,10 +226,10 @@ module _ (past : History) where
 
   computed : (e : Line) (rule place v : ℕ) → Broken past e rule place v → breach e (seen past) rule place ≡ some v
   unfolding breach line-rule call-rule end-rule rule-at seen
-  computed _ _ _ _ (at-a t env f a b c rule n w) = at-place rule a (place-rule (fact-of f .a) t f a (seen past)) (place-is past t f (fact-of f .a) a rule .1 w)
-  computed _ _ _ _ (at-b t env f a b c rule n w) = at-place rule b (place-rule (fact-of f .b) t f b (seen past)) (place-is past t f (fact-of f .b) b rule .1 w)
-  computed _ _ _ _ (at-c t env f a b c rule n w) = at-place rule c (place-rule (fact-of f .c) t f c (seen past)) (place-is past t f (fact-of f .c) c rule .1 w)
-  computed _ _ _ _ (at-result t v rule w) = at-place rule v (place-rule Place.HandleOrNull t 0 v (seen past)) (place-is past t 0 Place.HandleOrNull v rule .1 w)
+  computed _ _ _ _ (at-a t env f a b c rule n w) = at-place rule a (rule-here (fact-of f .a) t f a (seen past)) (place-is past t f (fact-of f .a) a rule .1 w)
+  computed _ _ _ _ (at-b t env f a b c rule n w) = at-place rule b (rule-here (fact-of f .b) t f b (seen past)) (place-is past t f (fact-of f .b) b rule .1 w)
+  computed _ _ _ _ (at-c t env f a b c rule n w) = at-place rule c (rule-here (fact-of f .c) t f c (seen past)) (place-is past t f (fact-of f .c) c rule .1 w)
+  computed _ _ _ _ (at-result t v rule w) = at-place rule v (rule-here Place.HandleOrNull t 0 v (seen past)) (place-is past t 0 Place.HandleOrNull v rule .1 w)
   computed _ _ _ _ (other-env t env f a b c n d) = rw (ne-eqb env (env-of t past) d)
   computed _ _ _ _ (not-allowed t env f a b c n h k) = rw (h, k)
   computed _ _ _ _ (called-in-critical t env f a b c n h k) = rw (critical-out t .1 h, outside f .1 k)

@@ -14,10 +14,11 @@ use Rattle.facts.specs.Table.{fact-of}
 use Rattle.facts.specs.declared.Place.{Place}
 use Rattle.facts.specs.declared.Place.the-variants as Place
 use Rattle.facts.specs.declared.Result.{Result}
+use Rattle.facts.specs.Results.{is-buffer-result, is-buffer-place}
 use Rattle.facts.specs.declared.Result.the-variants as Result
 use Rattle.lines.specs.Line.{Line, N, X, C, R, Z}
 use Rattle.history.specs.Past.{History}
-use Rattle.history.specs.Buffers.{Pin, ordinary, critical, pin, same-pin, is-buffer-result, is-buffer-place, gets, releases, outstanding}
+use Rattle.history.specs.Buffers.{Pin, ordinary, critical, pin, same-pin, gets, releases, outstanding}
 use Rattle.history.specs.Seen.{seen, is-outstanding}
 use Rattle.history.specs.Paper.{Outstanding}
 use Rattle.history.specs.Times.{Gets, at-return, Releases, at-call, got, released}

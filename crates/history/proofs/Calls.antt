@@ -11,7 +11,7 @@ use borrow.Author.Tests.{ltb-false}
 use Rattle.words.specs.Choice.{if_then_else_}
 use Rattle.facts.specs.Named.{PushLocalFrame, PopLocalFrame}
 use Rattle.lines.specs.Line.{Line, N, X, C, R, is-zero}
-use Rattle.lines.specs.Reading.{size}
+use Rattle.lines.specs.Reading.{above-zero}
 use Rattle.history.specs.Past.{History}
 use Rattle.history.specs.Items.{Item, in-call, items, top-of, asked}
 use Rattle.history.specs.Frames.{Frame, entered, pushed, frames, without-native, without-pushed, depth}
@@ -43,14 +43,14 @@ same-items t _ past (function-call env f a b c p n r inside before w v) =
 
 -- the top item at an R is that of the matching C, however much was nested between
 pub matching-call : (t env f a b c : ℕ) (n : ℤ) (inside past : History) → Whole t inside
-    → items t (inside ++ (C t env f a b c n ∷ past)) ≡ in-call f (size n) ∷ items t past
+    → items t (inside ++ (C t env f a b c n ∷ past)) ≡ in-call f (above-zero n) ∷ items t past
 matching-call t env f a b c n inside past w =
     same-items t inside (C t env f a b c n ∷ past) w ∙ own-items t (C t env f a b c n) past (eqb-self t)
 
 -- so a push has the capacity max(n,0) of its own C
 pub matching-push : (t env a b c p : ℕ) (n : ℤ) (inside past : History) → Whole t inside
     → capacities t (R t PushLocalFrame (pos 0) p ∷ (inside ++ (C t env PushLocalFrame a b c n ∷ past)))
-    ≡ size n ∷ capacities t (inside ++ (C t env PushLocalFrame a b c n ∷ past))
+    ≡ above-zero n ∷ capacities t (inside ++ (C t env PushLocalFrame a b c n ∷ past))
 matching-push t env a b c p n inside past w =
     push-capacities t p (inside ++ (C t env PushLocalFrame a b c n ∷ past))
     ∙ ap (λ (is : List Item). asked (top-of is) ∷ capacities t (inside ++ (C t env PushLocalFrame a b c n ∷ past))) (matching-call t env PushLocalFrame a b c n inside past w)

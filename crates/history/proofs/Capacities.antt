@@ -34,7 +34,7 @@ raised-length k [] = refl
 raised-length k (c ∷ cs) = refl
 
 fit-line : (e : Line) (held n : ℕ) (fs : List Frame) (cs : List ℕ) → length cs ≡ length fs
-    → length (capacities-after e (length fs - length (frames-after e fs)) held n cs) ≡ length (frames-after e fs)
+    → length (capacities-after e (record { gone = length fs - length (frames-after e fs); held = held; asked = n }) cs) ≡ length (frames-after e fs)
 fit-line (N s env hs) held n fs cs h = ap suc h
 fit-line (X s r) held n fs cs h = dropped (length fs) (length (without-native fs)) cs h (native-less fs)
 fit-line (C s env f a b c m) held n fs cs h = go (eqb f PopLocalFrame)

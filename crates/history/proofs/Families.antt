@@ -8,7 +8,8 @@ use lib.Dec.{eqb, leb}
 use borrow.Author.Tests.{eqb-true, leb-true}
 use Rattle.words.specs.Lists.{any}
 use Rattle.facts.specs.Table.{Pair, _/_, table, fact-of, is-function, families, family, is-critical}
-use Rattle.history.specs.Buffers.{critical, pin, is-buffer-result, is-buffer-place}
+use Rattle.facts.specs.Results.{is-buffer-result, is-buffer-place}
+use Rattle.history.specs.Buffers.{critical, pin}
 use Rattle.history.specs.Families.{is-get, is-release}
 use Rattle.history.proofs.Tests.{and-left, and-right}
 use Rattle.history.proofs.Counts.{all-pass}

@@ -75,29 +75,29 @@ found-ordered : (line rule place : ℕ) (b : Option ℕ) → Ordered (found line
 found-ordered line rule place none = no-more
 found-ordered line rule place (some v) = then-more _ [] (λ g m. absurd (List·Memᴰ·not-nil m)) no-more
 
-module _ (e : Line) (v : Seen) where
+module _ (line : ℕ) (e : Line) (v : Seen) where
   of-place : ℕ → ℕ → List Finding
-  of-place rule place = found (suc (v .lines)) rule place (breach e v rule place)
+  of-place rule place = found line rule place (breach e v rule place)
 
   of-rule : ℕ → List Finding
   of-rule rule = joined places (of-place rule)
 
-  rule-is : (g : Finding) (rule : ℕ) → List·Memᴰ g (of-rule rule) → (place : ℕ) × Is g (suc (v .lines)) rule place (breach e v rule place)
+  rule-is : (g : Finding) (rule : ℕ) → List·Memᴰ g (of-rule rule) → (place : ℕ) × Is g line rule place (breach e v rule place)
   unfolding of-rule of-place
   rule-is g rule m =
       let (place, i, k) = joined-member places (of-place rule) m in
-      (place, found-is g (suc (v .lines)) rule place (breach e v rule place) k)
+      (place, found-is g line rule place (breach e v rule place) k)
 
   rule-ordered : (rule : ℕ) → Ordered (of-rule rule)
   unfolding of-rule of-place
   rule-ordered rule =
-      joined-ordered 4 0 (of-place rule) (λ place. found-ordered (suc (v .lines)) rule place (breach e v rule place))
+      joined-ordered 4 0 (of-place rule) (λ place. found-ordered line rule place (breach e v rule place))
       (λ j k x y h i m.
-      let a = found-is x (suc (v .lines)) rule j (breach e v rule j) i in
-      let c = found-is y (suc (v .lines)) rule k (breach e v rule k) m in
+      let a = found-is x line rule j (breach e v rule j) i in
+      let c = found-is y line rule k (breach e v rule k) m in
       inr (a .at-line ∙ sym (c .at-line), inr (a .at-rule ∙ sym (c .at-rule), omega (arith, a .at-place, c .at-place))))
 
-  pub line-ordered : Ordered (of-line e v)
+  pub line-ordered : Ordered (of-line line e v)
   unfolding of-line of-rule of-place
   line-ordered =
       joined-ordered 11 1 of-rule rule-ordered
@@ -108,18 +108,18 @@ module _ (e : Line) (v : Seen) where
 
 -- the findings of a line are its breaches
 pub line-is : (past : History) (e : Line) (g : Finding)
-    → List·Memᴰ g (of-line e (seen past)) ↔ ((g .line ≡ suc (length past)) × Broken past e (g .rule) (g .place) (g .thing))
+    → List·Memᴰ g (of-line (suc (length past)) e (seen past)) ↔ ((g .line ≡ suc (length past)) × Broken past e (g .rule) (g .place) (g .thing))
 unfolding of-line of-rule of-place seen
 line-is past e g = (
   λ m.
-      let (rule, i, k) = joined-member rules (of-rule e (seen past)) m in
-      let (place, is) = rule-is e (seen past) g rule k in
+      let (rule, i, k) = joined-member rules (of-rule (suc (length past)) e (seen past)) m in
+      let (place, is) = rule-is (suc (length past)) e (seen past) g rule k in
       let same = ap (λ (r : ℕ). breach e (seen past) r (g .place)) (is .at-rule) ∙ ap (breach e (seen past) rule) (is .at-place) in
       (is .at-line, breaches-are past e (g .rule) (g .place) (g .thing) .0 (same ∙ is .thing)),
   λ k.
       let (low, high, place) = broken-rule past e (g .rule) (g .place) (g .thing) (k .1) in
-      member-joined rules (of-rule e (seen past)) (g .rule) (in-from 11 1 (g .rule) low (omega arith))
-      (member-joined places (of-place e (seen past) (g .rule)) (g .place) (in-from 4 0 (g .place) (omega arith) (omega arith))
+      member-joined rules (of-rule (suc (length past)) e (seen past)) (g .rule) (in-from 11 1 (g .rule) low (omega arith))
+      (member-joined places (of-place (suc (length past)) e (seen past) (g .rule)) (g .place) (in-from 4 0 (g .place) (omega arith) (omega arith))
       (is-found g (suc (length past)) (g .rule) (g .place) (breach e (seen past) (g .rule) (g .place))
       (record { at-line = k .0; at-rule = refl; at-place = refl; thing = breaches-are past e (g .rule) (g .place) (g .thing) .1 (k .1) }))),
 )
@@ -140,10 +140,10 @@ finding-breached (e ∷ past) g m =
     later k =
         record { newer = e ∷ k .newer; condemned = k .condemned; older = k .older; split = ap (λ (h : History). e ∷ h) (k .split); line = k .line; broken = k .broken }
 
-breached-finding : (newer : History) (e : Line) (older : History) (g : Finding) → List·Memᴰ g (of-line e (seen older)) → List·Memᴰ g (findings (newer ++ (e ∷ older)))
+breached-finding : (newer : History) (e : Line) (older : History) (g : Finding) → List·Memᴰ g (of-line (suc (length older)) e (seen older)) → List·Memᴰ g (findings (newer ++ (e ∷ older)))
 unfolding findings
 breached-finding [] e older g m = Memᴰ·append-right (findings older) m
-breached-finding (x ∷ n) e older g m = Memᴰ·append-left (of-line x (seen (n ++ (e ∷ older)))) (breached-finding n e older g m)
+breached-finding (x ∷ n) e older g m = Memᴰ·append-left (of-line (suc (length (n ++ (e ∷ older)))) x (seen (n ++ (e ∷ older)))) (breached-finding n e older g m)
 
 -- the findings are all the breaches of the accepted lines, and nothing besides
 pub findings-are : (past : History) (f : Finding) → List·Memᴰ f (findings past) ↔ Breached f past
@@ -160,7 +160,7 @@ pub findings-ordered : (past : History) → Ordered (findings past)
 unfolding findings
 findings-ordered [] = no-more
 findings-ordered (e ∷ past) =
-    ordered-append (findings past) (of-line e (seen past)) (findings-ordered past) (line-ordered e (seen past))
+    ordered-append (findings past) (of-line (suc (length past)) e (seen past)) (findings-ordered past) (line-ordered (suc (length past)) e (seen past))
     (λ x y i j. inl (omega (arith, within-lines past x (finding-breached past x i), line-is past e y .0 j .0)))
 
 -- and each once

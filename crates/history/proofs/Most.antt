@@ -15,11 +15,10 @@ use Rattle.facts.specs.Table.{fact-of, table, is-allowed-pending, is-allowed-cr
 use Rattle.facts.specs.Named.{PopLocalFrame, MonitorExit}
 use Rattle.facts.specs.declared.Place.the-variants as Place
 use Rattle.lines.specs.Line.{Line, N, X, C, R, Z}
-use Rattle.lines.specs.Reading.{size}
+use Rattle.lines.specs.Reading.{above-zero}
 use Rattle.history.specs.Past.{History}
 use Rattle.history.specs.Frames.{top-pushed}
 use Rattle.history.specs.Handles.{global-or-weak}
-use Rattle.history.specs.Thread.{all-threads}
 use Rattle.history.specs.Seen.{Seen, seen}
 use Rattle.history.specs.Acceptance.{everything}
 use Rattle.history.specs.Breaches.{when, place-rule, rule-at, value-at, is-rule, in-critical, overflows, line-rule, call-rule, end-rule, breach}
@@ -122,9 +121,9 @@ module _ (e : Line) (v : Seen) where
   whole-line : ℕ
   whole-line = sum (λ rule. given (line-rule e v rule)) rules
 
-  line-counts : length (of-line e v) ≡ whole-line + (at-place 1 + (at-place 2 + (at-place 3 + 0)))
+  line-counts : (line : ℕ) → length (of-line line e v) ≡ whole-line + (at-place 1 + (at-place 2 + (at-place 3 + 0)))
   unfolding of-line at-place whole-line breach
-  line-counts = by-place (suc (v .lines)) (breach e v) rules places
+  line-counts line = by-place line (breach e v) rules places
 
 most-when : (b : Bool) (x : ℕ) → given (when b x) ≤ 1
 most-when b x = omega (arith, given-when b x, one-most b)
@@ -154,47 +153,47 @@ module _ (t env f a b c : ℕ) (n : ℤ) (v : Seen) where
   unfolding rule-at place-rule call
   one-place is that = (unused-place call v 2 (omega arith) (rw is), unused-place call v 3 (omega arith) (rw that))
 
-  call-most : length (of-line call v) ≤ 6
+  call-most : (line : ℕ) → length (of-line line call v) ≤ 6
   unfolding fact-of table
-  call-most = go (eqb f MonitorExit) refl (eqb f PopLocalFrame) refl whole-call
+  call-most line = go (eqb f MonitorExit) refl (eqb f PopLocalFrame) refl whole-call
     where
       all-places : ((at-place call v 1 ≤ 1) × (at-place call v 2 ≤ 1) × (at-place call v 3 ≤ 1))
       all-places = (used-place call v 1 (omega arith), used-place call v 2 (omega arith), used-place call v 3 (omega arith))
 
-      go : (x : Bool) → eqb f MonitorExit ≡ x → (y : Bool) → eqb f PopLocalFrame ≡ y → whole-line call v ≤ 3 + (one x + one y) → length (of-line call v) ≤ 6
+      go : (x : Bool) → eqb f MonitorExit ≡ x → (y : Bool) → eqb f PopLocalFrame ≡ y → whole-line call v ≤ 3 + (one x + one y) → length (of-line line call v) ≤ 6
       go true ex y ey w =
           let k = eqb-true f MonitorExit ex in
-          omega (arith, line-counts call v, all-places, one-most y, one-place (ap (λ (g : ℕ). fact-of g .b) k) (ap (λ (g : ℕ). fact-of g .c) k))
+          omega (arith, line-counts call v line, all-places, one-most y, one-place (ap (λ (g : ℕ). fact-of g .b) k) (ap (λ (g : ℕ). fact-of g .c) k))
       go false ex true ey w =
           let k = eqb-true f PopLocalFrame ey in
-          omega (arith, line-counts call v, all-places, one-place (ap (λ (g : ℕ). fact-of g .b) k) (ap (λ (g : ℕ). fact-of g .c) k))
-      go false ex false ey w = omega (arith, line-counts call v, all-places)
+          omega (arith, line-counts call v line, all-places, one-place (ap (λ (g : ℕ). fact-of g .b) k) (ap (λ (g : ℕ). fact-of g .c) k))
+      go false ex false ey w = omega (arith, line-counts call v line, all-places)
 
 -- a line that has no places
-no-places : (e : Line) (v : Seen) → ((place : ℕ) → rule-at e v place ≡ none) → length (of-line e v) ≡ whole-line e v
-no-places e v h =
-    omega (arith, line-counts e v, unused-place e v 1 (omega arith) (h 1), unused-place e v 2 (omega arith) (h 2), unused-place e v 3 (omega arith) (h 3))
+no-places : (line : ℕ) (e : Line) (v : Seen) → ((place : ℕ) → rule-at e v place ≡ none) → length (of-line line e v) ≡ whole-line e v
+no-places line e v h =
+    omega (arith, line-counts e v line, unused-place e v 1 (omega arith) (h 1), unused-place e v 2 (omega arith) (h 2), unused-place e v 3 (omega arith) (h 3))
 
 -- at most six findings a line
-pub at-most : (e : Line) (v : Seen) → length (of-line e v) ≤ most-findings e
+pub at-most : (line : ℕ) (e : Line) (v : Seen) → length (of-line line e v) ≤ most-findings e
 unfolding whole-line line-rule rule-at place-rule end-rule call
-at-most (N t env hs) v = omega (arith, no-places (N t env hs) v (λ place. refl))
-at-most (X t r) v =
+at-most line (N t env hs) v = omega (arith, no-places line (N t env hs) v (λ place. refl))
+at-most line (X t r) v =
     omega (
       arith,
-      line-counts (X t r) v,
+      line-counts (X t r) v line,
       most-when (in-critical t v) 0,
       used-place (X t r) v 1 (omega arith),
       unused-place (X t r) v 2 (omega arith) refl,
       unused-place (X t r) v 3 (omega arith) refl,
     )
-at-most (C t env f a b c n) v = call-most t env f a b c n v
-at-most (R t f r p) v = omega (arith, no-places (R t f r p) v (λ place. refl), most-when (overflows t f (size r) v) (size r))
-at-most Z v =
+at-most line (C t env f a b c n) v = call-most t env f a b c n v line
+at-most line (R t f r p) v = omega (arith, no-places line (R t f r p) v (λ place. refl), most-when (overflows t f (above-zero r) v) (above-zero r))
+at-most line Z v =
     omega (
       arith,
-      no-places Z v (λ place. refl),
+      no-places line Z v (λ place. refl),
       most-when (ltb 0 (v .buffers everything)) (v .buffers everything),
-      most-when (ltb 0 (sum (v .monitors) all-threads)) (sum (v .monitors) all-threads),
+      most-when (ltb 0 (v .all-monitors)) (v .all-monitors),
       most-when (ltb 0 (v .handles global-or-weak)) (v .handles global-or-weak),
     )

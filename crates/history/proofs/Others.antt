@@ -9,11 +9,12 @@ use borrow.Author.Tests.{eqb-false, ne-eqb}
 use Rattle.words.specs.Choice.{if_then_else_}
 use Rattle.words.specs.Lists.{count, but-first}
 use Rattle.facts.specs.Table.{fact-of, family, is-critical}
+use Rattle.facts.specs.Results.{is-buffer-result, is-buffer-place}
 use Rattle.lines.specs.Line.{Line, N, X, C, R, Z}
-use Rattle.lines.specs.Reading.{size}
+use Rattle.lines.specs.Reading.{above-zero}
 use Rattle.history.specs.Past.{History, is-of}
 use Rattle.history.specs.Handles.{Alive, local, shared, living}
-use Rattle.history.specs.Buffers.{Pin, ordinary, critical, pin, same-pin, is-buffer-result, is-buffer-place, gets, releases, outstanding}
+use Rattle.history.specs.Buffers.{Pin, ordinary, critical, pin, same-pin, gets, releases, outstanding}
 use Rattle.history.specs.Lives.{Makes, argument, local-result, global-result, weak-result, Ends, deletes-local, deletes-global, deletes-weak, pops, leaves, Lives}
 use Rattle.history.specs.Same.{Same-for}
 use Rattle.history.proofs.Tests.{eqb-self, never-true, true-not-false}
@@ -66,10 +67,10 @@ unfolding gets
 gets-none t k b (N s env hs) o = refl
 gets-none t k b (X s r) o = refl
 gets-none t k b (C s env f x y z n) o = refl
-gets-none t k b (R s f r p) o = go (is-buffer-result (fact-of f .result) && not (eqb (size r) 0))
+gets-none t k b (R s f r p) o = go (is-buffer-result (fact-of f .result) && not (eqb (above-zero r) 0))
   where
-    go : (q : Bool) → count (same-pin (critical t k b)) (if q then pin s f (size r) ∷ [] else []) ≡ 0
-    go true = rw (not-same t s f k b (size r) (eqb-false _ _ o))
+    go : (q : Bool) → count (same-pin (critical t k b)) (if q then pin s f (above-zero r) ∷ [] else []) ≡ 0
+    go true = rw (not-same t s f k b (above-zero r) (eqb-false _ _ o))
     go false = refl
 gets-none t k b Z o = refl
 

@@ -13,8 +13,8 @@ use Rattle.words.specs.Choice.{if_then_else_}
 use Rattle.words.specs.Lists.{any}
 use Rattle.words.specs.Text.{line-feed}
 use Rattle.numbers.specs.Signed.{is-negative}
-use Rattle.lines.specs.Line.{Line, N, X, C, R, Z, is-allowed, longest, most-handles}
-use Rattle.lines.specs.Reading.{Read, says, refused, fields, numbers, size, if-allowed, enter-of, leave-of, call-of, return-of, end-of, line-of, if-numbers, of-fields, read}
+use Rattle.lines.specs.Line.{Line, N, X, C, R, is-allowed, longest, most-handles}
+use Rattle.lines.specs.Reading.{Read, says, refused, fields, numbers, above-zero, if-allowed, enter-of, leave-of, call-of, return-of, end-of, line-of, if-numbers, of-fields, read}
 use Rattle.history.proofs.Tests.{and-right}
 
 abbrev Sound : Read → Type 0
@@ -39,13 +39,13 @@ enter-sound : (ns : List ℤ) → Sound (enter-of ns)
 unfolding enter-of
 enter-sound [] = given-2
 enter-sound (t ∷ []) = given-2
-enter-sound (t ∷ env ∷ hs) = if-sound (leb (length hs) most-handles) _ _ (allowed-sound (t ∷ env ∷ hs) (N (size t) (size env) (map size hs))) given-2
+enter-sound (t ∷ env ∷ hs) = if-sound (leb (length hs) most-handles) _ _ (allowed-sound (t ∷ env ∷ hs) (N (above-zero t) (above-zero env) (map above-zero hs))) given-2
 
 leave-sound : (ns : List ℤ) → Sound (leave-of ns)
 unfolding leave-of
 leave-sound [] = given-2
 leave-sound (t ∷ []) = given-2
-leave-sound (t ∷ r ∷ []) = allowed-sound (t ∷ r ∷ []) (X (size t) (size r))
+leave-sound (t ∷ r ∷ []) = allowed-sound (t ∷ r ∷ []) (X (above-zero t) (above-zero r))
 leave-sound (t ∷ r ∷ _ ∷ _) = given-2
 
 call-sound : (ns : List ℤ) → Sound (call-of ns)
@@ -58,7 +58,7 @@ call-sound (t ∷ env ∷ f ∷ a ∷ []) = given-2
 call-sound (t ∷ env ∷ f ∷ a ∷ b ∷ []) = given-2
 call-sound (t ∷ env ∷ f ∷ a ∷ b ∷ c ∷ []) = given-2
 call-sound (t ∷ env ∷ f ∷ a ∷ b ∷ c ∷ n ∷ []) =
-    allowed-sound (t ∷ env ∷ f ∷ a ∷ b ∷ c ∷ []) (C (size t) (size env) (size f) (size a) (size b) (size c) n)
+    allowed-sound (t ∷ env ∷ f ∷ a ∷ b ∷ c ∷ []) (C (above-zero t) (above-zero env) (above-zero f) (above-zero a) (above-zero b) (above-zero c) n)
 call-sound (t ∷ env ∷ f ∷ a ∷ b ∷ c ∷ n ∷ _ ∷ _) = given-2
 
 return-sound : (ns : List ℤ) → Sound (return-of ns)
@@ -67,7 +67,7 @@ return-sound [] = given-2
 return-sound (t ∷ []) = given-2
 return-sound (t ∷ f ∷ []) = given-2
 return-sound (t ∷ f ∷ r ∷ []) = given-2
-return-sound (t ∷ f ∷ r ∷ p ∷ []) = allowed-sound (t ∷ f ∷ p ∷ []) (R (size t) (size f) r (size p))
+return-sound (t ∷ f ∷ r ∷ p ∷ []) = allowed-sound (t ∷ f ∷ p ∷ []) (R (above-zero t) (above-zero f) r (above-zero p))
 return-sound (t ∷ f ∷ r ∷ p ∷ _ ∷ _) = given-2
 
 end-sound : (ns : List ℤ) → Sound (end-of ns)

@@ -1,5 +1,5 @@
 -- Replies: which number a lent line is given, that a refused line changes nothing, and what a whole run is by its replies. Assumes nothing.
-use Prim.Native.Nat.{ℕ, _≤_, _<_}
+use Prim.Native.Nat.{ℕ, suc, _≤_, _<_}
 use mathlib.Core.Path.{_≡_, refl, sym, ap, _∙_, subst}
 use mathlib.Core.Logic.{_↔_, _≢_}
 use mathlib.Core.Bool.{Bool, true, false}
@@ -106,7 +106,7 @@ refusal-changes-nothing room before bs k h = go (verdict room (heard room before
   where
     go : (x : Read) → reply-of (heard room before) x ≡ not-accepted k → with-line (heard room before) x ≡ heard room before
     go (refused j) is = refl
-    go (says e) is = absurd (accepted-not (of-line e (seen (heard room before))) k is)
+    go (says e) is = absurd (accepted-not (of-line (suc (length (heard room before))) e (seen (heard room before))) k is)
 
 abbrev Number : Read → Type 0
 Number (says e) = Unit {0}
@@ -133,7 +133,7 @@ refused-number room calls bs k h =
   where
     go : (x : Read) → Number x → reply-of (heard room calls) x ≡ not-accepted k → (1 ≤ k) × (k ≤ 7)
     go (refused j) n is = let same : j ≡ k = cc in omega arith
-    go (says e) n is = absurd (accepted-not (of-line e (seen (heard room calls))) k is)
+    go (says e) n is = absurd (accepted-not (of-line (suc (length (heard room calls))) e (seen (heard room calls))) k is)
 
 -- the findings replied to all calls are the findings of the lines heard
 pub told-all : (room : Room) (calls : List (List ℕ)) → told room calls ≡ findings (heard room calls)
@@ -144,7 +144,7 @@ told-all room (bs ∷ before) = go (verdict room (heard room before) bs) (told-a
     go : (x : Read) → told room before ≡ findings (heard room before)
         → told room before ++ findings-in (reply-of (heard room before) x) ≡ findings (with-line (heard room before) x)
     go (refused k) ih = append-nil (told room before) ∙ ih
-    go (says e) ih = ap (λ (fs : List Finding). fs ++ of-line e (seen (heard room before))) ih
+    go (says e) ih = ap (λ (fs : List Finding). fs ++ of-line (suc (length (heard room before))) e (seen (heard room before))) ih
 
 -- ---- a whole run
 
@@ -167,7 +167,7 @@ run-is room calls (bs ∷ lines) = go (verdict room (heard room calls) bs) refl 
         → Runs room calls (bs ∷ lines) (go-on (heard room calls) x (λ e. run room (e ∷ heard room calls) lines))
     go (refused k) h ih = stops calls lines bs k (replied room (heard room calls) bs (refused k) h)
     go (says e) h ih =
-        goes-on calls lines bs (of-line e (seen (heard room calls))) (run room (e ∷ heard room calls) lines) (replied room (heard room calls) bs (says e) h)
+        goes-on calls lines bs (of-line (suc (length (heard room calls))) e (seen (heard room calls))) (run room (e ∷ heard room calls) lines) (replied room (heard room calls) bs (says e) h)
         (subst (λ (l : History). Runs room (bs ∷ calls) lines (run room l lines)) (heard-then room calls bs (says e) h) ih)
 
 pub whole-run : (room : Room) (lines : List (List ℕ)) → Runs room [] lines (run room [] lines)

@@ -17,7 +17,7 @@ use Rattle.history.specs.Buffers.{pin, gets, releases, outstanding}
 use Rattle.history.specs.Thread.{pending, monitors, env-of}
 use Rattle.history.specs.Seen.{seen}
 use Rattle.history.specs.Acceptance.{Room, in-step, env-right, made-by, makes-anew, has-room, refusal}
-use Rattle.history.specs.Breaches.{handle-rule, kind-rule, place-rule, rule-at, in-critical, overflows, call-rule, end-rule, line-rule, breach}
+use Rattle.history.specs.Breaches.{handle-rule, kind-rule, place-rule, handle-alive, is-there, rule-at, in-critical, overflows, call-rule, end-rule, line-rule, breach}
 use Rattle.history.specs.Findings.{of-line}
 use Rattle.history.specs.Replies.{verdict, accepted, not-accepted, reply, heard}
 use Rattle.history.specs.Accepted.{Accepted, at-start, and-line}
@@ -35,7 +35,7 @@ tells = tt
 
 -- acceptance, breaches and replies
 judges : Unit {0}
-unfolding in-step env-right made-by makes-anew has-room refusal handle-rule kind-rule place-rule rule-at in-critical overflows call-rule end-rule line-rule breach of-line verdict reply heard
+unfolding in-step env-right made-by makes-anew has-room refusal handle-rule kind-rule place-rule handle-alive is-there rule-at in-critical overflows call-rule end-rule line-rule breach of-line verdict reply heard
 judges = tt
 
 module _ (room : Room) where

@@ -49,7 +49,7 @@ module _ (t : ℕ) (e : Line) (past : History) where
   other-depth h = ap length (other-frames h)
 
   pub own-capacities : is-of t e ≡ true → capacities t (e ∷ past)
-      ≡ capacities-after e (depth t past - depth t (e ∷ past)) (alive-in t (depth t past) past) (asked (top-of (items t past))) (capacities t past)
+      ≡ capacities-after e (record { gone = depth t past - depth t (e ∷ past); held = alive-in t (depth t past) past; asked = asked (top-of (items t past)) }) (capacities t past)
   unfolding capacities
   own-capacities h = rw h
 

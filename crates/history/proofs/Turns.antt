@@ -13,7 +13,7 @@ use Rattle.facts.specs.Table.{fact-of}
 use Rattle.facts.specs.declared.Result.{Result}
 use Rattle.facts.specs.declared.Result.the-variants as Result
 use Rattle.lines.specs.Line.{Line, N, X, C, R, Z}
-use Rattle.lines.specs.Reading.{size}
+use Rattle.lines.specs.Reading.{above-zero}
 use Rattle.history.specs.Past.{History, thread-of, closed}
 use Rattle.history.specs.Items.{Item, in-native, in-call, items, top-of}
 use Rattle.history.specs.Frames.{depth}
@@ -182,7 +182,7 @@ unfolding makes
 made-twice past (N t env hs) h = named-twice t env hs (twice-is t (suc (depth t past)) hs h)
 made-twice past (X t r) h = absurd (false≢true h)
 made-twice past (C t env f a b c n) h = absurd (false≢true h)
-made-twice past (R t f r p) h = true-not-false _ h (one-result (eqb (size r) 0) (fact-of f .result) t (depth t past) (size r))
+made-twice past (R t f r p) h = true-not-false _ h (one-result (eqb (above-zero r) 0) (fact-of f .result) t (depth t past) (above-zero r))
 made-twice past Z h = absurd (false≢true h)
 
 named : (past : History) (t env : ℕ) (hs : List ℕ) → Twice hs → twice (makes (N t env hs) (depth t past)) ≡ true

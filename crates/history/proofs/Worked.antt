@@ -18,7 +18,7 @@ use Rattle.history.specs.Buffers.{pin, gets, releases, outstanding}
 use Rattle.history.specs.Thread.{pending, monitors, env-of}
 use Rattle.history.specs.Seen.{seen}
 use Rattle.history.specs.Acceptance.{Room, in-step, env-right, made-by, makes-anew, has-room, refusal}
-use Rattle.history.specs.Breaches.{handle-rule, kind-rule, place-rule, rule-at, in-critical, overflows, call-rule, end-rule, line-rule, breach}
+use Rattle.history.specs.Breaches.{handle-rule, kind-rule, place-rule, handle-alive, is-there, rule-at, in-critical, overflows, call-rule, end-rule, line-rule, breach}
 use Rattle.history.specs.Findings.{of-line, findings}
 use Rattle.history.specs.Replies.{verdict, Reply, reply, heard}
 use Rattle.history.specs.Report.{run, lines-of, shown-end, shown, report}
@@ -59,7 +59,7 @@ refused-by = refusal
 
 -- the reply to a line after calls, which stand newest first
 unfoldable pub replied : Room → List (List ℕ) → List ℕ → Reply
-unfolding refused-by is-allowed-pending is-allowed-critical read-on fields numbers enter-of leave-of call-of return-of end-of line-of of-fields read handle-rule kind-rule place-rule rule-at in-critical overflows call-rule end-rule line-rule breach of-line verdict reply heard
+unfolding refused-by is-allowed-pending is-allowed-critical read-on fields numbers enter-of leave-of call-of return-of end-of line-of of-fields read handle-rule kind-rule place-rule handle-alive is-there rule-at in-critical overflows call-rule end-rule line-rule breach of-line verdict reply heard
 replied room before bs = reply room (heard room before) bs
 
 -- the report

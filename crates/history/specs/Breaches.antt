@@ -6,20 +6,17 @@ use mathlib.Core.Option.{Option, none, some}
 use lib.Dec.{eqb, ltb}
 use lib.ListN.{length}
 use Rattle.words.specs.Choice.{if_then_else_}
-use Rattle.words.specs.Lists.{sum}
 use Rattle.facts.specs.Table.{fact-of, is-allowed-pending, is-allowed-critical}
 use Rattle.facts.specs.Named.{PopLocalFrame, MonitorExit}
+use Rattle.facts.specs.Results.{is-local-result, is-handle-place, is-buffer-place}
 use Rattle.facts.specs.declared.Place.{Place}
 use Rattle.facts.specs.declared.Place.the-variants as Place
-use Rattle.facts.specs.declared.Result.{Result}
-use Rattle.facts.specs.declared.Result.the-variants as Result
 use Rattle.lines.specs.Line.{Line, if-X_then_else_, if-C_then_else_, if-R_then_else_, if-Z_then_else_, kind}
-use Rattle.lines.specs.Reading.{size}
+use Rattle.lines.specs.Reading.{above-zero}
 use Rattle.history.specs.Past.{thread-of}
 use Rattle.history.specs.Frames.{top-pushed}
 use Rattle.history.specs.Handles.{is-local, is-shared, in-frame, global-or-weak}
 use Rattle.history.specs.Buffers.{pin, same-pin, critical-of}
-use Rattle.history.specs.Thread.{all-threads}
 use Rattle.history.specs.Seen.{Seen, is-alive, is-outstanding}
 use Rattle.history.specs.Acceptance.{everything}
 
@@ -27,29 +24,46 @@ abbrev pub when : Bool → ℕ → Option ℕ
 when true n = some n
 when false n = none
 
--- ---- the places a b c: the rule that a value breaks, the first that fits
+-- ---- the places a b c: the rule that a value breaks, the first that fits; `there` tells whether what it names is alive or outstanding
 
 -- wrong kind: 4; local not alive in this thread: 11; global or weak not alive: 10
-unfoldable pub handle-rule : ℕ → ℕ → Seen → Option ℕ
-handle-rule t h v =
+unfoldable pub handle-rule : ℕ → Bool → Option ℕ
+handle-rule h there =
     if eqb (kind h) 0 then some 4
-    else if eqb (kind h) 1 then when (not (is-alive (is-local t h) v)) 11
-    else when (not (is-alive (is-shared h) v)) 10
+    else if eqb (kind h) 1 then when (not there) 11
+    else when (not there) 10
 
 -- another kind under l g w: 4
-unfoldable pub kind-rule : ℕ → ℕ → ℕ → Seen → Option ℕ
-kind-rule k t h v = if eqb h 0 then none else if eqb (kind h) k then handle-rule t h v else some 4
+unfoldable pub kind-rule : ℕ → ℕ → Bool → Option ℕ
+kind-rule k h there = if eqb h 0 then none else if eqb (kind h) k then handle-rule h there else some 4
 
 -- null where r, i or b stands: 7; buffer not outstanding in its family (and thread, if critical): 8
-unfoldable pub place-rule : Place → ℕ → ℕ → ℕ → Seen → Option ℕ
-place-rule Place.Unused t f h v = none
-place-rule Place.Handle t f h v = if eqb h 0 then some 7 else handle-rule t h v
-place-rule Place.HandleOrNull t f h v = if eqb h 0 then none else handle-rule t h v
-place-rule Place.LocalOrNull t f h v = kind-rule 1 t h v
-place-rule Place.GlobalOrNull t f h v = kind-rule 2 t h v
-place-rule Place.WeakOrNull t f h v = kind-rule 3 t h v
-place-rule Place.Identity t f h v = if eqb h 0 then some 7 else when (not (eqb (kind h) 0)) 4
-place-rule Place.Buffer t f h v = if eqb h 0 then some 7 else when (not (is-outstanding (same-pin (pin t f h)) v)) 8
+unfoldable pub place-rule : Place → ℕ → Bool → Option ℕ
+place-rule Place.Unused h there = none
+place-rule Place.Handle h there = if eqb h 0 then some 7 else handle-rule h there
+place-rule Place.HandleOrNull h there = if eqb h 0 then none else handle-rule h there
+place-rule Place.LocalOrNull h there = kind-rule 1 h there
+place-rule Place.GlobalOrNull h there = kind-rule 2 h there
+place-rule Place.WeakOrNull h there = kind-rule 3 h there
+place-rule Place.Identity h there = if eqb h 0 then some 7 else when (not (eqb (kind h) 0)) 4
+place-rule Place.Buffer h there = if eqb h 0 then some 7 else when (not there) 8
+
+-- a local in this thread; null and identities are no handles
+unfoldable pub handle-alive : ℕ → ℕ → Seen → Bool
+handle-alive t h v =
+    if eqb (kind h) 0 then false
+    else if eqb (kind h) 1 then is-alive (is-local t h) v
+    else is-alive (is-shared h) v
+
+-- the value at a place of function f, called by thread t
+unfoldable pub is-there : Place → ℕ → ℕ → ℕ → Seen → Bool
+is-there p t f h v =
+    if is-handle-place p then handle-alive t h v
+    else if is-buffer-place p then is-outstanding (same-pin (pin t f h)) v
+    else false
+
+abbrev pub rule-here : Place → ℕ → ℕ → ℕ → Seen → Option ℕ
+rule-here p t f h v = place-rule p h (is-there p t f h v)
 
 -- places 1 to 3 are a b c; X's result is place 1 of kind `o`
 abbrev pub place-at : Line → ℕ → Place
@@ -73,21 +87,12 @@ abbrev pub function-of : Line → ℕ
 function-of e = if-C e then (λ t env f a b c n. f) else 0
 
 unfoldable pub rule-at : Line → Seen → ℕ → Option ℕ
-rule-at e v p = place-rule (place-at e p) (thread-of e) (function-of e) (value-at e p) v
+rule-at e v p = rule-here (place-at e p) (thread-of e) (function-of e) (value-at e p) v
 
 -- ---- place 0: the whole line breaks the rule, with what thing
 
 unfoldable pub in-critical : ℕ → Seen → Bool
 in-critical t v = is-outstanding (critical-of t) v
-
-abbrev pub is-local-result : Result → Bool
-is-local-result Result.Local = true
-is-local-result Result.Global = false
-is-local-result Result.Weak = false
-is-local-result Result.Identity = false
-is-local-result Result.Buffer = false
-is-local-result Result.Status = false
-is-local-result Result.Nothing = false
 
 -- more than the top frame's capacity
 abbrev pub exceeds : List ℕ → ℕ → Bool
@@ -120,7 +125,7 @@ some-of k = when (ltb 0 k) k
 unfoldable pub end-rule : Seen → ℕ → Option ℕ
 end-rule v rule =
     if eqb rule 8 then some-of (v .buffers everything)
-    else if eqb rule 9 then some-of (sum (v .monitors) all-threads)
+    else if eqb rule 9 then some-of (v .all-monitors)
     else if eqb rule 10 then some-of (v .handles global-or-weak)
     else none
 
@@ -129,7 +134,7 @@ unfoldable pub line-rule : Line → Seen → ℕ → Option ℕ
 line-rule e v rule =
     if-C e then (λ t env f a b c n. call-rule t env f v rule)
     else if-X e then (λ t r. when (eqb rule 3 && in-critical t v) 0)
-    else if-R e then (λ t f r p. when (eqb rule 11 && overflows t f (size r) v) (size r))
+    else if-R e then (λ t f r p. when (eqb rule 11 && overflows t f (above-zero r) v) (above-zero r))
     else if-Z e then end-rule v rule
     else none
 

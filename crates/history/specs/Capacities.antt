@@ -21,22 +21,30 @@ abbrev pub raised : ℕ → List ℕ → List ℕ
 raised k [] = []
 raised k (c ∷ cs) = max c k ∷ cs
 
--- With status 0: 19 pushes a frame of capacity max(n,0), 26 raises the top frame's to max(old, locals alive in it + max(n,0)); n is that of the matching C.
--- A line after which `gone` frames fewer stand takes their capacities with it; `held` locals are alive in the top frame.
-abbrev pub capacities-after : Line → ℕ → ℕ → ℕ → List ℕ → List ℕ
-capacities-after e gone held n cs =
+-- what a line finds: the frames that go with it, the locals alive in the top frame, and max(n,0) of the matching C
+pub record Finds : Type 0 where
+  pub gone : ℕ
+  pub held : ℕ
+  pub asked : ℕ
+
+-- With status 0: 19 pushes a frame of capacity max(n,0), 26 raises the top frame's to max(old, locals alive in it + max(n,0)).
+-- A frame that goes takes its capacity with it.
+abbrev pub capacities-after : Line → Finds → List ℕ → List ℕ
+capacities-after e x cs =
     if-N e then (λ t env hs. native-capacity ∷ cs)
     else if-R e then
     (λ t f r p.
     if not (is-zero r) then cs
-    else if eqb f PushLocalFrame then n ∷ cs
-    else if eqb f EnsureLocalCapacity then raised (held + n) cs
+    else if eqb f PushLocalFrame then x .asked ∷ cs
+    else if eqb f EnsureLocalCapacity then raised (x .held + x .asked) cs
     else cs)
-    else drop gone cs
+    else drop (x .gone) cs
 
 unfoldable pub capacities : ℕ → History → List ℕ
 capacities t [] = []
 capacities t (e ∷ past) =
     if is-of t e then
-    capacities-after e (depth t past - depth t (e ∷ past)) (alive-in t (depth t past) past) (asked (top-of (items t past))) (capacities t past)
+    capacities-after e
+    (record { gone = depth t past - depth t (e ∷ past); held = alive-in t (depth t past) past; asked = asked (top-of (items t past)) })
+    (capacities t past)
     else capacities t past

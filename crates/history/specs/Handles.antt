@@ -10,7 +10,7 @@ use Rattle.facts.specs.Named.{DeleteGlobalRef, DeleteLocalRef, DeleteWeakGlobal
 use Rattle.facts.specs.declared.Result.{Result}
 use Rattle.facts.specs.declared.Result.the-variants as Result
 use Rattle.lines.specs.Line.{Line, if-N_then_else_, if-C_then_else_, if-R_then_else_, kind}
-use Rattle.lines.specs.Reading.{size}
+use Rattle.lines.specs.Reading.{above-zero}
 use Rattle.history.specs.Past.{History, thread-of}
 use Rattle.history.specs.Frames.{depth}
 
@@ -36,7 +36,7 @@ result-made Result.Nothing t d h = []
 unfoldable pub makes : Line → ℕ → List Alive
 makes e d =
     if-N e then (λ t env hs. map (local t (suc d)) hs)
-    else if-R e then (λ t f r p. if eqb (size r) 0 then [] else result-made (fact-of f .result) t d (size r))
+    else if-R e then (λ t f r p. if eqb (above-zero r) 0 then [] else result-made (fact-of f .result) t d (above-zero r))
     else []
 
 -- ---- which handle it is

@@ -5,7 +5,7 @@ use mathlib.Core.List.{List, [], _∷_, tail}
 use mathlib.Core.Option.{Option, none, some}
 use lib.Dec.{eqb}
 use Rattle.lines.specs.Line.{Line, if-N_then_else_, if-X_then_else_, if-C_then_else_, if-R_then_else_}
-use Rattle.lines.specs.Reading.{size}
+use Rattle.lines.specs.Reading.{above-zero}
 use Rattle.history.specs.Past.{History, through}
 
 pub data Item : Type 0 where
@@ -18,7 +18,7 @@ abbrev pub items-after : Line → List Item → List Item
 items-after e is =
     if-N e then (λ t env hs. in-native ∷ is)
     else if-X e then (λ t r. tail is)
-    else if-C e then (λ t env f a b c n. in-call f (size n) ∷ is)
+    else if-C e then (λ t env f a b c n. in-call f (above-zero n) ∷ is)
     else if-R e then (λ t f r p. tail is)
     else is
 

@@ -1,5 +1,5 @@
 -- The reply to the next line after any calls, refused ones among them. Assumes nothing.
-use Prim.Native.Nat.{ℕ}
+use Prim.Native.Nat.{ℕ, suc}
 use mathlib.Core.List.{List, [], _∷_}
 use lib.Dec.{eqb, leb}
 use lib.ListN.{length}
@@ -30,7 +30,7 @@ pub data Reply : Type 0 where
 
 abbrev pub reply-of : History → Read → Reply
 reply-of past (refused k) = not-accepted k
-reply-of past (says e) = accepted (of-line e (seen past))
+reply-of past (says e) = accepted (of-line (suc (length past)) e (seen past))
 
 unfoldable pub reply : Room → History → List ℕ → Reply
 reply room past bs = reply-of past (verdict room past bs)

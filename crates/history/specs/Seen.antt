@@ -3,14 +3,13 @@ use Prim.Native.Nat.{ℕ}
 use mathlib.Core.Bool.{Bool}
 use mathlib.Core.List.{List}
 use lib.Dec.{ltb}
-use lib.ListN.{length}
-use Rattle.words.specs.Lists.{count}
+use Rattle.words.specs.Lists.{count, sum}
 use Rattle.history.specs.Past.{History, closed}
 use Rattle.history.specs.Frames.{Frame, frames}
 use Rattle.history.specs.Handles.{Alive, living}
 use Rattle.history.specs.Capacities.{capacities}
 use Rattle.history.specs.Buffers.{Pin, outstanding}
-use Rattle.history.specs.Thread.{pending, monitors, env-of}
+use Rattle.history.specs.Thread.{all-threads, pending, monitors, env-of}
 
 pub record Seen : Type 0 where
   -- of each thread
@@ -19,11 +18,12 @@ pub record Seen : Type 0 where
   pub pending : ℕ → ℕ
   pub monitors : ℕ → ℕ
   pub env : ℕ → ℕ
+  -- of all threads
+  pub all-monitors : ℕ
   -- how many handles alive, and how many buffers outstanding, pass a test
   pub handles : (Alive → Bool) → ℕ
   pub buffers : (Pin → Bool) → ℕ
-  -- accepted lines, and whether Z was one of them
-  pub lines : ℕ
+  -- Z was one of the lines
   pub closed : Bool
 
 unfoldable pub seen : History → Seen
@@ -34,9 +34,9 @@ seen past =
       pending = λ t. pending t past;
       monitors = λ t. monitors t past;
       env = λ t. env-of t past;
+      all-monitors = sum (λ t. monitors t past) all-threads;
       handles = λ test. count test (living past);
       buffers = λ test. count test (outstanding past);
-      lines = length past;
       closed = closed past;
     }
 

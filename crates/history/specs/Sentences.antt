@@ -12,14 +12,15 @@ use Rattle.words.specs.Lists.{any, count}
 use Rattle.words.specs.Text.{bytes, line-feed}
 use Rattle.facts.specs.Table.{_/_, fact-of, is-function, families, family, is-critical}
 use Rattle.facts.specs.Named.{PushLocalFrame, PopLocalFrame, DeleteGlobalRef, DeleteLocalRef, EnsureLocalCapacity, MonitorEnter, MonitorExit, DeleteWeakGlobalRef}
+use Rattle.facts.specs.Results.{is-buffer-result, is-buffer-place}
 use Rattle.lines.specs.Line.{Line, N, X, C, R, Z, kind, is-zero}
-use Rattle.lines.specs.Reading.{Read, says, refused, read, size}
+use Rattle.lines.specs.Reading.{Read, says, refused, read, above-zero}
 use Rattle.history.specs.Past.{History, is-of}
 use Rattle.history.specs.Items.{in-call, items, top-of, asked}
 use Rattle.history.specs.Frames.{Frame, entered, pushed, frames, depth}
 use Rattle.history.specs.Handles.{Alive, local, shared, is-local, is-shared, same-handle, living, alive-in}
 use Rattle.history.specs.Capacities.{capacities}
-use Rattle.history.specs.Buffers.{Pin, critical, pin, same-pin, is-buffer-result, is-buffer-place, gets, releases, outstanding}
+use Rattle.history.specs.Buffers.{Pin, critical, pin, same-pin, gets, releases, outstanding}
 use Rattle.history.specs.Thread.{pending, monitors, env-of}
 use Rattle.history.specs.Seen.{Seen, seen, is-alive}
 use Rattle.history.specs.Acceptance.{Room, refusal}
@@ -53,7 +54,7 @@ pub record On-breaches : Type 0 where
   -- a used place gives at most one finding
   pub one-a-place : (past : History) (e : Line) (place r s v w : ℕ) → 1 ≤ place → Broken past e r place v → Broken past e s place w → (r ≡ s) × (v ≡ w)
   -- and a line at most six
-  pub at-most : (e : Line) (v : Seen) → length (of-line e v) ≤ most-findings e
+  pub at-most : (line : ℕ) (e : Line) (v : Seen) → length (of-line line e v) ≤ most-findings e
 
 pub record On-handles : Type 0 where
   -- alive: an earlier line made it and no line since has ended it
@@ -106,7 +107,7 @@ pub record On-lines : Type 0 where
   pub push-frames : (t p : ℕ) (past : History) → frames t (R t PushLocalFrame (pos 0) p ∷ past) ≡ pushed ∷ frames t past
   pub matching-push : (t env a b c p : ℕ) (n : ℤ) (inside past : History) → Whole t inside
       → capacities t (R t PushLocalFrame (pos 0) p ∷ (inside ++ (C t env PushLocalFrame a b c n ∷ past)))
-      ≡ size n ∷ capacities t (inside ++ (C t env PushLocalFrame a b c n ∷ past))
+      ≡ above-zero n ∷ capacities t (inside ++ (C t env PushLocalFrame a b c n ∷ past))
   -- 26 raises the top frame's capacity to max(old, locals alive in it + max(n,0))
   pub ensure-capacities : (t p : ℕ) (past : History) (old : ℕ) (lower : List ℕ) → capacities t past ≡ old ∷ lower
       → capacities t (R t EnsureLocalCapacity (pos 0) p ∷ past) ≡ max old (alive-in t (depth t past) past + asked (top-of (items t past))) ∷ lower
@@ -121,7 +122,7 @@ pub record On-lines : Type 0 where
   pub capacities-fit : (past : History) (t : ℕ) → length (capacities t past) ≡ depth t past
   -- the open call at an R is its matching C
   pub matching-call : (t env f a b c : ℕ) (n : ℤ) (inside past : History) → Whole t inside
-      → items t (inside ++ (C t env f a b c n ∷ past)) ≡ in-call f (size n) ∷ items t past
+      → items t (inside ++ (C t env f a b c n ∷ past)) ≡ in-call f (above-zero n) ∷ items t past
   -- X ends all locals and frames of that native, pushed frames included, and closes it
   pub native-closes : (t r env : ℕ) (hs : List ℕ) (inside past : History) → Whole t inside
       → (frames t (X t r ∷ (inside ++ (N t env hs ∷ past))) ≡ frames t past) × (items t (X t r ∷ (inside ++ (N t env hs ∷ past))) ≡ items t past)

@@ -1,9 +1,10 @@
 // What the judge's code shares with the definitions of the history.
+use words::Handle;
 
 // A breach that was found: the accepted line's number, the rule, the place and the thing.
 pub struct Finding {
     pub line: u32,
     pub rule: u32,
     pub place: u32,
-    pub thing: u32,
+    pub thing: Handle,
 }

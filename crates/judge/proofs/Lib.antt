@@ -1,5 +1,4 @@
-pub mod Weighing
-pub mod Returning
-pub mod Outcomes
-pub mod Told
+pub mod Reading
+pub mod ByBook
 pub mod Dispatch
+pub mod Moving

@@ -1,24 +1,26 @@
 // The judge over lent tables: a start, and one step.
+mod items;
+
 use answers::Answer;
+use book::Top;
 use lines::Event;
+use rows::Number;
+use words::Handle;
 ghost use mathlib.Core.Path.{_≡_};
-ghost use mathlib.Core.Bool.{false};
 ghost use Prim.Native.Nat.{suc, _≤_};
 ghost use Rattle.lines.specs.Line.{most-handles};
-ghost use Rattle.book.specs.Threads.{lines-in};
-ghost use Rattle.book.specs.Unfit.{unfit};
+ghost use Rattle.book.specs.Threads.{lines-in, top-is};
 ghost use Rattle.tables.specs.Tables.{tables};
 ghost use Rattle.tables.specs.Stepping.{start-of};
-ghost use Rattle.kinds.specs.Outcome.{leaves};
-ghost use Rattle.judge.specs.Outcome.{step-outcome, slots-told, event-outcome, by-book};
-
-const MOST_LINES: u64 = 1000000;
+ghost use Rattle.events.specs.Outcome.{leaves};
+ghost use Rattle.judge.specs.Event.{slots-named};
+ghost use Rattle.judge.specs.Outcome.{event-outcome, step-outcome, by-book};
 
 // Clears all rows, marks and book.
 pub fn start(
-    rows: &mut [u32],
+    rows: &mut [Number],
     marks: &mut [u64],
-    pins: &mut [u32],
+    pins: &mut [Number],
     pinmarks: &mut [u64],
     book: &mut [u64],
 )
@@ -36,7 +38,7 @@ fn refused_by_book(book: &[u64]) -> u8
     if book::unfit(book) {
         return 8;
     }
-    if MOST_LINES <= book::lines_of(book) {
+    if book::MOST_LINES <= book::lines_of(book) {
         return 1;
     }
     0
@@ -50,27 +52,44 @@ fn next_number(book: &[u64]) -> u32
     book::lines_of(book) as u32 + 1
 }
 
-// A line that was read, or the number given instead of it. Line number `line`.
+// A line that was read, or the number given instead of it. Line number `line`; `top` is on top of its thread's `many` open items.
 fn on_event(
     event: Event,
-    handles: [u32; 8],
-    rows: &mut [u32],
+    handles: [Handle; 8],
+    rows: &mut [Number],
     marks: &mut [u64],
-    pins: &mut [u32],
+    pins: &mut [Number],
     pinmarks: &mut [u64],
     book: &mut [u64],
+    top: Top,
+    many: u32,
     line: u32,
 ) -> Answer
-    requires { ⌜ (line ≡ suc (lines-in (now book))) × (unfit (now book) ≡ false) × (slots-told event ≤ most-handles) ⌝ }
-    ensures { λ r. ⌜ leaves r (tables (now (rows .exit)) (now (marks .exit)) (now (pins .exit)) (now (pinmarks .exit)) (now (book .exit))) ≡ event-outcome (tables (now (rows .entry)) (now (marks .entry)) (now (pins .entry)) (now (pinmarks .entry)) (now (book .entry))) event handles ⌝ }
+    requires { ⌜ slots-named event ≤ most-handles ⌝ }
+    ensures { λ r. ⌜ leaves r (tables (now (rows .exit)) (now (marks .exit)) (now (pins .exit)) (now (pinmarks .exit)) (now (book .exit))) ≡ event-outcome line event handles (top-is top) many (tables (now (rows .entry)) (now (marks .entry)) (now (pins .entry)) (now (pinmarks .entry)) (now (book .entry))) ⌝ }
 {
     match event {
-        Event::Enter { thread, env, count } => {
-            kinds::enter::enter(rows, marks, book, thread, env, &handles[..count as usize])
-        }
-        Event::Leave { thread, result } => {
-            kinds::leave::leave(rows, marks, pins, pinmarks, book, line, thread, result)
-        }
+        Event::Enter { thread, env, count } => events::enter::enter(
+            rows,
+            marks,
+            book,
+            top,
+            many,
+            thread,
+            env,
+            &handles[..count as usize],
+        ),
+        Event::Leave { thread, result } => events::leave::leave(
+            rows,
+            marks,
+            pins,
+            pinmarks,
+            book,
+            top,
+            line,
+            thread,
+            result,
+        ),
         Event::Call {
             thread,
             env,
@@ -78,13 +97,15 @@ fn on_event(
             a,
             b,
             c,
-            n,
-        } => kinds::call::call(
+            ..
+        } => events::call::call(
             rows,
             marks,
             pins,
             pinmarks,
             book,
+            top,
+            many,
             line,
             thread,
             env,
@@ -92,7 +113,6 @@ fn on_event(
             a,
             b,
             c,
-            n,
         ),
         Event::Return {
             thread,
@@ -100,12 +120,13 @@ fn on_event(
             result,
             status,
             pending,
-        } => kinds::give::give(
+        } => events::returns::returns(
             rows,
             marks,
             pins,
             pinmarks,
             book,
+            top,
             line,
             thread,
             function,
@@ -113,7 +134,7 @@ fn on_event(
             status,
             pending,
         ),
-        Event::End => kinds::end::end(rows, marks, pins, pinmarks, book, line),
+        Event::End => events::end::end(rows, marks, pins, pinmarks, book, line),
         Event::Refused(k) => answers::refused(k),
     }
 }
@@ -121,9 +142,9 @@ fn on_event(
 // One line of the trace, all its bytes with the LF: the number given instead of it, or its findings.
 pub fn step(
     line: &[u8],
-    rows: &mut [u32],
+    rows: &mut [Number],
     marks: &mut [u64],
-    pins: &mut [u32],
+    pins: &mut [Number],
     pinmarks: &mut [u64],
     book: &mut [u64],
 ) -> Answer
@@ -136,5 +157,23 @@ pub fn step(
     let number = next_number(book);
     let mut handles = [0; 8];
     let event = lines::read_line(line, &mut handles);
-    on_event(event, handles, rows, marks, pins, pinmarks, book, number)
+    let t = items::thread_of(event);
+    let top = book::top_item(book, t);
+    let many = book::items_of(book, t);
+    let answer = on_event(
+        event,
+        handles,
+        rows,
+        marks,
+        pins,
+        pinmarks,
+        book,
+        top,
+        many,
+        number,
+    );
+    if answer.refusal == 0 {
+        items::move_item(book, event);
+    }
+    answer
 }

@@ -13,7 +13,7 @@ use Rattle.words.specs.Choice.{if_then_else_}
 use Rattle.words.specs.Lists.{any}
 use Rattle.numbers.specs.Signed.{is-negative}
 use Rattle.lines.specs.Line.{Line, N, X, C, R, is-allowed, most-handles}
-use Rattle.lines.specs.Reading.{Read, says, refused, size, enter-of, leave-of, call-of, return-of, end-of, line-of}
+use Rattle.lines.specs.Reading.{Read, says, refused, above-zero, enter-of, leave-of, call-of, return-of, end-of, line-of}
 use Rattle.lines.specs.Gathered.{most-fields, right-count}
 use Rattle.lines.proofs.Tests.{both, neither, or-false}
 
@@ -127,14 +127,14 @@ enter-three [] h = absurd (false≢true h)
 enter-three (t ∷ []) h = absurd (false≢true h)
 enter-three (t ∷ env ∷ hs) h =
     let k = leb-true (suc (suc (length hs))) most-fields (both (leb 2 (suc (suc (length hs)))) (leb (suc (suc (length hs))) most-fields) h .1) in
-    let e = N (size t) (size env) (map size hs) in
+    let e = N (above-zero t) (above-zero env) (map above-zero hs) in
     rw (le-leb (length hs) most-handles (omega arith)) (if-three (not (any is-negative (t ∷ env ∷ hs)) && is-allowed e) e)
 
 leave-three : (ns : List ℤ) → eqb (length ns) 2 ≡ true → Three (leave-of ns)
 unfolding leave-of
 leave-three [] h = absurd (false≢true h)
 leave-three (t ∷ []) h = absurd (false≢true h)
-leave-three (t ∷ r ∷ []) h = let e = X (size t) (size r) in if-three (not (any is-negative (t ∷ r ∷ [])) && is-allowed e) e
+leave-three (t ∷ r ∷ []) h = let e = X (above-zero t) (above-zero r) in if-three (not (any is-negative (t ∷ r ∷ [])) && is-allowed e) e
 leave-three (t ∷ r ∷ x ∷ xs) h = let k = eqb-true (length (t ∷ r ∷ x ∷ xs)) 2 h in absurd (omega arith)
 
 call-three : (ns : List ℤ) → eqb (length ns) 7 ≡ true → Three (call-of ns)
@@ -147,7 +147,7 @@ call-three (t ∷ env ∷ f ∷ a ∷ []) h = absurd (false≢true h)
 call-three (t ∷ env ∷ f ∷ a ∷ b ∷ []) h = absurd (false≢true h)
 call-three (t ∷ env ∷ f ∷ a ∷ b ∷ c ∷ []) h = absurd (false≢true h)
 call-three (t ∷ env ∷ f ∷ a ∷ b ∷ c ∷ n ∷ []) h =
-    let e = C (size t) (size env) (size f) (size a) (size b) (size c) n in
+    let e = C (above-zero t) (above-zero env) (above-zero f) (above-zero a) (above-zero b) (above-zero c) n in
     if-three (not (any is-negative (t ∷ env ∷ f ∷ a ∷ b ∷ c ∷ [])) && is-allowed e) e
 call-three (t ∷ env ∷ f ∷ a ∷ b ∷ c ∷ n ∷ x ∷ xs) h = let k = eqb-true (length (t ∷ env ∷ f ∷ a ∷ b ∷ c ∷ n ∷ x ∷ xs)) 7 h in absurd (omega arith)
 
@@ -158,7 +158,7 @@ return-three (t ∷ []) h = absurd (false≢true h)
 return-three (t ∷ f ∷ []) h = absurd (false≢true h)
 return-three (t ∷ f ∷ r ∷ []) h = absurd (false≢true h)
 return-three (t ∷ f ∷ r ∷ p ∷ []) h =
-    let e = R (size t) (size f) r (size p) in if-three (not (any is-negative (t ∷ f ∷ p ∷ [])) && is-allowed e) e
+    let e = R (above-zero t) (above-zero f) r (above-zero p) in if-three (not (any is-negative (t ∷ f ∷ p ∷ [])) && is-allowed e) e
 return-three (t ∷ f ∷ r ∷ p ∷ x ∷ xs) h = let k = eqb-true (length (t ∷ f ∷ r ∷ p ∷ x ∷ xs)) 4 h in absurd (omega arith)
 
 end-three : (ns : List ℤ) → eqb (length ns) 0 ≡ true → Three (end-of ns)

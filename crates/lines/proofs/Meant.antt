@@ -15,7 +15,7 @@ use Rattle.facts.specs.Table.{fact-of, is-function}
 use Rattle.facts.specs.declared.Result.{Result}
 use Rattle.facts.specs.declared.Result.the-variants as Result
 use Rattle.lines.specs.Line.{Line, N, X, C, R, Z, is-allowed, is-thread, is-env, is-argument, is-zero, is-made, result-allows, value-allows, most-handles}
-use Rattle.lines.specs.Reading.{says, refused, size}
+use Rattle.lines.specs.Reading.{says, refused, above-zero}
 use Rattle.lines.specs.Events.{is-status, gives-status, event-of, padded, slots-of, not-zero, with-slots, meant}
 use Rattle.lines.specs.declared.Event.{Event}
 use Rattle.lines.specs.declared.Event.the-variants as Event
@@ -56,16 +56,16 @@ padded-take n hs l h z =
 
 -- ---- writing what was read
 
-plain-value : (test : ℕ → Bool) (r : ℤ) → value-allows test r ≡ true → pos (size r) ≡ r
+plain-value : (test : ℕ → Bool) (r : ℤ) → value-allows test r ≡ true → pos (above-zero r) ≡ r
 plain-value test (pos v) h = refl
 plain-value test (negsuc v) h = let z : _≡_ {A = ℕ} 0 1 = cc in absurd (omega arith)
 
-plain-zero : (r : ℤ) → is-zero r ≡ true → pos (size r) ≡ r
+plain-zero : (r : ℤ) → is-zero r ≡ true → pos (above-zero r) ≡ r
 plain-zero (pos v) h = refl
 plain-zero (negsuc v) h = let z : _≡_ {A = ℕ} 0 1 = cc in absurd (omega arith)
 
 -- a result that is no status has no sign
-plain-result : (k : Result) (r : ℤ) → is-status k ≡ false → result-allows k r ≡ true → pos (size r) ≡ r
+plain-result : (k : Result) (r : ℤ) → is-status k ≡ false → result-allows k r ≡ true → pos (above-zero r) ≡ r
 plain-result Result.Local r s h = plain-value (is-made 1) r h
 plain-result Result.Global r s h = plain-value (is-made 2) r h
 plain-result Result.Weak r s h = plain-value (is-made 3) r h
@@ -78,7 +78,7 @@ return-meant : (t f : ℕ) (r : ℤ) (p : ℕ) → is-allowed (R t f r p) ≡ tr
 return-meant t f r p h = go (gives-status f) refl
   where
     go : (s : Bool) → gives-status f ≡ s
-        → meant (if s then Event.Return t f 0 r p else Event.Return t f (size r) (pos 0) p) (padded []) ≡ says (R t f r p)
+        → meant (if s then Event.Return t f 0 r p else Event.Return t f (above-zero r) (pos 0) p) (padded []) ≡ says (R t f r p)
     go true e = rw (e, h)
     go false e =
         let k = all4 (is-thread t) (is-function f) (result-allows (fact-of f .result) r) (leb p 1) h in

@@ -13,7 +13,7 @@ use Rattle.words.specs.Choice.{if_then_else_}
 use Rattle.words.specs.Lists.{any}
 use Rattle.numbers.specs.Signed.{is-negative}
 use Rattle.lines.specs.Line.{Line, N, X, C, R, Z, is-allowed, is-thread, is-env, is-argument, most-handles}
-use Rattle.lines.specs.Reading.{Read, says, refused, size, if-allowed, enter-of, leave-of, call-of, return-of, end-of, line-of}
+use Rattle.lines.specs.Reading.{Read, says, refused, above-zero, if-allowed, enter-of, leave-of, call-of, return-of, end-of, line-of}
 use Rattle.lines.specs.Writing.{lettered, written}
 use Rattle.lines.proofs.Tests.{neither, all4}
 
@@ -45,15 +45,15 @@ pub none-negative : (hs : List ℕ) → any is-negative (map pos hs) ≡ false
 none-negative [] = refl
 none-negative (h ∷ hs) = none-negative hs
 
-pub sizes : (hs : List ℕ) → map size (map pos hs) ≡ hs
+pub sizes : (hs : List ℕ) → map above-zero (map pos hs) ≡ hs
 sizes [] = refl
 sizes (h ∷ hs) = ap (λ x. h ∷ x) (sizes hs)
 
-not-negative : (z : ℤ) → is-negative z ≡ false → pos (size z) ≡ z
+not-negative : (z : ℤ) → is-negative z ≡ false → pos (above-zero z) ≡ z
 not-negative (pos n) h = refl
 not-negative (negsuc n) h = let z : _≡_ {A = ℕ} 0 1 = cc in absurd (omega arith)
 
-pub plain : (ns : List ℤ) → any is-negative ns ≡ false → map pos (map size ns) ≡ ns
+pub plain : (ns : List ℤ) → any is-negative ns ≡ false → map pos (map above-zero ns) ≡ ns
 plain [] h = refl
 plain (n ∷ ns) h =
     let k = neither (is-negative n) (any is-negative ns) h in
@@ -107,11 +107,11 @@ enter-said (t ∷ []) e h = absurd (never h)
 enter-said (t ∷ env ∷ hs) e h = go (leb (length hs) most-handles) h
   where
     go : (b : Bool)
-        → (if b then if-allowed (t ∷ env ∷ hs) (N (size t) (size env) (map size hs)) else refused 2) ≡ says e
+        → (if b then if-allowed (t ∷ env ∷ hs) (N (above-zero t) (above-zero env) (map above-zero hs)) else refused 2) ≡ says e
         → Numbered (code "N") (t ∷ env ∷ hs) e
     go true h =
-        let a = if-allowed-said (t ∷ env ∷ hs) (N (size t) (size env) (map size hs)) e h in
-        numbered (t ∷ env ∷ hs) (t ∷ env ∷ hs) (N (size t) (size env) (map size hs)) e a (plain (t ∷ env ∷ hs) (a .plain))
+        let a = if-allowed-said (t ∷ env ∷ hs) (N (above-zero t) (above-zero env) (map above-zero hs)) e h in
+        numbered (t ∷ env ∷ hs) (t ∷ env ∷ hs) (N (above-zero t) (above-zero env) (map above-zero hs)) e a (plain (t ∷ env ∷ hs) (a .plain))
     go false h = absurd (never h)
 
 leave-said : (ns : List ℤ) (e : Line) → leave-of ns ≡ says e → Numbered (code "X") ns e
@@ -120,7 +120,7 @@ leave-said [] e h = absurd (never h)
 leave-said (t ∷ []) e h = absurd (never h)
 leave-said (t ∷ r ∷ []) e h =
     let ns = t ∷ r ∷ [] in
-    let x = X (size t) (size r) in
+    let x = X (above-zero t) (above-zero r) in
     let a = if-allowed-said ns x e h in
     numbered ns ns x e a (plain ns (a .plain))
 leave-said (t ∷ r ∷ y ∷ ys) e h = absurd (never h)
@@ -136,7 +136,7 @@ call-said (t ∷ env ∷ f ∷ a ∷ b ∷ []) e h = absurd (never h)
 call-said (t ∷ env ∷ f ∷ a ∷ b ∷ c ∷ []) e h = absurd (never h)
 call-said (t ∷ env ∷ f ∷ a ∷ b ∷ c ∷ n ∷ []) e h =
     let ps = t ∷ env ∷ f ∷ a ∷ b ∷ c ∷ [] in
-    let x = C (size t) (size env) (size f) (size a) (size b) (size c) n in
+    let x = C (above-zero t) (above-zero env) (above-zero f) (above-zero a) (above-zero b) (above-zero c) n in
     let k = if-allowed-said ps x e h in
     numbered (t ∷ env ∷ f ∷ a ∷ b ∷ c ∷ n ∷ []) ps x e k (ap (λ (xs : List ℤ). xs ++ (n ∷ [])) (plain ps (k .plain)))
 call-said (t ∷ env ∷ f ∷ a ∷ b ∷ c ∷ n ∷ y ∷ ys) e h = absurd (never h)
@@ -149,9 +149,9 @@ return-said (t ∷ f ∷ []) e h = absurd (never h)
 return-said (t ∷ f ∷ r ∷ []) e h = absurd (never h)
 return-said (t ∷ f ∷ r ∷ p ∷ []) e h =
     let ps = t ∷ f ∷ p ∷ [] in
-    let x = R (size t) (size f) r (size p) in
+    let x = R (above-zero t) (above-zero f) r (above-zero p) in
     let k = if-allowed-said ps x e h in
-    let q : pos (size t) ∷ pos (size f) ∷ pos (size p) ∷ [] ≡ ps = plain ps (k .plain) in
+    let q : pos (above-zero t) ∷ pos (above-zero f) ∷ pos (above-zero p) ∷ [] ≡ ps = plain ps (k .plain) in
     numbered (t ∷ f ∷ r ∷ p ∷ []) ps x e k (cc)
 return-said (t ∷ f ∷ r ∷ p ∷ y ∷ ys) e h = absurd (never h)
 

@@ -1,6 +1,6 @@
 -- The event that the reader makes of what it gathered says what the line is read as. Assumes nothing.
 use mathlib.Core.Path.{_≡_, refl, ap, ap₂, sym, subst, _∙_}
-use mathlib.Core.Bool.{Bool, true, false, not, _&&_, _||_, true≢false, false≢true}
+use mathlib.Core.Bool.{Bool, true, false, _&&_, _||_, true≢false, false≢true}
 use mathlib.Core.List.{List, [], _∷_, _++_, map}
 use mathlib.Core.Option.{Option, none, some}
 use Prim.Native.Nat.{ℕ, suc, zero, _+_, _-_, _≤_, _<_}
@@ -21,8 +21,8 @@ use Rattle.numbers.specs.Signed.{signed, as-int, is-i32, is-negative}
 use Rattle.numbers.specs.declared.Int.{Int}
 use Rattle.numbers.specs.declared.Int.the-variants as Int
 use Rattle.numbers.proofs.Signed.{signed-size}
-use Rattle.lines.specs.Line.{N, X, C, R, Z, is-allowed, is-thread, is-env, is-zero, place-allows, capacity-allows, result-allows, most-handles}
-use Rattle.lines.specs.Reading.{Read, says, refused, size, numbers, enter-of, leave-of, call-of, return-of, end-of, line-of, if-numbers}
+use Rattle.lines.specs.Line.{C, R, is-allowed, is-thread, is-env, is-zero, place-allows, capacity-allows, result-allows, most-handles}
+use Rattle.lines.specs.Reading.{Read, says, refused, above-zero, numbers, enter-of, leave-of, call-of, return-of, end-of, line-of, if-numbers}
 use Rattle.lines.specs.Events.{is-status, gives-status, padded, not-zero, meant}
 use Rattle.lines.specs.Gathered.{most-fields, tally, nothing-yet, no-values, Gathered, gathered-as, gathered, signed-place, right-count, call-with, raw-call, status-with, raw-return, raw-event, raw-says}
 use Rattle.lines.specs.declared.Event.{Event}
@@ -49,7 +49,7 @@ sizes-of [] = refl
 sizes-of (h ∷ hs) = ap (λ (x : List ℕ). h ∷ x) (sizes-of hs)
 
 -- numbers that are not below zero are sizes
-plain-by : (P : List ℤ → Type 0) (ns : List ℤ) → any is-negative ns ≡ false → P (map pos (map size ns)) → P ns
+plain-by : (P : List ℤ → Type 0) (ns : List ℤ) → any is-negative ns ≡ false → P (map pos (map above-zero ns)) → P ns
 plain-by P ns h p = subst P (plain ns h) p
 
 -- ---- N
@@ -125,7 +125,7 @@ call-said t env f a b c n v e = go (is-i32 n) refl
     go false h = rw (no-capacity f n h, and-false (is-thread t && is-env env && is-function f && place-allows (fact-of f .a) a && place-allows (fact-of f .b) b && place-allows (fact-of f .c) c))
 
 -- a number before the signed one is a size
-size-is : (k i : ℕ) (z : ℤ) → eqb i k ≡ false → wrong-at k i z ≡ false → pos (size z) ≡ z
+size-is : (k i : ℕ) (z : ℤ) → eqb i k ≡ false → wrong-at k i z ≡ false → pos (above-zero z) ≡ z
 size-is k i (pos n) e h = refl
 size-is k i (negsuc n) e h = absurd (true≢false (not-negative k i (negsuc n) e h))
 
@@ -151,8 +151,8 @@ call-fine t env f a b c n r w =
     let ea = size-is 6 3 a refl (w3 .0) in
     let eb = size-is 6 4 b refl (w4 .0) in
     let ec = size-is 6 5 c refl (w5 .0) in
-    let e : pos (size t) ∷ pos (size env) ∷ pos (size f) ∷ pos (size a) ∷ pos (size b) ∷ pos (size c) ∷ n ∷ [] ≡ t ∷ env ∷ f ∷ a ∷ b ∷ c ∷ n ∷ [] = cc in
-    subst (Fine (code "C")) e (call-sizes (size t) (size env) (size f) (size a) (size b) (size c) n) r w
+    let e : pos (above-zero t) ∷ pos (above-zero env) ∷ pos (above-zero f) ∷ pos (above-zero a) ∷ pos (above-zero b) ∷ pos (above-zero c) ∷ n ∷ [] ≡ t ∷ env ∷ f ∷ a ∷ b ∷ c ∷ n ∷ [] = cc in
+    subst (Fine (code "C")) e (call-sizes (above-zero t) (above-zero env) (above-zero f) (above-zero a) (above-zero b) (above-zero c) n) r w
 
 -- ---- R
 
@@ -224,8 +224,8 @@ return-fine t f r p c w =
     let et = size-is 2 0 t refl (w0 .0) in
     let ef = size-is 2 1 f refl (w1 .0) in
     let ep = size-is 2 3 p refl (w3 .0) in
-    let e : pos (size t) ∷ pos (size f) ∷ r ∷ pos (size p) ∷ [] ≡ t ∷ f ∷ r ∷ p ∷ [] = cc in
-    subst (Fine (code "R")) e (return-sizes (size t) (size f) r (size p)) c w
+    let e : pos (above-zero t) ∷ pos (above-zero f) ∷ r ∷ pos (above-zero p) ∷ [] ≡ t ∷ f ∷ r ∷ p ∷ [] = cc in
+    subst (Fine (code "R")) e (return-sizes (above-zero t) (above-zero f) r (above-zero p)) c w
 
 -- ---- by the letter
 
@@ -249,7 +249,7 @@ unsigned : (b : ℕ) → signed-place b ≡ most-fields → ((hs : List ℕ) →
 unsigned b k f ns c w =
     let l = right-count-most b (length ns) c in
     let n = none-below most-fields 0 ns (omega arith) (subst (λ (i : ℕ). any-wrong i 0 ns ≡ false) k w) in
-    subst (Fine b) (plain ns n) (f (map size ns)) c w
+    subst (Fine b) (plain ns n) (f (map above-zero ns)) c w
 
 fine : (b : ℕ) (ns : List ℤ) → Fine b ns
 unfolding right-count

@@ -14,7 +14,7 @@ use Rattle.words.specs.Lists.{any}
 use Rattle.words.specs.Text.{line-feed}
 use Rattle.numbers.specs.Signed.{is-negative}
 use Rattle.lines.specs.Line.{Line, N, X, C, R, is-allowed, longest, most-handles}
-use Rattle.lines.specs.Reading.{Read, says, refused, fields, numbers, if-allowed, size, enter-of, leave-of, call-of, return-of, end-of, line-of, if-numbers, of-fields, read}
+use Rattle.lines.specs.Reading.{Read, says, refused, fields, numbers, if-allowed, above-zero, enter-of, leave-of, call-of, return-of, end-of, line-of, if-numbers, of-fields, read}
 
 abbrev Low : Read → Type 0
 Low (says e) = Unit
@@ -35,14 +35,14 @@ unfolding enter-of
 enter-low [] = two
 enter-low (t ∷ []) = two
 enter-low (t ∷ env ∷ hs) =
-    if-low (leb (length hs) most-handles) (if-allowed (t ∷ env ∷ hs) (N (size t) (size env) (map size hs))) (refused 2)
-    (allowed-low (t ∷ env ∷ hs) (N (size t) (size env) (map size hs))) two
+    if-low (leb (length hs) most-handles) (if-allowed (t ∷ env ∷ hs) (N (above-zero t) (above-zero env) (map above-zero hs))) (refused 2)
+    (allowed-low (t ∷ env ∷ hs) (N (above-zero t) (above-zero env) (map above-zero hs))) two
 
 leave-low : (ns : List ℤ) → Low (leave-of ns)
 unfolding leave-of
 leave-low [] = two
 leave-low (t ∷ []) = two
-leave-low (t ∷ r ∷ []) = allowed-low (t ∷ r ∷ []) (X (size t) (size r))
+leave-low (t ∷ r ∷ []) = allowed-low (t ∷ r ∷ []) (X (above-zero t) (above-zero r))
 leave-low (t ∷ r ∷ x ∷ xs) = two
 
 call-low : (ns : List ℤ) → Low (call-of ns)
@@ -55,7 +55,7 @@ call-low (t ∷ env ∷ f ∷ a ∷ []) = two
 call-low (t ∷ env ∷ f ∷ a ∷ b ∷ []) = two
 call-low (t ∷ env ∷ f ∷ a ∷ b ∷ c ∷ []) = two
 call-low (t ∷ env ∷ f ∷ a ∷ b ∷ c ∷ n ∷ []) =
-    allowed-low (t ∷ env ∷ f ∷ a ∷ b ∷ c ∷ []) (C (size t) (size env) (size f) (size a) (size b) (size c) n)
+    allowed-low (t ∷ env ∷ f ∷ a ∷ b ∷ c ∷ []) (C (above-zero t) (above-zero env) (above-zero f) (above-zero a) (above-zero b) (above-zero c) n)
 call-low (t ∷ env ∷ f ∷ a ∷ b ∷ c ∷ n ∷ x ∷ xs) = two
 
 return-low : (ns : List ℤ) → Low (return-of ns)
@@ -64,7 +64,7 @@ return-low [] = two
 return-low (t ∷ []) = two
 return-low (t ∷ f ∷ []) = two
 return-low (t ∷ f ∷ r ∷ []) = two
-return-low (t ∷ f ∷ r ∷ p ∷ []) = allowed-low (t ∷ f ∷ p ∷ []) (R (size t) (size f) r (size p))
+return-low (t ∷ f ∷ r ∷ p ∷ []) = allowed-low (t ∷ f ∷ p ∷ []) (R (above-zero t) (above-zero f) r (above-zero p))
 return-low (t ∷ f ∷ r ∷ p ∷ x ∷ xs) = two
 
 end-low : (ns : List ℤ) → Low (end-of ns)

@@ -20,7 +20,7 @@ use Rattle.numbers.proofs.Bytes.{Parts, not-in-shown}
 use Rattle.lines.specs.Line.{Line, N, X, C, R, Z, is-allowed, longest}
 use Rattle.lines.specs.Reading.{says, refused, fields, and-number, numbers, if-numbers, of-fields, read}
 use Rattle.lines.specs.Writing.{tabbed, written}
-use Rattle.lines.proofs.Tests.{both, neither}
+use Rattle.lines.proofs.Tests.{neither}
 use Rattle.lines.proofs.Cut.{is-tab, tails, parted, parted-fields, NoTabs, fields-parted, tabbed-tails}
 use Rattle.lines.proofs.Numbered.{letter-of, numbers-of, written-numbers, line-says, line-said, never}
 use Rattle.lines.proofs.Fits.{length-written}

@@ -3,7 +3,7 @@ use Prim.Native.Nat.{ℕ, _-_}
 use mathlib.Core.Bool.{Bool, true, false, not, _&&_}
 use mathlib.Core.List.{List, [], _++_}
 use lib.Dec.{eqb, leb, ltb}
-use lib.IntN.{pos}
+use lib.IntN.{ℤ, pos}
 use lib.ListN.{length, take, drop, replicate}
 use Rattle.words.specs.Choice.{if_then_else_}
 use Rattle.words.specs.Lists.{any}
@@ -11,7 +11,7 @@ use Rattle.facts.specs.Table.{fact-of}
 use Rattle.facts.specs.declared.Result.{Result}
 use Rattle.facts.specs.declared.Result.the-variants as Result
 use Rattle.lines.specs.Line.{Line, N, X, C, R, Z, is-allowed, is-zero, most-handles}
-use Rattle.lines.specs.Reading.{Read, says, refused, size}
+use Rattle.lines.specs.Reading.{Read, says, refused, above-zero}
 use Rattle.lines.specs.Writing.{written}
 use Rattle.lines.specs.declared.Event.{Event}
 use Rattle.lines.specs.declared.Event.the-variants as Event
@@ -30,6 +30,10 @@ is-status Result.Nothing = false
 abbrev pub gives-status : ℕ → Bool
 gives-status f = is-status (fact-of f .result)
 
+-- the result in R's line, of the event's result h and status s: one of them is 0
+abbrev pub result-in-line : ℕ → ℕ → ℤ → ℤ
+result-in-line f h s = if gives-status f then s else pos h
+
 -- ---- what the reader answers, and the eight slots beside it
 
 abbrev pub event-of : Read → Event
@@ -37,7 +41,7 @@ event-of (refused k) = Event.Refused k
 event-of (says (N t env hs)) = Event.Enter t env (length hs)
 event-of (says (X t r)) = Event.Leave t r
 event-of (says (C t env f a b c n)) = Event.Call t env f a b c n
-event-of (says (R t f r p)) = if gives-status f then Event.Return t f 0 r p else Event.Return t f (size r) (pos 0) p
+event-of (says (R t f r p)) = if gives-status f then Event.Return t f 0 r p else Event.Return t f (above-zero r) (pos 0) p
 event-of (says Z) = Event.End
 
 abbrev pub padded : List ℕ → List ℕ

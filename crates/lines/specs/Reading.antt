@@ -41,10 +41,10 @@ numbers (w ∷ ws) = and-number (number w) (numbers ws)
 
 -- ---- the line that a letter and numbers are: 2 where the count of fields is wrong, 3 where one is out of range
 
--- a field where no negative is said
-abbrev pub size : ℤ → ℕ
-size (pos n) = n
-size (negsuc n) = 0
+-- max(n,0)
+abbrev pub above-zero : ℤ → ℕ
+above-zero (pos n) = n
+above-zero (negsuc n) = 0
 
 -- the line, if none of these fields is negative and all is in range
 abbrev pub if-allowed : List ℤ → Line → Read
@@ -54,12 +54,12 @@ unfoldable pub enter-of : List ℤ → Read
 enter-of [] = refused 2
 enter-of (t ∷ []) = refused 2
 enter-of (t ∷ env ∷ hs) =
-    if leb (length hs) most-handles then if-allowed (t ∷ env ∷ hs) (N (size t) (size env) (map size hs)) else refused 2
+    if leb (length hs) most-handles then if-allowed (t ∷ env ∷ hs) (N (above-zero t) (above-zero env) (map above-zero hs)) else refused 2
 
 unfoldable pub leave-of : List ℤ → Read
 leave-of [] = refused 2
 leave-of (t ∷ []) = refused 2
-leave-of (t ∷ r ∷ []) = if-allowed (t ∷ r ∷ []) (X (size t) (size r))
+leave-of (t ∷ r ∷ []) = if-allowed (t ∷ r ∷ []) (X (above-zero t) (above-zero r))
 leave-of (t ∷ r ∷ _ ∷ _) = refused 2
 
 unfoldable pub call-of : List ℤ → Read
@@ -71,7 +71,7 @@ call-of (t ∷ env ∷ f ∷ a ∷ []) = refused 2
 call-of (t ∷ env ∷ f ∷ a ∷ b ∷ []) = refused 2
 call-of (t ∷ env ∷ f ∷ a ∷ b ∷ c ∷ []) = refused 2
 call-of (t ∷ env ∷ f ∷ a ∷ b ∷ c ∷ n ∷ []) =
-    if-allowed (t ∷ env ∷ f ∷ a ∷ b ∷ c ∷ []) (C (size t) (size env) (size f) (size a) (size b) (size c) n)
+    if-allowed (t ∷ env ∷ f ∷ a ∷ b ∷ c ∷ []) (C (above-zero t) (above-zero env) (above-zero f) (above-zero a) (above-zero b) (above-zero c) n)
 call-of (t ∷ env ∷ f ∷ a ∷ b ∷ c ∷ n ∷ _ ∷ _) = refused 2
 
 unfoldable pub return-of : List ℤ → Read
@@ -79,7 +79,7 @@ return-of [] = refused 2
 return-of (t ∷ []) = refused 2
 return-of (t ∷ f ∷ []) = refused 2
 return-of (t ∷ f ∷ r ∷ []) = refused 2
-return-of (t ∷ f ∷ r ∷ p ∷ []) = if-allowed (t ∷ f ∷ p ∷ []) (R (size t) (size f) r (size p))
+return-of (t ∷ f ∷ r ∷ p ∷ []) = if-allowed (t ∷ f ∷ p ∷ []) (R (above-zero t) (above-zero f) r (above-zero p))
 return-of (t ∷ f ∷ r ∷ p ∷ _ ∷ _) = refused 2
 
 unfoldable pub end-of : List ℤ → Read

@@ -1,6 +1,8 @@
 // Lines of a trace: their events, and the reader.
 use numbers::Field;
 use numbers::Int;
+use words::Handle;
+use words::LARGEST;
 ghost use mathlib.Core.Path.{_≡_};
 ghost use Prim.Native.Nat.{suc, _<_, _%_};
 ghost use lib.ListN.{set};
@@ -24,7 +26,7 @@ pub const CAPACITY_FIELD: usize = 6;
 
 pub const RESULT_FIELD: usize = 2;
 
-const PAST_LARGEST: u64 = 4294967296;
+const PAST_LARGEST: u64 = LARGEST as u64 + 1;
 
 // The numbers given instead of an event: the line's length or LF, its form, a range.
 const LENGTH: u8 = 1;
@@ -37,27 +39,27 @@ pub const RANGE: u8 = 3;
 pub enum Event {
     Enter {
         thread: u32,
-        env: u32,
+        env: Handle,
         count: u32,
     },
     Leave {
         thread: u32,
-        result: u32,
+        result: Handle,
     },
     Call {
         thread: u32,
-        env: u32,
+        env: Handle,
         function: u32,
-        a: u32,
-        b: u32,
-        c: u32,
+        a: Handle,
+        b: Handle,
+        c: Handle,
         n: i32,
     },
     // What a function returns is its status, or its result where it has no status; the other is 0.
     Return {
         thread: u32,
         function: u32,
-        result: u32,
+        result: Handle,
         status: i32,
         pending: u32,
     },
@@ -79,21 +81,21 @@ struct Tally {
     minus: bool,
 }
 
-fn wide(n: u32) -> u64
+fn wide(n: Handle) -> u64
     ensures { λ r. ⌜ r ≡ n ⌝ }
 {
     n as u64
 }
 
-fn put_value(values: &mut [u32; 10], at: usize, n: u64)
+fn put_value(values: &mut [Handle; 10], at: usize, n: u64)
     requires { ⌜ at < 10 ⌝ }
     ensures { λ r. ⌜ now (values .exit) ≡ set (now (values .entry)) at (n % suc largest) ⌝ }
 {
-    values[at] = (n % PAST_LARGEST) as u32;
+    values[at] = (n % PAST_LARGEST) as Handle;
 }
 
 // One field more; only that at the place `signed` may be below zero.
-fn take_field(t: Tally, f: Field, signed: usize, values: &mut [u32; 10]) -> Tally
+fn take_field(t: Tally, f: Field, signed: usize, values: &mut [Handle; 10]) -> Tally
     ensures { λ r. ⌜ gathered-as r (now (values .exit)) ≡ taken signed (gathered-as t (now (values .entry))) f ⌝ }
 {
     let at = t.count;
@@ -135,7 +137,7 @@ fn take_field(t: Tally, f: Field, signed: usize, values: &mut [u32; 10]) -> Tall
 }
 
 // The fields of s from a place on.
-fn gather(s: &[u8], from: usize, signed: usize, values: &mut [u32; 10]) -> Tally
+fn gather(s: &[u8], from: usize, signed: usize, values: &mut [Handle; 10]) -> Tally
     ensures { λ r. ⌜ gathered-as r (now (values .exit)) ≡ gathered signed (gathered-as nothing-yet (now (values .entry))) (fields-from (now (s .entry)) from) ⌝ }
 {
     let mut t = Tally {
@@ -145,7 +147,7 @@ fn gather(s: &[u8], from: usize, signed: usize, values: &mut [u32; 10]) -> Tally
     };
     let mut at = from;
     while at <= s.len() {
-        let found = numbers::read(s, at, TAB, ranges::LARGEST as u64);
+        let found = numbers::read(s, at, TAB, LARGEST as u64);
         let field = found.field;
         let next = found.next;
         t = take_field(t, field, signed, values);
@@ -177,7 +179,7 @@ fn signed_place(letter: u8) -> usize
     MOST_FIELDS
 }
 
-fn raw_call(v: &[u32; 10], minus: bool) -> Event
+fn raw_call(v: &[Handle; 10], minus: bool) -> Event
     ensures { λ r. ⌜ r ≡ raw-call (now (v .entry)) minus ⌝ }
 {
     match numbers::int_of(minus, wide(v[CAPACITY_FIELD])) {
@@ -194,7 +196,7 @@ fn raw_call(v: &[u32; 10], minus: bool) -> Event
     }
 }
 
-fn raw_return(v: &[u32; 10], minus: bool) -> Event
+fn raw_return(v: &[Handle; 10], minus: bool) -> Event
     ensures { λ r. ⌜ r ≡ raw-return (now (v .entry)) minus ⌝ }
 {
     if ranges::gives_status(v[1]) {
@@ -222,7 +224,7 @@ fn raw_return(v: &[u32; 10], minus: bool) -> Event
 }
 
 // The event of a letter and its numbers, before their ranges.
-fn raw_event(letter: u8, t: Tally, v: &[u32; 10]) -> Event
+fn raw_event(letter: u8, t: Tally, v: &[Handle; 10]) -> Event
     ensures { λ r. ⌜ r ≡ raw-event letter t (now (v .entry)) ⌝ }
 {
     let n = t.count;
@@ -265,7 +267,7 @@ fn letter_alone(s: &[u8]) -> bool
 }
 
 // A line without its LF.
-fn raw_content(s: &[u8], values: &mut [u32; 10]) -> Event
+fn raw_content(s: &[u8], values: &mut [Handle; 10]) -> Event
     requires { ⌜ now values ≡ no-values ⌝ }
     ensures { λ r. ⌜ raw-says r (now (values .exit)) ≡ of-fields (fields (now (s .entry))) ⌝ }
 {
@@ -278,7 +280,7 @@ fn raw_content(s: &[u8], values: &mut [u32; 10]) -> Event
 }
 
 // A whole line: the refusal, or the event before the ranges of its numbers.
-fn raw_line(s: &[u8], values: &mut [u32; 10]) -> Event
+fn raw_line(s: &[u8], values: &mut [Handle; 10]) -> Event
     requires { ⌜ now values ≡ no-values ⌝ }
     ensures { λ r. ⌜ raw-says r (now (values .exit)) ≡ read (now (s .entry)) ⌝ }
 {
@@ -296,7 +298,7 @@ fn raw_line(s: &[u8], values: &mut [u32; 10]) -> Event
 }
 
 // The slots beside it.
-fn raw_slots(e: Event, v: [u32; 10]) -> [u32; 8]
+fn raw_slots(e: Event, v: [Handle; 10]) -> [Handle; 8]
     ensures { λ r. ⌜ r ≡ raw-slots e v ⌝ }
 {
     match e {
@@ -352,7 +354,7 @@ fn refusal_of(e: Event) -> Event
 }
 
 // Reads a lent line, all its bytes with the LF: the event, or the number given instead. N's handles are left in the slots, all 0 for any other answer.
-pub fn read_line(s: &[u8], handles: &mut [u32; 8]) -> Event
+pub fn read_line(s: &[u8], handles: &mut [Handle; 8]) -> Event
     ensures { λ r. ⌜ (r ≡ event-of (read (now (s .entry)))) × (now (handles .exit) ≡ slots-of (read (now (s .entry)))) ⌝ }
 {
     let mut values = [0; 10];

@@ -2,6 +2,15 @@
 use crate::Event;
 use facts::Place;
 use facts::Result;
+use facts::functions::ENSURE_LOCAL_CAPACITY;
+use facts::functions::PUSH_LOCAL_FRAME;
+use facts::handles::GLOBAL;
+use facts::handles::IDENTITY;
+use facts::handles::KINDS;
+use facts::handles::LOCAL;
+use facts::handles::WEAK;
+use words::Handle;
+use words::LARGEST;
 ghost use mathlib.Core.Path.{_≡_};
 ghost use lib.IntN.{pos};
 ghost use Rattle.facts.specs.Table.{is-function};
@@ -9,31 +18,13 @@ ghost use Rattle.lines.specs.Line.{is-thread, is-env, is-made, value-all
 ghost use Rattle.lines.specs.Events.{is-status, gives-status};
 ghost use Rattle.lines.specs.Good.{is-slot, slots-allow, return-allows, enter-allows, leave-allows, call-allows, return-line-allows, is-good};
 
-const THREADS: u32 = 16;
-// Handles, identities, buffers and envs go up to here.
-pub const LARGEST: u32 = 4294967295;
+pub const THREADS: u32 = 16;
 
 const MOST_HANDLES: u32 = 8;
 
 const FIRST_FUNCTION: u32 = 4;
 
 const LAST_FUNCTION: u32 = 232;
-
-// In a handle the remainder by 4 is its kind.
-const KINDS: u32 = 4;
-
-const IDENTITY: u32 = 0;
-
-const LOCAL: u32 = 1;
-
-const GLOBAL: u32 = 2;
-
-const WEAK: u32 = 3;
-
-// The functions that use a capacity.
-const PUSH_FRAME: u32 = 19;
-
-const ENSURE_CAPACITY: u32 = 26;
 
 fn is_status(k: Result) -> bool
     ensures { λ r. ⌜ r ≡ is-status k ⌝ }
@@ -61,7 +52,7 @@ fn is_thread(t: u32) -> bool
     (1 <= t) & (t <= THREADS)
 }
 
-fn is_env(e: u32) -> bool
+fn is_env(e: Handle) -> bool
     ensures { λ r. ⌜ r ≡ is-env e ⌝ }
 {
     (1 <= e) & (e <= LARGEST)
@@ -74,13 +65,13 @@ fn is_function(f: u32) -> bool
 }
 
 // A slot beside an event that names n handles.
-fn is_slot(i: u32, n: u32, h: u32) -> bool
+fn is_slot(i: u32, n: u32, h: Handle) -> bool
     ensures { λ r. ⌜ r ≡ is-slot i n h ⌝ }
 {
     ((i < n) & ((h % KINDS == LOCAL) & (h <= LARGEST))) | ((n <= i) & (h == 0))
 }
 
-fn slots_allow(n: u32, h: [u32; 8]) -> bool
+fn slots_allow(n: u32, h: [Handle; 8]) -> bool
     ensures { λ r. ⌜ r ≡ slots-allow n h ⌝ }
 {
     let mut ok = n <= MOST_HANDLES;
@@ -93,7 +84,7 @@ fn slots_allow(n: u32, h: [u32; 8]) -> bool
     ok
 }
 
-fn place_allows(p: Place, v: u32) -> bool
+fn place_allows(p: Place, v: Handle) -> bool
     ensures { λ r. ⌜ r ≡ place-allows p v ⌝ }
 {
     match p {
@@ -111,18 +102,18 @@ fn place_allows(p: Place, v: u32) -> bool
 fn capacity_allows(f: u32, n: i32) -> bool
     ensures { λ r. ⌜ r ≡ capacity-allows f n ⌝ }
 {
-    ((f == PUSH_FRAME) | (f == ENSURE_CAPACITY)) | (numbers::size_of(n) == 0)
+    ((f == PUSH_LOCAL_FRAME) | (f == ENSURE_LOCAL_CAPACITY)) | (numbers::size_of(n) == 0)
 }
 
 // A result that is 0 or a handle of kind k.
-fn made_allows(k: u32, v: u32) -> bool
+fn made_allows(k: Handle, v: Handle) -> bool
     ensures { λ r. ⌜ r ≡ value-allows (is-made k) (pos v) ⌝ }
 {
     (v <= LARGEST) & ((v == 0) | (v % KINDS == k))
 }
 
 // A status and no result, or a result and no status.
-fn return_allows(k: Result, r: u32, s: i32) -> bool
+fn return_allows(k: Result, r: Handle, s: i32) -> bool
     ensures { λ t. ⌜ t ≡ return-allows k r s ⌝ }
 {
     let plain = numbers::size_of(s) == 0;
@@ -137,19 +128,19 @@ fn return_allows(k: Result, r: u32, s: i32) -> bool
     }
 }
 
-fn enter_allows(thread: u32, env: u32) -> bool
+fn enter_allows(thread: u32, env: Handle) -> bool
     ensures { λ r. ⌜ r ≡ enter-allows thread env ⌝ }
 {
     is_thread(thread) & is_env(env)
 }
 
-fn leave_allows(thread: u32, result: u32) -> bool
+fn leave_allows(thread: u32, result: Handle) -> bool
     ensures { λ r. ⌜ r ≡ leave-allows thread result ⌝ }
 {
     is_thread(thread) & (result <= LARGEST)
 }
 
-fn call_allows(thread: u32, env: u32, f: u32, a: u32, b: u32, c: u32, n: i32) -> bool
+fn call_allows(thread: u32, env: Handle, f: u32, a: Handle, b: Handle, c: Handle, n: i32) -> bool
     ensures { λ r. ⌜ r ≡ call-allows thread env f a b c n ⌝ }
 {
     is_thread(thread)
@@ -161,7 +152,7 @@ fn call_allows(thread: u32, env: u32, f: u32, a: u32, b: u32, c: u32, n: i32) ->
         & capacity_allows(f, n)
 }
 
-fn return_line_allows(thread: u32, f: u32, result: u32, status: i32, pending: u32) -> bool
+fn return_line_allows(thread: u32, f: u32, result: Handle, status: i32, pending: u32) -> bool
     ensures { λ r. ⌜ r ≡ return-line-allows thread f result status pending ⌝ }
 {
     is_thread(thread)
@@ -171,7 +162,7 @@ fn return_line_allows(thread: u32, f: u32, result: u32, status: i32, pending: u3
 }
 
 // An event that may be written, with the slots beside it.
-pub fn is_good(e: Event, h: [u32; 8]) -> bool
+pub fn is_good(e: Event, h: [Handle; 8]) -> bool
     ensures { λ r. ⌜ r ≡ is-good e h ⌝ }
 {
     match e {

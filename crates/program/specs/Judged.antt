@@ -4,6 +4,7 @@ use mathlib.Core.Path.{_≡_}
 use mathlib.Core.Bool.{Bool}
 use mathlib.Core.List.{List, [], _++_}
 use lib.ListN.{length, replicate}
+use Rattle.rows.specs.Marks.{word}
 use Rattle.rows.specs.References.{references}
 use Rattle.rows.specs.Pins.{pins}
 use Rattle.history.specs.Report.{lines-of}
@@ -23,7 +24,7 @@ pin-rows = 256
 
 -- with one bit of a mark to a row, sixty-four to a word
 abbrev pub marks-for : ℕ → ℕ
-marks-for rows = rows / 64
+marks-for rows = rows / word
 
 unfoldable pub lent : Tables
 lent =

@@ -21,18 +21,13 @@ const REFERENCE_ROWS: usize = 2048;
 
 const PIN_ROWS: usize = 256;
 
-// Numbers to a row, and rows to a word of marks.
-const STRIDE: usize = 3;
+const REFERENCE_NUMBERS: usize = REFERENCE_ROWS * rows::references::STRIDE;
 
-const WORD: usize = 64;
+const REFERENCE_MARKS: usize = REFERENCE_ROWS / rows::WORD;
 
-const REFERENCE_NUMBERS: usize = REFERENCE_ROWS * STRIDE;
+const PIN_NUMBERS: usize = PIN_ROWS * rows::pins::STRIDE;
 
-const REFERENCE_MARKS: usize = REFERENCE_ROWS / WORD;
-
-const PIN_NUMBERS: usize = PIN_ROWS * STRIDE;
-
-const PIN_MARKS: usize = PIN_ROWS / WORD;
+const PIN_MARKS: usize = PIN_ROWS / rows::WORD;
 
 const BOOK_NUMBERS: usize = book::WHOLE;
 

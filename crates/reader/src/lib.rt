@@ -1,12 +1,13 @@
 // The reader of lines for C and Rust.
 use lines::Event;
+use words::Handle;
 ghost use mathlib.Core.Path.{_≡_};
 ghost use lib.IntN.{pos};
 ghost use Rattle.lines.specs.Reading.{read};
 ghost use Rattle.lines.specs.Events.{event-of, slots-of};
 ghost use Rattle.reader.specs.Answers.{number-of, fields-of};
 
-fn plus(n: u32) -> i64
+fn plus(n: Handle) -> i64
     ensures { λ r. ⌜ r ≡ pos n ⌝ }
 {
     n as i64
@@ -101,7 +102,7 @@ fn fields_of(e: Event) -> [i64; 8]
 
 // Reads a lent line, all its bytes with the LF: the letter of its event, or the refusal 1, 2 or 3. What the event says is left in the lent arrays.
 #[no_mangle]
-pub extern "C" fn weir_read(line: &[u8], handles: &mut [u32; 8], fields: &mut [i64; 8]) -> u32
+pub extern "C" fn weir_read(line: &[u8], handles: &mut [Handle; 8], fields: &mut [i64; 8]) -> u32
     ensures { λ r. ⌜ (r ≡ number-of (event-of (read (now (line .entry))))) × ((now (handles .exit) ≡ slots-of (read (now (line .entry)))) × (now (fields .exit) ≡ fields-of (event-of (read (now (line .entry)))))) ⌝ }
 {
     let e = lines::read_line(line, handles);

@@ -1,13 +1,14 @@
 // The writer of lines for C: one function for each kind of line, on numbers and a lent byte slice.
 use lines::Event;
 use lines::Wrote;
+use words::Handle;
 ghost use mathlib.Core.Path.{_≡_};
 ghost use Rattle.lines.specs.declared.Event.the-variants.{Enter, Leave, Call, Return, End};
 ghost use Rattle.lines.specs.Events.{meant, wrote, left};
 ghost use Rattle.recorder.specs.Told.{told, no-handles};
 
 // Writes the line of an event at the start of d and tells how many bytes it has, or, below zero, the number given instead.
-fn tell(d: &mut [u8], e: Event, handles: &[u32; 8]) -> i32
+fn tell(d: &mut [u8], e: Event, handles: &[Handle; 8]) -> i32
     ensures { λ r. ⌜ r ≡ told (wrote (meant e (now (handles .entry))) (now (d .entry))) ⌝ }
     ensures { λ _. ⌜ now (d .exit) ≡ left (meant e (now (handles .entry))) (now (d .entry)) ⌝ }
 {
@@ -22,9 +23,9 @@ fn tell(d: &mut [u8], e: Event, handles: &[u32; 8]) -> i32
 pub extern "C" fn weir_enter(
     d: &mut [u8],
     thread: u32,
-    env: u32,
+    env: Handle,
     count: u32,
-    handles: &[u32; 8],
+    handles: &[Handle; 8],
 ) -> i32
     ensures { λ r. ⌜ r ≡ told (wrote (meant (Enter thread env count) (now (handles .entry))) (now (d .entry))) ⌝ }
     ensures { λ _. ⌜ now (d .exit) ≡ left (meant (Enter thread env count) (now (handles .entry))) (now (d .entry)) ⌝ }
@@ -42,7 +43,7 @@ pub extern "C" fn weir_enter(
 
 // X: native returns to Java. The result is 0 where no object is returned.
 #[no_mangle]
-pub extern "C" fn weir_leave(d: &mut [u8], thread: u32, result: u32) -> i32
+pub extern "C" fn weir_leave(d: &mut [u8], thread: u32, result: Handle) -> i32
     ensures { λ r. ⌜ r ≡ told (wrote (meant (Leave thread result) no-handles) (now (d .entry))) ⌝ }
     ensures { λ _. ⌜ now (d .exit) ≡ left (meant (Leave thread result) no-handles) (now (d .entry)) ⌝ }
 {
@@ -61,11 +62,11 @@ pub extern "C" fn weir_leave(d: &mut [u8], thread: u32, result: u32) -> i32
 pub extern "C" fn weir_call(
     d: &mut [u8],
     thread: u32,
-    env: u32,
+    env: Handle,
     function: u32,
-    a: u32,
-    b: u32,
-    c: u32,
+    a: Handle,
+    b: Handle,
+    c: Handle,
     n: i32,
 ) -> i32
     ensures { λ r. ⌜ r ≡ told (wrote (meant (Call thread env function a b c n) no-handles) (now (d .entry))) ⌝ }
@@ -92,7 +93,7 @@ pub extern "C" fn weir_return(
     d: &mut [u8],
     thread: u32,
     function: u32,
-    result: u32,
+    result: Handle,
     status: i32,
     pending: u32,
 ) -> i32

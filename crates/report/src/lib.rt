@@ -13,6 +13,9 @@ ghost use Rattle.numbers.specs.Writing.{Puts};
 ghost use Rattle.history.specs.Report.{shown-finding, end-line};
 ghost use Rattle.report.specs.Shown.{most-shown, shown-answer, field-with, three-fields, end-head, Fills};
 
+// The findings of a line have at most so many bytes.
+pub const MOST_SHOWN: usize = 504;
+
 // There is room for w bytes at a place of a buffer of `len`.
 fn has_room(len: usize, at: usize, w: usize) -> bool
     ensures { λ r. ⌜ (r ≡ true → at + w ≤ len) × (r ≡ false → len < at + w) ⌝ }

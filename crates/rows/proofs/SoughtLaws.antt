@@ -3,7 +3,6 @@ use mathlib.Core.Path.{_≡_, sym, ap, subst, _∙_}
 use mathlib.Core.Bool.{Bool}
 use mathlib.Core.List.{List}
 use Prim.Native.Nat.{ℕ, _/_, _<_}
-use lib.ListN.{length}
 use Rattle.rows.specs.declared.sought.Sought.{Sought}
 use Rattle.rows.specs.Table.{matches, row-at}
 use Rattle.rows.specs.Sought.{Row, layout, is}

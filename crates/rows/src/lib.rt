@@ -4,8 +4,11 @@ pub mod pins;
 pub mod references;
 mod sought;
 
-// What rows are made of.
-pub type Number = u32;
+// What rows are made of: numbers as wide as a handle.
+pub type Number = words::Handle;
+
+// Marks to a word.
+pub const WORD: usize = 64;
 
 ghost use mathlib.Core.Path.{_≡_};
 ghost use Prim.Native.Nat.{_+_, _*_, _≤_};

@@ -1,5 +1,6 @@
 // The room of rows and marks, and the marks: one bit for each row, sixty-four to a word.
 use super::Number;
+use super::WORD;
 ghost use mathlib.Core.Path.{_≡_};
 ghost use Prim.Native.Nat.{_*_, _<_, _≤_, min};
 ghost use lib.ListN.{length};
@@ -7,9 +8,6 @@ ghost use Rattle.words.specs.Choice.{one};
 ghost use Rattle.rows.specs.Scan.{how-many, lowest};
 ghost use Rattle.rows.specs.Marks.{word, in-word, used, free, marked, unmarked};
 ghost use Rattle.rows.specs.Table.{most};
-
-// Marks to a word.
-pub(crate) const WORD: usize = 64;
 
 // The most rows of a room.
 const MOST: usize = 65536;

@@ -1,7 +1,7 @@
 // Pin rows: thread, family and buffer of each buffer that is outstanding.
 use super::Number;
+use super::WORD;
 use super::clear_row;
-use super::marks::WORD;
 use super::marks::clear_mark;
 use super::marks::free_below;
 use super::marks::one;

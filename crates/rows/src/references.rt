@@ -1,7 +1,7 @@
 // Reference rows: thread, handle and frame of each handle that is alive.
 use super::Number;
+use super::WORD;
 use super::clear_row;
-use super::marks::WORD;
 use super::marks::clear_mark;
 use super::marks::count_of;
 use super::marks::free_below;

@@ -1,6 +1,6 @@
 // What rows are looked for by, of either sort, and rows looked at one after another for it.
 use super::Number;
-use super::marks::WORD;
+use super::WORD;
 use super::marks::is_used;
 use super::marks::one;
 use super::pins;

@@ -1,5 +1,5 @@
 -- What the code's answer to a line tells of the step: its findings where it was accepted, its number where not. Assumes nothing.
-use Prim.Native.Nat.{ℕ, _≤_}
+use Prim.Native.Nat.{ℕ, suc, _≤_}
 use mathlib.Core.Path.{_≡_, refl, sym, ap, subst, _∙_}
 use mathlib.Core.Bool.{Bool, true, false, false≢true}
 use mathlib.Core.List.{List}
@@ -27,7 +27,7 @@ use Rattle.tables.specs.Tables.{Tables, seen-in}
 use Rattle.tables.specs.Weighing.{refusal-in, weighed-in}
 use Rattle.tables.specs.Stepping.{untouched, follow, on-read, step-of}
 use Rattle.demands.proofs.Foreign.{refusal-keeps}
-use Rattle.kinds.specs.Outcome.{Outcome, leaves}
+use Rattle.events.specs.Outcome.{Outcome, leaves}
 use Rattle.judge.specs.Outcome.{step-outcome}
 
 -- ---- a refusal has a number, and an accepted line at most six findings
@@ -44,12 +44,12 @@ module _ (T : Tables) (bs : List ℕ) where
   Proper (accepted fs) = length fs ≤ most-found
   Proper (not-accepted k) = k ≡ 0 → ⊥
 
-  weighed-proper : (e : Line) (top : Option Item) (many : ℕ) → Proper (weighed-in e top many T)
+  weighed-proper : (line : ℕ) (e : Line) (top : Option Item) (many : ℕ) → Proper (weighed-in line e top many T)
   unfolding weighed-in
-  weighed-proper e top many = go (eqb (refusal-in e top many T) 0) refl
+  weighed-proper line e top many = go (eqb (refusal-in e top many T) 0) refl
     where
-      go : (o : Bool) → eqb (refusal-in e top many T) 0 ≡ o → Proper (if o then accepted (of-line e (seen-in T)) else not-accepted (refusal-in e top many T))
-      go true q = omega (arith, at-most e (seen-in T), few-findings e)
+      go : (o : Bool) → eqb (refusal-in e top many T) 0 ≡ o → Proper (if o then accepted (of-line line e (seen-in T)) else not-accepted (refusal-in e top many T))
+      go true q = omega (arith, at-most line e (seen-in T), few-findings e)
       go false q = λ z. false≢true (sym q ∙ eq-eqb (refusal-in e top many T) 0 z)
 
   followed-proper : (e : Line) (n : ℕ) (r : Reply) → Proper r → Proper (follow e n r T .reply)
@@ -60,7 +60,8 @@ module _ (T : Tables) (bs : List ℕ) where
   read-proper (refused k) h = λ z. let low = refused-by-number bs k h .0 in absurd (omega (arith, low, z))
   read-proper (says e) h =
       let is = items-in (T .book) (thread-of e) in
-      followed-proper e (asked (top-of is)) (weighed-in e (top-of is) (length is) T) (weighed-proper e (top-of is) (length is))
+      followed-proper e (asked (top-of is)) (weighed-in (suc (lines-in (T .book))) e (top-of is) (length is) T)
+      (weighed-proper (suc (lines-in (T .book))) e (top-of is) (length is))
 
   proper : Proper (step-of T bs .reply)
   unfolding step-of

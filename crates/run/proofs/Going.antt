@@ -19,7 +19,7 @@ use Rattle.report.specs.Shown.{most-shown, shown-answer}
 use Rattle.report.proofs.Answered.{shown-accepted}
 use Rattle.tables.specs.Tables.{Tables}
 use Rattle.tables.specs.Stepping.{step-of}
-use Rattle.kinds.specs.Outcome.{leaves as answers-leaving}
+use Rattle.events.specs.Outcome.{leaves as answers-leaving}
 use Rattle.judge.specs.Outcome.{step-outcome}
 use Rattle.pieces.specs.declared.Next.the-variants as Next
 use Rattle.pieces.proofs.Nexts.{pieces-next}

@@ -1,6 +1,7 @@
 // The loop that holds the lent tables: the lines of a piece of the input, handed to the step one after another.
 use answers::Answer;
 use pieces::Next;
+use report::MOST_SHOWN;
 ghost use mathlib.Core.Path.{_≡_};
 ghost use Prim.Native.Nat.{_+_, _≤_};
 ghost use lib.ListN.{length};
@@ -10,9 +11,6 @@ ghost use Rattle.report.specs.Shown.{most-shown, shown-answer};
 ghost use Rattle.tables.specs.Tables.{tables};
 ghost use Rattle.run.specs.Running.{leaves, piece-outcome};
 ghost use Rattle.run.specs.Way.{As-far, Aims, Heard};
-
-// The findings of a line have at most so many bytes.
-const MOST_SHOWN: usize = 504;
 
 // Why a run stops: a line was refused, the slice has no room for the findings of one more, more must be read, or the input is at its end.
 pub enum Stop {

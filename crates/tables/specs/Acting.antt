@@ -7,15 +7,16 @@ use lib.ListN.{length}
 use Rattle.words.specs.Choice.{if_then_else_}
 use Rattle.facts.specs.Table.{fact-of, family, is-critical}
 use Rattle.facts.specs.Named.{PushLocalFrame, PopLocalFrame, DeleteGlobalRef, DeleteLocalRef, EnsureLocalCapacity, MonitorEnter, MonitorExit, DeleteWeakGlobalRef}
+use Rattle.facts.specs.Results.{is-buffer-place}
 use Rattle.lines.specs.Line.{Line, if-N_then_else_, if-X_then_else_, if-C_then_else_, if-R_then_else_, if-Z_then_else_, kind, is-zero}
-use Rattle.lines.specs.Reading.{size}
+use Rattle.lines.specs.Reading.{above-zero}
 use Rattle.rows.specs.Table.{Layout, Table, found, taken, ended, ended-all}
 use Rattle.rows.specs.References.{references, is-handle, from-frame}
 use Rattle.rows.specs.Pins.{pins, is-buffer}
 use Rattle.history.specs.Frames.{without-native, top-pushed}
 use Rattle.history.specs.Handles.{in-frame}
 use Rattle.history.specs.Capacities.{native-capacity}
-use Rattle.history.specs.Buffers.{is-buffer-place, gets}
+use Rattle.history.specs.Buffers.{gets}
 use Rattle.history.specs.Acceptance.{made-by}
 use Rattle.book.specs.Threads.{thread-in}
 use Rattle.book.specs.Moves.{frame-pushed, native-left, frame-popped, capacity-raised, item-pushed, item-popped, env-set, pending-set, monitor-added, monitor-taken, line-counted, closed-set}
@@ -109,6 +110,6 @@ unfoldable pub items-moved : Line → List ℕ → List ℕ
 items-moved e b =
     if-N e then (λ t env hs. item-pushed b t no-function 0)
     else if-X e then (λ t r. item-popped b t)
-    else if-C e then (λ t env f a b' c n. item-pushed b t f (size n))
+    else if-C e then (λ t env f a b' c n. item-pushed b t f (above-zero n))
     else if-R e then (λ t f r p. item-popped b t)
     else b

@@ -1,5 +1,5 @@
 -- One step over lent tables, and a start: what is answered and what is left, whatever stood there. Assumes nothing.
-use Prim.Native.Nat.{ℕ}
+use Prim.Native.Nat.{ℕ, suc}
 use mathlib.Core.List.{List}
 use lib.Dec.{leb}
 use lib.ListN.{length}
@@ -39,7 +39,7 @@ follow e n (accepted fs) T = stepped (accepted fs) (with-items e (acted e n T))
 
 -- a line that was read
 abbrev pub on-line : Line → List Item → Tables → Stepped
-on-line e is T = follow e (asked (top-of is)) (weighed-in e (top-of is) (length is) T) T
+on-line e is T = follow e (asked (top-of is)) (weighed-in (suc (lines-in (T .book))) e (top-of is) (length is) T) T
 
 abbrev pub on-read : Read → Tables → Stepped
 on-read (refused k) T = untouched k T

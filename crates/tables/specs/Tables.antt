@@ -9,7 +9,7 @@ use Rattle.rows.specs.References.{references}
 use Rattle.rows.specs.Pins.{pins}
 use Rattle.rows.specs.declared.references.Reference.{Reference}
 use Rattle.rows.specs.declared.pins.Pin.{Pin as PinRow}
-use Rattle.book.specs.Threads.{thread-in, lines-in, closed-in}
+use Rattle.book.specs.Threads.{thread-in, all-monitors, closed-in}
 use Rattle.history.specs.Handles.{Alive, local, shared}
 use Rattle.history.specs.Buffers.{Pin, ordinary, critical}
 use Rattle.history.specs.Seen.{Seen}
@@ -54,8 +54,8 @@ seen-in T =
       pending = λ t. thread-in (T .book) t .pending;
       monitors = λ t. thread-in (T .book) t .monitors;
       env = λ t. thread-in (T .book) t .env;
+      all-monitors = all-monitors (T .book);
       handles = handles-in (T .references);
       buffers = buffers-in (T .pins);
-      lines = lines-in (T .book);
       closed = closed-in (T .book);
     }

@@ -34,6 +34,7 @@ refusal-in e top many T =
     (makes-anew e (seen-in T))
     (rows-left e T && has-item-room e many)
 
-unfoldable pub weighed-in : Line → Option Item → ℕ → Tables → Reply
-weighed-in e top many T =
-    if eqb (refusal-in e top many T) 0 then accepted (of-line e (seen-in T)) else not-accepted (refusal-in e top many T)
+-- line number `line`
+unfoldable pub weighed-in : ℕ → Line → Option Item → ℕ → Tables → Reply
+weighed-in line e top many T =
+    if eqb (refusal-in e top many T) 0 then accepted (of-line line e (seen-in T)) else not-accepted (refusal-in e top many T)

@@ -26,3 +26,18 @@ family-tight κs args = (tt, by-reply)
 
 pub is-critical-tight : Tight facts.is_critical.ended facts.is_critical.Reads.Asked facts.is_critical.Reads.Learnt
 is-critical-tight κs args = (tt, by-reply)
+
+pub is-local-result-tight : Tight facts.results.is_local_result.ended facts.results.is_local_result.Reads.Asked facts.results.is_local_result.Reads.Learnt
+is-local-result-tight κs args = (tt, by-reply)
+
+pub is-handle-result-tight : Tight facts.results.is_handle_result.ended facts.results.is_handle_result.Reads.Asked facts.results.is_handle_result.Reads.Learnt
+is-handle-result-tight κs args = (tt, by-reply)
+
+pub is-buffer-result-tight : Tight facts.results.is_buffer_result.ended facts.results.is_buffer_result.Reads.Asked facts.results.is_buffer_result.Reads.Learnt
+is-buffer-result-tight κs args = (tt, by-reply)
+
+pub is-handle-place-tight : Tight facts.results.is_handle_place.ended facts.results.is_handle_place.Reads.Asked facts.results.is_handle_place.Reads.Learnt
+is-handle-place-tight κs args = (tt, by-reply)
+
+pub is-buffer-place-tight : Tight facts.results.is_buffer_place.ended facts.results.is_buffer_place.Reads.Asked facts.results.is_buffer_place.Reads.Learnt
+is-buffer-place-tight κs args = (tt, by-reply)

@@ -1,6 +1,6 @@
 -- That the promises of the judge are tight. Assumes nothing.
 use Rattle.judge.proofs as judge
-use Rattle.kinds.specs.Outcome.{Outcome}
+use Rattle.events.specs.Outcome.{Outcome}
 use Rattle.tight.specs.Tight.{given, Tight}
 use Rattle.tight.proofs.Shapes.{by, by-tables, with-tables}
 

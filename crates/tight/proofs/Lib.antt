@@ -9,9 +9,10 @@ pub mod Rows
 pub mod Book
 pub mod Answers
 pub mod Report
+pub mod Sight
 pub mod Weigh
 pub mod Act
-pub mod LineKinds
+pub mod Events
 pub mod Judge
 pub mod Exported
 pub mod Pieces

@@ -1,20 +1,34 @@
 -- That the promises of the weighing of a line are tight. Assumes nothing.
 use Rattle.weigh.proofs as weigh
-use Rattle.weigh.specs.declared.give.Weighed.{Weighed}
-use Rattle.tight.specs.Tight.{given, Tight}
-use Rattle.tight.proofs.Shapes.{by-two, by-reply}
+use Rattle.tight.specs.Tight.{Tight}
+use Rattle.tight.proofs.Shapes.{by-reply}
 
-pub call-tight : Tight weigh.call.call.ended weigh.call.call.Reads.Asked weigh.call.call.Reads.Learnt
-call-tight κs args = (tt, by-reply)
+pub call-refusal-tight : Tight weigh.call.refusal.ended weigh.call.refusal.Reads.Asked weigh.call.refusal.Reads.Learnt
+call-refusal-tight κs args = (tt, by-reply)
 
-pub end-tight : Tight weigh.end.end.ended weigh.end.end.Reads.Asked weigh.end.end.Reads.Learnt
-end-tight κs args = (tt, by-reply)
+pub call-findings-tight : Tight weigh.call.findings.ended weigh.call.findings.Reads.Asked weigh.call.findings.Reads.Learnt
+call-findings-tight κs args = (tt, by-reply)
 
-pub enter-tight : Tight weigh.enter.enter.ended weigh.enter.enter.Reads.Asked weigh.enter.enter.Reads.Learnt
-enter-tight κs args = (tt, by-reply)
+pub end-findings-tight : Tight weigh.end.findings.ended weigh.end.findings.Reads.Asked weigh.end.findings.Reads.Learnt
+end-findings-tight κs args = (tt, by-reply)
 
-pub give-tight : Tight weigh.give.give.ended weigh.give.give.Reads.Asked weigh.give.give.Reads.Learnt
-give-tight κs args = (tt, λ x y. by-two (λ a n. let w : Weighed = record { answer = a; row = n } in given w (x .left)))
+pub enter-turn-tight : Tight weigh.enter.in_turn.ended weigh.enter.in_turn.Reads.Asked weigh.enter.in_turn.Reads.Learnt
+enter-turn-tight κs args = (tt, by-reply)
 
-pub leave-tight : Tight weigh.leave.leave.ended weigh.leave.leave.Reads.Asked weigh.leave.leave.Reads.Learnt
-leave-tight κs args = (tt, by-reply)
+pub enter-refusal-tight : Tight weigh.enter.refusal.ended weigh.enter.refusal.Reads.Asked weigh.enter.refusal.Reads.Learnt
+enter-refusal-tight κs args = (tt, by-reply)
+
+pub leave-refusal-tight : Tight weigh.leave.refusal.ended weigh.leave.refusal.Reads.Asked weigh.leave.refusal.Reads.Learnt
+leave-refusal-tight κs args = (tt, by-reply)
+
+pub leave-findings-tight : Tight weigh.leave.findings.ended weigh.leave.findings.Reads.Asked weigh.leave.findings.Reads.Learnt
+leave-findings-tight κs args = (tt, by-reply)
+
+pub return-turn-tight : Tight weigh.returns.in_turn.ended weigh.returns.in_turn.Reads.Asked weigh.returns.in_turn.Reads.Learnt
+return-turn-tight κs args = (tt, by-reply)
+
+pub return-refusal-tight : Tight weigh.returns.refusal.ended weigh.returns.refusal.Reads.Asked weigh.returns.refusal.Reads.Learnt
+return-refusal-tight κs args = (tt, by-reply)
+
+pub return-findings-tight : Tight weigh.returns.findings.ended weigh.returns.findings.Reads.Asked weigh.returns.findings.Reads.Learnt
+return-findings-tight κs args = (tt, by-reply)

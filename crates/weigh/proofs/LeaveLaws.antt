@@ -1,41 +1,31 @@
--- What the code's tests of X say.
+-- What the code's tests of X say. Assumes nothing.
 use Prim.Native.Nat.{ℕ}
-use mathlib.Core.Path.{_≡_, sym, ap, _∙_}
-use mathlib.Core.Bool.{Bool, true, false, not, _&&_}
-use mathlib.Core.List.{[]}
+use mathlib.Core.Path.{_≡_, refl, sym, ap, _∙_}
+use mathlib.Core.Bool.{Bool, true, false, not, _||_}
 use mathlib.Core.Option.{Option}
-use borrow.Author.Tests.{not-true, not-false}
-use lib.Dec.{ltb}
 use Rattle.facts.specs.declared.Place.the-variants as Place
 use Rattle.history.specs.Items.{Item, is-native}
-use Rattle.history.specs.Buffers.{critical-of}
-use Rattle.history.specs.Breaches.{place-rule, handle-rule, in-critical}
-use Rattle.book.specs.Threads.{closed-in}
+use Rattle.history.specs.Breaches.{place-rule}
 use Rattle.answers.specs.declared.Answer.{Answer}
-use Rattle.answers.specs.declared.Judged.{Judged}
-use Rattle.answers.specs.Answer.{refused-with, answer-of}
+use Rattle.answers.specs.Answer.{answer-of}
 use Rattle.answers.specs.Listed.{rule-number, listed}
-use Rattle.answers.specs.Judging.{judged-leave}
-use Rattle.tables.specs.Tables.{Tables, buffers-in, seen-in}
-use Rattle.weigh.specs.Leave.{leave-answer}
+use Rattle.sight.specs.declared.leave.LeaveSight.{LeaveSight}
+use Rattle.weigh.specs.Leave.{leave-refusal, judged-leave}
+use Rattle.weigh.proofs.CallLaws.{open-and, not-in, is-in}
 
-module _ (T : Tables) (top : Option Item) (line t r : ℕ) (x : Bool) where
-  pub leave-4 : (a : Answer) → a ≡ refused-with 4 → x ≡ (not (closed-in (T .book)) && is-native top) → not x ≡ true → a ≡ leave-answer T top line t r
-  unfolding leave-answer seen-in
-  leave-4 a k e n = rw (sym e ∙ not-true x n) k
+module _ (closed : Bool) (top : Option Item) (x : Bool) (e : x ≡ is-native top) where
+  pub leave-4 : (closed || not x) ≡ true → 4 ≡ leave-refusal closed top
+  unfolding leave-refusal
+  leave-4 n = rw (sym (open-and closed x (is-native top) e) ∙ not-in closed x n) refl
 
-  judged : (c : Bool) (rule : ℕ) → c ≡ ltb 0 (buffers-in (T .pins) (critical-of t))
-      → rule ≡ rule-number (place-rule Place.HandleOrNull t 0 r (seen-in (record { references = T .references; pins = record { rows = []; marks = [] }; book = [] })))
-      → record { line = line; foreign = false; env = 0; pending = false; critical = c; unheld = false; unpushed = false; rule1 = rule; a = r; rule2 = 0; b = 0; rule3 = 0; c = 0 }
-      ≡ judged-leave line t r (seen-in T)
-  unfolding judged-leave in-critical seen-in place-rule handle-rule
-  judged c rule e k i =
-      record { line = line; foreign = false; env = 0; pending = false; critical = e i; unheld = false; unpushed = false; rule1 = k i; a = r; rule2 = 0; b = 0; rule3 = 0; c = 0 }
+  pub leave-0 : (closed || not x) ≡ false → 0 ≡ leave-refusal closed top
+  unfolding leave-refusal
+  leave-0 n = rw (sym (open-and closed x (is-native top) e) ∙ is-in closed x n) refl
 
-  pub leave-judged : (c : Bool) (rule : ℕ) (a : Answer) → x ≡ (not (closed-in (T .book)) && is-native top) → not x ≡ false
-      → c ≡ ltb 0 (buffers-in (T .pins) (critical-of t))
-      → rule ≡ rule-number (place-rule Place.HandleOrNull t 0 r (seen-in (record { references = T .references; pins = record { rows = []; marks = [] }; book = [] })))
-      → a ≡ answer-of (listed (record { line = line; foreign = false; env = 0; pending = false; critical = c; unheld = false; unpushed = false; rule1 = rule; a = r; rule2 = 0; b = 0; rule3 = 0; c = 0 }))
-      → a ≡ leave-answer T top line t r
-  unfolding leave-answer seen-in
-  leave-judged c rule a e n k l q = rw (sym e ∙ not-false x n) (q ∙ ap (λ (j : Judged). answer-of (listed j)) (judged c rule k l))
+pub leave-found : (line r : ℕ) (s : LeaveSight) (rule : ℕ) (y : Answer) → rule ≡ rule-number (place-rule Place.HandleOrNull r (s .result .there))
+    → y ≡ answer-of (listed (record { line = line; foreign = false; env = 0; pending = false; critical = s .critical; unheld = false; unpushed = false; rule1 = rule; a = r; rule2 = 0; b = 0; rule3 = 0; c = 0 }))
+    → y ≡ answer-of (listed (judged-leave line r s))
+unfolding judged-leave
+leave-found line r s rule y e k =
+    k
+    ∙ ap (λ (n : ℕ). answer-of (listed (record { line = line; foreign = false; env = 0; pending = false; critical = s .critical; unheld = false; unpushed = false; rule1 = n; a = r; rule2 = 0; b = 0; rule3 = 0; c = 0 }))) e

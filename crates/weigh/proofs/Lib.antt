@@ -1,7 +1,9 @@
 pub mod PlaceLaws
-pub mod EnterLaws
-pub mod LeaveLaws
 pub mod CallLaws
-pub mod GiveLaws
+pub mod LeaveLaws
+pub mod EnterLaws
+pub mod ReturnLaws
 pub mod EndLaws
-pub mod Order
+pub mod Refused
+pub mod ReturnRefused
+pub mod Found

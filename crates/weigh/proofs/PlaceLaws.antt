@@ -1,136 +1,110 @@
--- The rule that a value breaks at a place, by the tests that the code makes.
+-- The rule that a value breaks at a place, by the tests that the code makes. Assumes nothing.
 use Prim.Native.Nat.{ℕ, _%_}
 use mathlib.Core.Path.{_≡_, refl, sym, ap, _∙_}
 use mathlib.Core.Bool.{Bool, true, false}
-use mathlib.Core.List.{List, []}
+use mathlib.Core.Option.{none}
 use borrow.Author.Tests.{eq-eqb, ne-eqb}
-use lib.Dec.{ltb}
+use lib.Dec.{eqb}
+use Rattle.words.specs.Choice.{if_then_else_}
 use Rattle.answers.specs.Listed.{rule-number}
 use Rattle.facts.specs.declared.Place.{Place}
 use Rattle.facts.specs.declared.Place.the-variants as Place
-use Rattle.history.specs.Handles.{is-local, is-shared}
-use Rattle.history.specs.Buffers.{pin, same-pin}
-use Rattle.history.specs.Seen.{Seen}
 use Rattle.history.specs.Breaches.{handle-rule, kind-rule, place-rule}
-use Rattle.tables.specs.Tables.{Tables, tables, handles-in, buffers-in, seen-in}
 
-module _ (T : Tables) (t h : ℕ) where
+module _ (h : ℕ) (there : Bool) where
   -- a nonzero identity in a handle place
-  pub identity-there : h % 4 ≡ 0 → 4 ≡ rule-number (handle-rule t h (seen-in T))
+  pub identity-there : h % 4 ≡ 0 → 4 ≡ rule-number (handle-rule h there)
   unfolding handle-rule
   identity-there e = rw (eq-eqb (h % 4) 0 e) refl
 
-  pub local-lives : (b : Bool) → (h % 4 ≡ 0 → ⊥) → h % 4 ≡ 1 → b ≡ ltb 0 (handles-in (T .references) (is-local t h)) → b ≡ true
-      → 0 ≡ rule-number (handle-rule t h (seen-in T))
-  unfolding handle-rule seen-in
-  local-lives b z e k y = rw (ne-eqb (h % 4) 0 z, eq-eqb (h % 4) 1 e, sym k ∙ y) refl
+  pub handle-lives : (h % 4 ≡ 0 → ⊥) → there ≡ true → 0 ≡ rule-number (handle-rule h there)
+  unfolding handle-rule
+  handle-lives z y = rw (ne-eqb (h % 4) 0 z, y) (go (eqb (h % 4) 1))
+    where
+      go : (b : Bool) → 0 ≡ rule-number (if b then none else none)
+      go true = refl
+      go false = refl
 
-  pub local-dead : (b : Bool) → (h % 4 ≡ 0 → ⊥) → h % 4 ≡ 1 → b ≡ ltb 0 (handles-in (T .references) (is-local t h)) → b ≡ false
-      → 11 ≡ rule-number (handle-rule t h (seen-in T))
-  unfolding handle-rule seen-in
-  local-dead b z e k y = rw (ne-eqb (h % 4) 0 z, eq-eqb (h % 4) 1 e, sym k ∙ y) refl
+  pub local-dead : (h % 4 ≡ 0 → ⊥) → there ≡ false → h % 4 ≡ 1 → 11 ≡ rule-number (handle-rule h there)
+  unfolding handle-rule
+  local-dead z y e = rw (ne-eqb (h % 4) 0 z, eq-eqb (h % 4) 1 e, y) refl
 
-  pub shared-lives : (b : Bool) → (h % 4 ≡ 0 → ⊥) → (h % 4 ≡ 1 → ⊥) → b ≡ ltb 0 (handles-in (T .references) (is-shared h)) → b ≡ true
-      → 0 ≡ rule-number (handle-rule t h (seen-in T))
-  unfolding handle-rule seen-in
-  shared-lives b z e k y = rw (ne-eqb (h % 4) 0 z, ne-eqb (h % 4) 1 e, sym k ∙ y) refl
+  pub shared-dead : (h % 4 ≡ 0 → ⊥) → there ≡ false → (h % 4 ≡ 1 → ⊥) → 10 ≡ rule-number (handle-rule h there)
+  unfolding handle-rule
+  shared-dead z y e = rw (ne-eqb (h % 4) 0 z, ne-eqb (h % 4) 1 e, y) refl
 
-  pub shared-dead : (b : Bool) → (h % 4 ≡ 0 → ⊥) → (h % 4 ≡ 1 → ⊥) → b ≡ ltb 0 (handles-in (T .references) (is-shared h)) → b ≡ false
-      → 10 ≡ rule-number (handle-rule t h (seen-in T))
-  unfolding handle-rule seen-in
-  shared-dead b z e k y = rw (ne-eqb (h % 4) 0 z, ne-eqb (h % 4) 1 e, sym k ∙ y) refl
-
-  pub null-kind : (k : ℕ) → h ≡ 0 → 0 ≡ rule-number (kind-rule k t h (seen-in T))
+  pub null-kind : (k : ℕ) → h ≡ 0 → 0 ≡ rule-number (kind-rule k h there)
   unfolding kind-rule
   null-kind k e = rw (eq-eqb h 0 e) refl
 
-  pub right-kind : (k r : ℕ) → (h ≡ 0 → ⊥) → h % 4 ≡ k → r ≡ rule-number (handle-rule t h (seen-in T)) → r ≡ rule-number (kind-rule k t h (seen-in T))
+  pub right-kind : (k r : ℕ) → (h ≡ 0 → ⊥) → h % 4 ≡ k → r ≡ rule-number (handle-rule h there) → r ≡ rule-number (kind-rule k h there)
   unfolding kind-rule
   right-kind k r z e q = rw (ne-eqb h 0 z, eq-eqb (h % 4) k e) q
 
-  pub other-kind : (k : ℕ) → (h ≡ 0 → ⊥) → (h % 4 ≡ k → ⊥) → 4 ≡ rule-number (kind-rule k t h (seen-in T))
+  pub other-kind : (k : ℕ) → (h ≡ 0 → ⊥) → (h % 4 ≡ k → ⊥) → 4 ≡ rule-number (kind-rule k h there)
   unfolding kind-rule
   other-kind k z e = rw (ne-eqb h 0 z, ne-eqb (h % 4) k e) refl
 
-  pub null-or-handle : (f : ℕ) → h ≡ 0 → 0 ≡ rule-number (place-rule Place.HandleOrNull t f h (seen-in T))
+  pub null-or-handle : h ≡ 0 → 0 ≡ rule-number (place-rule Place.HandleOrNull h there)
   unfolding place-rule
-  null-or-handle f e = rw (eq-eqb h 0 e) refl
+  null-or-handle e = rw (eq-eqb h 0 e) refl
 
-  pub handle-or-null : (f r : ℕ) → (h ≡ 0 → ⊥) → r ≡ rule-number (handle-rule t h (seen-in T)) → r ≡ rule-number (place-rule Place.HandleOrNull t f h (seen-in T))
+  pub handle-or-null : (r : ℕ) → (h ≡ 0 → ⊥) → r ≡ rule-number (handle-rule h there) → r ≡ rule-number (place-rule Place.HandleOrNull h there)
   unfolding place-rule
-  handle-or-null f r z q = rw (ne-eqb h 0 z) q
+  handle-or-null r z q = rw (ne-eqb h 0 z) q
 
-  pub null-handle : (f : ℕ) → h ≡ 0 → 7 ≡ rule-number (place-rule Place.Handle t f h (seen-in T))
+  pub null-handle : h ≡ 0 → 7 ≡ rule-number (place-rule Place.Handle h there)
   unfolding place-rule
-  null-handle f e = rw (eq-eqb h 0 e) refl
+  null-handle e = rw (eq-eqb h 0 e) refl
 
-  pub some-handle : (f r : ℕ) → (h ≡ 0 → ⊥) → r ≡ rule-number (handle-rule t h (seen-in T)) → r ≡ rule-number (place-rule Place.Handle t f h (seen-in T))
+  pub some-handle : (r : ℕ) → (h ≡ 0 → ⊥) → r ≡ rule-number (handle-rule h there) → r ≡ rule-number (place-rule Place.Handle h there)
   unfolding place-rule
-  some-handle f r z q = rw (ne-eqb h 0 z) q
+  some-handle r z q = rw (ne-eqb h 0 z) q
 
-  pub null-buffer : (f : ℕ) → h ≡ 0 → 7 ≡ rule-number (place-rule Place.Buffer t f h (seen-in T))
+  pub null-buffer : h ≡ 0 → 7 ≡ rule-number (place-rule Place.Buffer h there)
   unfolding place-rule
-  null-buffer f e = rw (eq-eqb h 0 e) refl
+  null-buffer e = rw (eq-eqb h 0 e) refl
 
-  pub buffer-out : (f : ℕ) (b : Bool) → (h ≡ 0 → ⊥) → b ≡ ltb 0 (buffers-in (T .pins) (same-pin (pin t f h))) → b ≡ true
-      → 0 ≡ rule-number (place-rule Place.Buffer t f h (seen-in T))
-  unfolding place-rule seen-in
-  buffer-out f b z k y = rw (ne-eqb h 0 z, sym k ∙ y) refl
+  pub buffer-out : (h ≡ 0 → ⊥) → there ≡ true → 0 ≡ rule-number (place-rule Place.Buffer h there)
+  unfolding place-rule
+  buffer-out z y = rw (ne-eqb h 0 z, y) refl
 
-  pub buffer-not-out : (f : ℕ) (b : Bool) → (h ≡ 0 → ⊥) → b ≡ ltb 0 (buffers-in (T .pins) (same-pin (pin t f h))) → b ≡ false
-      → 8 ≡ rule-number (place-rule Place.Buffer t f h (seen-in T))
-  unfolding place-rule seen-in
-  buffer-not-out f b z k y = rw (ne-eqb h 0 z, sym k ∙ y) refl
+  pub buffer-not-out : (h ≡ 0 → ⊥) → there ≡ false → 8 ≡ rule-number (place-rule Place.Buffer h there)
+  unfolding place-rule
+  buffer-not-out z y = rw (ne-eqb h 0 z, y) refl
 
-module _ (h t f : ℕ) (v : Seen) where
-  pub null-identity : h ≡ 0 → 7 ≡ rule-number (place-rule Place.Identity t f h v)
+  pub null-identity : h ≡ 0 → 7 ≡ rule-number (place-rule Place.Identity h there)
   unfolding place-rule
   null-identity e = rw (eq-eqb h 0 e) refl
 
-  pub right-identity : (h ≡ 0 → ⊥) → h % 4 ≡ 0 → 0 ≡ rule-number (place-rule Place.Identity t f h v)
+  pub right-identity : (h ≡ 0 → ⊥) → h % 4 ≡ 0 → 0 ≡ rule-number (place-rule Place.Identity h there)
   unfolding place-rule
   right-identity z e = rw (ne-eqb h 0 z, eq-eqb (h % 4) 0 e) refl
 
-  pub handle-there : (h ≡ 0 → ⊥) → (h % 4 ≡ 0 → ⊥) → 4 ≡ rule-number (place-rule Place.Identity t f h v)
+  pub handle-there : (h ≡ 0 → ⊥) → (h % 4 ≡ 0 → ⊥) → 4 ≡ rule-number (place-rule Place.Identity h there)
   unfolding place-rule
   handle-there z e = rw (ne-eqb h 0 z, ne-eqb (h % 4) 0 e) refl
 
--- ---- by the kind of place: nothing else in the tables is looked at
+  -- ---- by the kind of place
 
-module _ (rs ms ps ns b : List ℕ) (t f h r : ℕ) (p : Place) where
-  abbrev seen-there : Seen
-  seen-there = seen-in (tables rs ms ps ns b)
+  pub at-place : (p q : Place) (r : ℕ) → p ≡ q → r ≡ rule-number (place-rule q h there) → r ≡ rule-number (place-rule p h there)
+  at-place p q r e k = k ∙ ap (λ (x : Place). rule-number (place-rule x h there)) (sym e)
 
-  abbrev seen-rows : Seen
-  seen-rows = seen-in (tables rs ms [] [] [])
+  pub at-kind : (p q : Place) (k r : ℕ) → place-rule q h there ≡ kind-rule k h there → p ≡ q → r ≡ rule-number (kind-rule k h there) → r ≡ rule-number (place-rule p h there)
+  at-kind p q k r d e y = at-place p q r e (y ∙ ap rule-number (sym d))
 
-  pub at-handle : p ≡ Place.Handle → r ≡ rule-number (place-rule Place.Handle t 0 h seen-rows) → r ≡ rule-number (place-rule p t f h seen-there)
-  unfolding place-rule handle-rule seen-in
-  at-handle e q = q ∙ ap (λ (x : Place). rule-number (place-rule x t f h seen-there)) (sym e)
-
-  pub at-handle-or-null : p ≡ Place.HandleOrNull → r ≡ rule-number (place-rule Place.HandleOrNull t 0 h seen-rows) → r ≡ rule-number (place-rule p t f h seen-there)
-  unfolding place-rule handle-rule seen-in
-  at-handle-or-null e q = q ∙ ap (λ (x : Place). rule-number (place-rule x t f h seen-there)) (sym e)
-
-  pub at-local : p ≡ Place.LocalOrNull → r ≡ rule-number (kind-rule 1 t h seen-rows) → r ≡ rule-number (place-rule p t f h seen-there)
-  unfolding place-rule kind-rule handle-rule seen-in
-  at-local e q = q ∙ ap (λ (x : Place). rule-number (place-rule x t f h seen-there)) (sym e)
-
-  pub at-global : p ≡ Place.GlobalOrNull → r ≡ rule-number (kind-rule 2 t h seen-rows) → r ≡ rule-number (place-rule p t f h seen-there)
-  unfolding place-rule kind-rule handle-rule seen-in
-  at-global e q = q ∙ ap (λ (x : Place). rule-number (place-rule x t f h seen-there)) (sym e)
-
-  pub at-weak : p ≡ Place.WeakOrNull → r ≡ rule-number (kind-rule 3 t h seen-rows) → r ≡ rule-number (place-rule p t f h seen-there)
-  unfolding place-rule kind-rule handle-rule seen-in
-  at-weak e q = q ∙ ap (λ (x : Place). rule-number (place-rule x t f h seen-there)) (sym e)
-
-  pub at-identity : p ≡ Place.Identity → ((s g : ℕ) (v : Seen) → r ≡ rule-number (place-rule Place.Identity s g h v)) → r ≡ rule-number (place-rule p t f h seen-there)
-  at-identity e q = q t f seen-there ∙ ap (λ (x : Place). rule-number (place-rule x t f h seen-there)) (sym e)
-
-  pub at-buffer : p ≡ Place.Buffer → r ≡ rule-number (place-rule Place.Buffer t f h (seen-in (tables [] [] ps ns []))) → r ≡ rule-number (place-rule p t f h seen-there)
-  unfolding place-rule seen-in
-  at-buffer e q = q ∙ ap (λ (x : Place). rule-number (place-rule x t f h seen-there)) (sym e)
-
-  pub at-unused : p ≡ Place.Unused → 0 ≡ rule-number (place-rule p t f h seen-there)
+  pub at-local : (p : Place) (r : ℕ) → p ≡ Place.LocalOrNull → r ≡ rule-number (kind-rule 1 h there) → r ≡ rule-number (place-rule p h there)
   unfolding place-rule
-  at-unused e = ap (λ (x : Place). rule-number (place-rule x t f h seen-there)) (sym e)
+  at-local p r = at-kind p Place.LocalOrNull 1 r refl
+
+  pub at-global : (p : Place) (r : ℕ) → p ≡ Place.GlobalOrNull → r ≡ rule-number (kind-rule 2 h there) → r ≡ rule-number (place-rule p h there)
+  unfolding place-rule
+  at-global p r = at-kind p Place.GlobalOrNull 2 r refl
+
+  pub at-weak : (p : Place) (r : ℕ) → p ≡ Place.WeakOrNull → r ≡ rule-number (kind-rule 3 h there) → r ≡ rule-number (place-rule p h there)
+  unfolding place-rule
+  at-weak p r = at-kind p Place.WeakOrNull 3 r refl
+
+  pub at-unused : (p : Place) → p ≡ Place.Unused → 0 ≡ rule-number (place-rule p h there)
+  unfolding place-rule
+  at-unused p e = at-place p Place.Unused 0 e refl

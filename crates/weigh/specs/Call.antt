@@ -1,19 +1,37 @@
--- The answer to C, by the tests that the code makes. Assumes nothing.
+-- What is answered to C, from what it was told. Assumes nothing.
 use Prim.Native.Nat.{ℕ}
-use mathlib.Core.Bool.{not, _&&_}
+use mathlib.Core.Bool.{Bool, not, _&&_}
 use mathlib.Core.Option.{Option}
-use lib.Dec.{leb}
+use lib.Dec.{eqb, leb}
 use Rattle.words.specs.Choice.{if_then_else_}
+use Rattle.facts.specs.Table.{is-allowed-pending, is-allowed-critical}
+use Rattle.facts.specs.Named.{PopLocalFrame, MonitorExit}
 use Rattle.history.specs.Items.{Item, is-native}
 use Rattle.history.specs.Acceptance.{deepest}
-use Rattle.answers.specs.declared.Answer.{Answer}
-use Rattle.answers.specs.Answer.{refused-with, answer-of}
-use Rattle.answers.specs.Listed.{listed}
-use Rattle.answers.specs.Judging.{judged-call}
-use Rattle.tables.specs.Tables.{Tables, seen-in}
+use Rattle.history.specs.Breaches.{place-rule}
+use Rattle.answers.specs.declared.Judged.{Judged}
+use Rattle.answers.specs.Listed.{rule-number}
+use Rattle.sight.specs.declared.call.CallSight.{CallSight}
 
-unfoldable pub call-answer : Tables → Option Item → ℕ → ℕ → ℕ → ℕ → ℕ → ℕ → ℕ → ℕ → Answer
-call-answer T top many line t env f a b c =
-    if not (seen-in T .closed) && is-native top then
-    (if leb deepest many then refused-with 7 else answer-of (listed (judged-call line t env f a b c (seen-in T))))
-    else refused-with 4
+-- 0, 4 or 7
+unfoldable pub call-refusal : Bool → Option Item → ℕ → ℕ
+call-refusal closed top many = if not closed && is-native top then (if leb deepest many then 7 else 0) else 4
+
+-- what is judged of line number `line`
+unfoldable pub judged-call : ℕ → ℕ → ℕ → ℕ → ℕ → ℕ → CallSight → Judged
+judged-call line env f a b c s =
+    record {
+      line = line;
+      foreign = not (eqb env (s .env));
+      env = env;
+      pending = eqb (s .pending) 1 && not (is-allowed-pending f);
+      critical = s .critical && not (is-allowed-critical f);
+      unheld = eqb f MonitorExit && eqb (s .monitors) 0;
+      unpushed = eqb f PopLocalFrame && not (s .pushed);
+      rule1 = rule-number (place-rule (s .pa) a (s .a .there));
+      a = a;
+      rule2 = rule-number (place-rule (s .pb) b (s .b .there));
+      b = b;
+      rule3 = rule-number (place-rule (s .pc) c (s .c .there));
+      c = c;
+    }

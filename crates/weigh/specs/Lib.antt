@@ -1,5 +1,5 @@
 pub mod Enter
 pub mod Leave
 pub mod Call
-pub mod Give
+pub mod Returns
 pub mod End

@@ -2,48 +2,49 @@
 use answers::Answer;
 use answers::Judged;
 use book::Top;
+use facts::functions::MONITOR_EXIT;
+use facts::functions::POP_LOCAL_FRAME;
+use sight::call::CallSight;
+use words::Handle;
 ghost use mathlib.Core.Path.{_≡_};
-ghost use Rattle.answers.specs.Judging.{judged-call};
-ghost use Rattle.tables.specs.Tables.{tables, seen-in};
 ghost use Rattle.book.specs.Threads.{top-is};
-ghost use Rattle.weigh.specs.Call.{call-answer};
+ghost use Rattle.answers.specs.Answer.{answer-of};
+ghost use Rattle.answers.specs.Listed.{listed};
+ghost use Rattle.weigh.specs.Call.{call-refusal, judged-call};
 
-const POP_LOCAL_FRAME: u32 = 20;
-
-const MONITOR_EXIT: u32 = 218;
-
-fn judge_call(
-    rows: &[u32],
-    marks: &[u64],
-    pins: &[u32],
-    pinmarks: &[u64],
-    book: &[u64],
-    line: u32,
-    t: u32,
-    env: u32,
-    f: u32,
-    a: u32,
-    b: u32,
-    c: u32,
-) -> Judged
-    ensures { λ r. ⌜ r ≡ judged-call line t env f a b c (seen-in (tables (now (rows .entry)) (now (marks .entry)) (now (pins .entry)) (now (pinmarks .entry)) (now (book .entry)))) ⌝ }
+// The number given instead of it, or 0. `top` is on top of the thread's `many` open items.
+pub fn refusal(closed: bool, top: Top, many: u32) -> u8
+    ensures { λ r. ⌜ r ≡ call-refusal closed (top-is top) many ⌝ }
 {
-    let own = book::env_of(book, t);
-    let thrown = book::pending_of(book, t);
-    let held = book::monitors_of(book, t);
-    let pushed = book::top_pushed(book, t);
-    let region = crate::sight::in_critical(pins, pinmarks, t);
-    let rule1 = crate::places::place_rule(rows, marks, pins, pinmarks, facts::place_a(f), t, f, a);
-    let rule2 = crate::places::place_rule(rows, marks, pins, pinmarks, facts::place_b(f), t, f, b);
-    let rule3 = crate::places::place_rule(rows, marks, pins, pinmarks, facts::place_c(f), t, f, c);
+    if closed | !crate::steps::is_native(top) {
+        return 4;
+    }
+    if crate::steps::DEEPEST <= many {
+        return 7;
+    }
+    0
+}
+
+fn judge(seen: CallSight, line: u32, env: Handle, f: u32, a: Handle, b: Handle, c: Handle) -> Judged
+    ensures { λ r. ⌜ r ≡ judged-call line env f a b c seen ⌝ }
+{
+    let x = seen.a;
+    let y = seen.b;
+    let z = seen.c;
+    let pa = seen.pa;
+    let pb = seen.pb;
+    let pc = seen.pc;
+    let rule1 = crate::places::place_rule(pa, a, x.there);
+    let rule2 = crate::places::place_rule(pb, b, y.there);
+    let rule3 = crate::places::place_rule(pc, c, z.there);
     Judged {
         line,
-        foreign: env as u64 != own,
+        foreign: env as u64 != seen.env,
         env,
-        pending: (thrown == 1) & !facts::allowed_pending(f),
-        critical: region & !facts::allowed_critical(f),
-        unheld: (f == MONITOR_EXIT) & (held == 0),
-        unpushed: (f == POP_LOCAL_FRAME) & !pushed,
+        pending: (seen.pending == 1) & !facts::allowed_pending(f),
+        critical: seen.critical & !facts::allowed_critical(f),
+        unheld: (f == MONITOR_EXIT) & (seen.monitors == 0),
+        unpushed: (f == POP_LOCAL_FRAME) & !seen.pushed,
         rule1,
         a,
         rule2,
@@ -53,30 +54,17 @@ fn judge_call(
     }
 }
 
-// Line number `line`, where `many` items of the thread are open, `top` on top.
-pub fn call(
-    rows: &[u32],
-    marks: &[u64],
-    pins: &[u32],
-    pinmarks: &[u64],
-    book: &[u64],
-    top: Top,
-    many: u32,
+// Line number `line`, accepted.
+pub fn findings(
+    seen: CallSight,
     line: u32,
-    t: u32,
-    env: u32,
+    env: Handle,
     f: u32,
-    a: u32,
-    b: u32,
-    c: u32,
+    a: Handle,
+    b: Handle,
+    c: Handle,
 ) -> Answer
-    ensures { λ r. ⌜ r ≡ call-answer (tables (now (rows .entry)) (now (marks .entry)) (now (pins .entry)) (now (pinmarks .entry)) (now (book .entry))) (top-is top) many line t env f a b c ⌝ }
+    ensures { λ r. ⌜ r ≡ answer-of (listed (judged-call line env f a b c seen)) ⌝ }
 {
-    if !crate::steps::in_native(book, top) {
-        return answers::refused(4);
-    }
-    if crate::steps::DEEPEST <= many {
-        return answers::refused(7);
-    }
-    answers::findings(judge_call(rows, marks, pins, pinmarks, book, line, t, env, f, a, b, c))
+    answers::findings(judge(seen, line, env, f, a, b, c))
 }

@@ -1,42 +1,30 @@
-// N: the number given instead of it, or 0.
+// N: the number given instead of it, or 0. It has no findings.
 use book::Top;
+use sight::enter::EnterSight;
+use words::Handle;
 ghost use mathlib.Core.Path.{_≡_};
-ghost use mathlib.Core.Bool.{not, _&&_, _||_};
 ghost use Prim.Native.Nat.{ℕ, _≤_};
 ghost use lib.Dec.{eqb};
 ghost use lib.ListN.{length, drop};
 ghost use Rattle.words.specs.Lists.{any};
-ghost use Rattle.rows.specs.Table.{table};
-ghost use Rattle.history.specs.Items.{is-empty, is-call};
-ghost use Rattle.book.specs.Threads.{top-is, closed-in};
-ghost use Rattle.weigh.specs.Enter.{named-twice, some-alive, env-fits, enter-room, enter-refusal};
+ghost use Rattle.book.specs.Threads.{top-is};
+ghost use Rattle.weigh.specs.Enter.{enter-turn, named-twice, env-fits, enter-room, enter-refusal};
 
-// The stack is empty or its top is an open call.
-fn may_enter(top: Top) -> bool
-    ensures { λ r. ⌜ r ≡ (is-empty (top-is top) || is-call (top-is top)) ⌝ }
+// The thread's stack is empty or its top is an open call.
+pub fn in_turn(closed: bool, top: Top) -> bool
+    ensures { λ r. ⌜ r ≡ enter-turn closed (top-is top) ⌝ }
 {
-    match top {
-        Top::Nothing => true,
-        Top::Native => false,
-        Top::Call(_, _) => true,
-    }
+    !closed & crate::steps::may_enter(top)
 }
 
-fn in_step(book: &[u64], top: Top) -> bool
-    ensures { λ r. ⌜ r ≡ (not (closed-in (now (book .entry))) && (is-empty (top-is top) || is-call (top-is top))) ⌝ }
+fn env_fits(seen: EnterSight, env: Handle) -> bool
+    ensures { λ r. ⌜ r ≡ env-fits env seen ⌝ }
 {
-    !book::is_closed(book) & may_enter(top)
-}
-
-fn env_fits(book: &[u64], t: u32, env: u32) -> bool
-    ensures { λ r. ⌜ r ≡ env-fits (now (book .entry)) t env ⌝ }
-{
-    let own = book::env_of(book, t);
-    ((own == 0) | (own == env as u64)) & !book::env_elsewhere(book, t, env as u64)
+    ((seen.env == 0) | (seen.env == env as u64)) & !seen.elsewhere
 }
 
 // h is one of the handles from a place on.
-fn is_named(hs: &[u32], from: usize, h: u32) -> bool
+fn is_named(hs: &[Handle], from: usize, h: Handle) -> bool
     requires { ⌜ from ≤ length (now hs) ⌝ }
     ensures { λ r. ⌜ r ≡ any (λ (g : ℕ). eqb g h) (drop from (now (hs .entry))) ⌝ }
 {
@@ -50,7 +38,7 @@ fn is_named(hs: &[u32], from: usize, h: u32) -> bool
     false
 }
 
-fn named_twice(hs: &[u32]) -> bool
+fn named_twice(hs: &[Handle]) -> bool
     ensures { λ r. ⌜ r ≡ named-twice (now (hs .entry)) ⌝ }
 {
     let mut i = 0;
@@ -63,54 +51,24 @@ fn named_twice(hs: &[u32]) -> bool
     false
 }
 
-fn some_alive(rows: &[u32], marks: &[u64], t: u32, hs: &[u32]) -> bool
-    ensures { λ r. ⌜ r ≡ some-alive (table (now (rows .entry)) (now (marks .entry))) t (now (hs .entry)) ⌝ }
+// `n` rows, a frame and an item more, where `many` items are open.
+fn has_room(seen: EnterSight, many: u32, n: usize) -> bool
+    ensures { λ r. ⌜ r ≡ enter-room many n seen ⌝ }
 {
-    let mut i = 0;
-    while i < hs.len() {
-        if crate::sight::local_alive(rows, marks, t, hs[i]) {
-            return true;
-        }
-        i += 1;
-    }
-    false
+    (n <= seen.free) & (seen.frames < crate::steps::DEEPEST) & (many < crate::steps::DEEPEST)
 }
 
-fn has_room(rows: &[u32], marks: &[u64], book: &[u64], t: u32, many: u32, n: usize) -> bool
-    ensures { λ r. ⌜ r ≡ enter-room (table (now (rows .entry)) (now (marks .entry))) (now (book .entry)) t many n ⌝ }
+// For N in turn: the number given instead of it, or 0.
+pub fn refusal(seen: EnterSight, many: u32, env: Handle, hs: &[Handle]) -> u8
+    ensures { λ r. ⌜ r ≡ enter-refusal many env (now (hs .entry)) seen ⌝ }
 {
-    let left = rows::references::room(rows, marks) - rows::references::alive(rows, marks);
-    (n <= left)
-        & (book::frames_of(book, t) < crate::steps::DEEPEST)
-        & (many < crate::steps::DEEPEST)
-}
-
-// `many` items of the thread are open, `top` on top.
-pub fn enter(
-    rows: &[u32],
-    marks: &[u64],
-    book: &[u64],
-    top: Top,
-    many: u32,
-    t: u32,
-    env: u32,
-    hs: &[u32],
-) -> u8
-    ensures { λ r. ⌜ r ≡ enter-refusal (table (now (rows .entry)) (now (marks .entry))) (now (book .entry)) (top-is top) many t env (now (hs .entry)) ⌝ }
-{
-    if !in_step(book, top) {
-        return 4;
-    }
-    if !env_fits(book, t, env) {
+    if !env_fits(seen, env) {
         return 5;
     }
-    if some_alive(rows, marks, t, hs) {
+    if seen.alive | named_twice(hs) {
         return 6;
     }
-    if named_twice(hs) {
-        return 6;
-    }
-    if !has_room(rows, marks, book, t, many, hs.len()) {
+    if !has_room(seen, many, hs.len()) {
         return 7;
     }
     0

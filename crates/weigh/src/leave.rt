@@ -2,36 +2,36 @@
 use answers::Answer;
 use answers::Judged;
 use book::Top;
+use sight::leave::LeaveSight;
+use words::Handle;
 ghost use mathlib.Core.Path.{_≡_};
-ghost use Rattle.tables.specs.Tables.{tables};
 ghost use Rattle.book.specs.Threads.{top-is};
-ghost use Rattle.weigh.specs.Leave.{leave-answer};
+ghost use Rattle.answers.specs.Answer.{answer-of};
+ghost use Rattle.answers.specs.Listed.{listed};
+ghost use Rattle.weigh.specs.Leave.{leave-refusal, judged-leave};
 
-// Line number `line`, where `top` is on top of the thread's open items.
-pub fn leave(
-    rows: &[u32],
-    marks: &[u64],
-    pins: &[u32],
-    pinmarks: &[u64],
-    book: &[u64],
-    top: Top,
-    line: u32,
-    t: u32,
-    result: u32,
-) -> Answer
-    ensures { λ r. ⌜ r ≡ leave-answer (tables (now (rows .entry)) (now (marks .entry)) (now (pins .entry)) (now (pinmarks .entry)) (now (book .entry))) (top-is top) line t result ⌝ }
+// The number given instead of it, or 0.
+pub fn refusal(closed: bool, top: Top) -> u8
+    ensures { λ r. ⌜ r ≡ leave-refusal closed (top-is top) ⌝ }
 {
-    if !crate::steps::in_native(book, top) {
-        return answers::refused(4);
+    if closed | !crate::steps::is_native(top) {
+        return 4;
     }
-    let critical = crate::sight::in_critical(pins, pinmarks, t);
-    let rule1 = crate::places::handle_or_null_rule(rows, marks, t, result);
+    0
+}
+
+// Line number `line`, accepted.
+pub fn findings(seen: LeaveSight, line: u32, result: Handle) -> Answer
+    ensures { λ r. ⌜ r ≡ answer-of (listed (judged-leave line result seen)) ⌝ }
+{
+    let at = seen.result;
+    let rule1 = crate::places::handle_or_null_rule(result, at.there);
     answers::findings(Judged {
         line,
         foreign: false,
         env: 0,
         pending: false,
-        critical,
+        critical: seen.critical,
         unheld: false,
         unpushed: false,
         rule1,

@@ -1,110 +1,96 @@
-// The rule that a value breaks at a place, the first that fits, or 0.
+// The rule that a value breaks at a place, the first that fits, or 0. `there` tells whether what it names is alive or outstanding.
 use facts::Place;
+use facts::handles::GLOBAL;
+use facts::handles::IDENTITY;
+use facts::handles::KINDS;
+use facts::handles::LOCAL;
+use facts::handles::WEAK;
+use words::Handle;
 ghost use mathlib.Core.Path.{_≡_};
-ghost use mathlib.Core.List.{List, []};
-ghost use Prim.Native.Nat.{ℕ};
-ghost use Rattle.answers.specs.Listed.{rule-number};
-ghost use Rattle.history.specs.Seen.{Seen};
-ghost use Rattle.history.specs.Breaches.{handle-rule, kind-rule, place-rule};
 ghost use Rattle.facts.specs.declared.Place.the-variants as Place;
-ghost use Rattle.tables.specs.Tables.{tables, seen-in};
+ghost use Rattle.history.specs.Breaches.{handle-rule, kind-rule, place-rule};
+ghost use Rattle.answers.specs.Listed.{rule-number};
 
 // A handle that is not null.
-fn handle_rule(rows: &[u32], marks: &[u64], t: u32, h: u32) -> u32
-    ensures { λ r. ⌜ r ≡ rule-number (handle-rule t h (seen-in (tables (now (rows .entry)) (now (marks .entry)) [] [] []))) ⌝ }
+fn handle_rule(h: Handle, there: bool) -> u32
+    ensures { λ r. ⌜ r ≡ rule-number (handle-rule h there) ⌝ }
 {
-    let kind = h % 4;
-    if kind == 0 {
+    let kind = h % KINDS;
+    if kind == IDENTITY {
         return 4;
     }
-    if kind == 1 {
-        if crate::sight::local_alive(rows, marks, t, h) {
-            return 0;
-        }
-        return 11;
-    }
-    if crate::sight::shared_alive(rows, marks, h) {
+    if there {
         return 0;
+    }
+    if kind == LOCAL {
+        return 11;
     }
     10
 }
 
 // A handle of one kind, or null.
-fn kind_rule(rows: &[u32], marks: &[u64], kind: u32, t: u32, h: u32) -> u32
-    ensures { λ r. ⌜ r ≡ rule-number (kind-rule kind t h (seen-in (tables (now (rows .entry)) (now (marks .entry)) [] [] []))) ⌝ }
+fn kind_rule(kind: Handle, h: Handle, there: bool) -> u32
+    ensures { λ r. ⌜ r ≡ rule-number (kind-rule kind h there) ⌝ }
 {
     if h == 0 {
         return 0;
     }
-    if h % 4 == kind {
-        handle_rule(rows, marks, t, h)
+    if h % KINDS == kind {
+        handle_rule(h, there)
     } else {
         4
     }
 }
 
 // A handle or null.
-pub(crate) fn handle_or_null_rule(rows: &[u32], marks: &[u64], t: u32, h: u32) -> u32
-    ensures { λ r. ⌜ r ≡ rule-number (place-rule Place.HandleOrNull t 0 h (seen-in (tables (now (rows .entry)) (now (marks .entry)) [] [] []))) ⌝ }
+pub(crate) fn handle_or_null_rule(h: Handle, there: bool) -> u32
+    ensures { λ r. ⌜ r ≡ rule-number (place-rule Place.HandleOrNull h there) ⌝ }
 {
     if h == 0 {
         return 0;
     }
-    handle_rule(rows, marks, t, h)
+    handle_rule(h, there)
 }
 
-fn identity_rule(h: u32) -> u32
-    ensures { λ r. ⌜ ((t f : ℕ) (v : Seen) → r ≡ rule-number (place-rule Place.Identity t f h v)) ⌝ }
+fn must_handle_rule(h: Handle, there: bool) -> u32
+    ensures { λ r. ⌜ r ≡ rule-number (place-rule Place.Handle h there) ⌝ }
 {
     if h == 0 {
         return 7;
     }
-    if h % 4 == 0 { 0 } else { 4 }
+    handle_rule(h, there)
 }
 
-fn must_handle_rule(rows: &[u32], marks: &[u64], t: u32, h: u32) -> u32
-    ensures { λ r. ⌜ r ≡ rule-number (place-rule Place.Handle t 0 h (seen-in (tables (now (rows .entry)) (now (marks .entry)) [] [] []))) ⌝ }
+fn identity_rule(h: Handle, there: bool) -> u32
+    ensures { λ r. ⌜ r ≡ rule-number (place-rule Place.Identity h there) ⌝ }
 {
     if h == 0 {
         return 7;
     }
-    handle_rule(rows, marks, t, h)
+    if h % KINDS == IDENTITY { 0 } else { 4 }
 }
 
-fn buffer_rule(pins: &[u32], pinmarks: &[u64], t: u32, f: u32, b: u32) -> u32
-    ensures { λ r. ⌜ r ≡ rule-number (place-rule Place.Buffer t f b (seen-in (tables [] [] (now (pins .entry)) (now (pinmarks .entry)) []))) ⌝ }
+fn buffer_rule(b: Handle, there: bool) -> u32
+    ensures { λ r. ⌜ r ≡ rule-number (place-rule Place.Buffer b there) ⌝ }
 {
     if b == 0 {
         return 7;
     }
-    if crate::sight::is_outstanding(pins, pinmarks, t, f, b) {
-        0
-    } else {
-        8
-    }
+    if there { 0 } else { 8 }
 }
 
-// A value at a place of function f, called by thread t.
-pub(crate) fn place_rule(
-    rows: &[u32],
-    marks: &[u64],
-    pins: &[u32],
-    pinmarks: &[u64],
-    place: Place,
-    t: u32,
-    f: u32,
-    h: u32,
-) -> u32
-    ensures { λ r. ⌜ ((book : List ℕ) → r ≡ rule-number (place-rule place t f h (seen-in (tables (now (rows .entry)) (now (marks .entry)) (now (pins .entry)) (now (pinmarks .entry)) book)))) ⌝ }
+// A value at a place.
+pub(crate) fn place_rule(place: Place, h: Handle, there: bool) -> u32
+    ensures { λ r. ⌜ r ≡ rule-number (place-rule place h there) ⌝ }
 {
     match place {
-        Place::Handle => must_handle_rule(rows, marks, t, h),
-        Place::HandleOrNull => handle_or_null_rule(rows, marks, t, h),
-        Place::LocalOrNull => kind_rule(rows, marks, 1, t, h),
-        Place::GlobalOrNull => kind_rule(rows, marks, 2, t, h),
-        Place::WeakOrNull => kind_rule(rows, marks, 3, t, h),
-        Place::Identity => identity_rule(h),
-        Place::Buffer => buffer_rule(pins, pinmarks, t, f, h),
+        Place::Handle => must_handle_rule(h, there),
+        Place::HandleOrNull => handle_or_null_rule(h, there),
+        Place::LocalOrNull => kind_rule(LOCAL, h, there),
+        Place::GlobalOrNull => kind_rule(GLOBAL, h, there),
+        Place::WeakOrNull => kind_rule(WEAK, h, there),
+        Place::Identity => identity_rule(h, there),
+        Place::Buffer => buffer_rule(h, there),
         Place::Unused => 0,
     }
 }

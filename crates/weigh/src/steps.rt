@@ -1,14 +1,15 @@
-// The open item that a line wants on top.
+// The open item that a line wants on top of its thread's.
 use book::Top;
 ghost use mathlib.Core.Path.{_≡_};
-ghost use mathlib.Core.Bool.{not, _&&_};
-ghost use Rattle.history.specs.Items.{is-native, is-call-of};
-ghost use Rattle.book.specs.Threads.{top-is, closed-in};
+ghost use mathlib.Core.Bool.{_||_};
+ghost use Rattle.history.specs.Items.{is-empty, is-native, is-call, is-call-of};
+ghost use Rattle.book.specs.Threads.{top-is};
 
 // The most open items, and frames, of a thread.
-pub(crate) const DEEPEST: u32 = 64;
+pub(crate) const DEEPEST: u32 = book::DEEPEST as u32;
 
-fn is_native(top: Top) -> bool
+// C and X want a native.
+pub(crate) fn is_native(top: Top) -> bool
     ensures { λ r. ⌜ r ≡ is-native (top-is top) ⌝ }
 {
     match top {
@@ -18,7 +19,8 @@ fn is_native(top: Top) -> bool
     }
 }
 
-fn is_call_of(f: u32, top: Top) -> bool
+// R wants an open call of the same function.
+pub(crate) fn is_call_of(f: u32, top: Top) -> bool
     ensures { λ r. ⌜ r ≡ is-call-of f (top-is top) ⌝ }
 {
     match top {
@@ -28,16 +30,13 @@ fn is_call_of(f: u32, top: Top) -> bool
     }
 }
 
-// C and X want a native.
-pub(crate) fn in_native(book: &[u64], top: Top) -> bool
-    ensures { λ r. ⌜ r ≡ (not (closed-in (now (book .entry))) && is-native (top-is top)) ⌝ }
+// N wants none, or an open call.
+pub(crate) fn may_enter(top: Top) -> bool
+    ensures { λ r. ⌜ r ≡ (is-empty (top-is top) || is-call (top-is top)) ⌝ }
 {
-    !book::is_closed(book) & is_native(top)
-}
-
-// R wants an open call of the same function.
-pub(crate) fn in_call(book: &[u64], f: u32, top: Top) -> bool
-    ensures { λ r. ⌜ r ≡ (not (closed-in (now (book .entry))) && is-call-of f (top-is top)) ⌝ }
-{
-    !book::is_closed(book) & is_call_of(f, top)
+    match top {
+        Top::Nothing => true,
+        Top::Native => false,
+        Top::Call(_, _) => true,
+    }
 }

@@ -1,1 +1,7 @@
-// The words that all definitions share. There is no code here.
+// The words that all definitions share, and the type of what a line numbers.
+
+// A handle; identities, buffers and envs are numbered alike.
+pub type Handle = u32;
+
+// They go up to here.
+pub const LARGEST: Handle = 4294967295;

@@ -9,6 +9,7 @@ use lines::TAB;
 use lines::Wrote;
 use lines::ranges;
 use numbers::Room;
+use words::Handle;
 ghost use mathlib.Core.Path.{_≡_};
 ghost use mathlib.Core.Bool.{true};
 ghost use mathlib.Core.List.{_∷_};
@@ -30,7 +31,7 @@ ghost use Rattle.writer.specs.Laid.{signed-at, minus-place, Writes};
 const ROOM: u8 = 7;
 
 // A tab and a number, where there is room; what is past them.
-fn put_field(d: &mut [u8], at: usize, minus: bool, size: u32) -> usize
+fn put_field(d: &mut [u8], at: usize, minus: bool, size: Handle) -> usize
     requires { ⌜ at + suc (length (shown (signed minus size))) ≤ length (now d) ⌝ }
     ensures { λ r. ⌜ (r ≡ at + suc (length (shown (signed minus size)))) × (now (d .exit) ≡ put (now (d .entry)) at (tab ∷ shown (signed minus size))) ⌝ }
 {
@@ -42,14 +43,14 @@ fn put_field(d: &mut [u8], at: usize, minus: bool, size: u32) -> usize
 }
 
 // How long a number is.
-fn field_width(minus: bool, size: u32) -> usize
+fn field_width(minus: bool, size: Handle) -> usize
     ensures { λ r. ⌜ (r ≡ length (shown (signed minus size))) × (r ≤ 21) ⌝ }
 {
     numbers::width_signed(minus, size as u64)
 }
 
 // How long the numbers are, each after a tab; that at the place `minus` is below zero.
-fn fields_width(v: &[u32], minus: usize) -> usize
+fn fields_width(v: &[Handle], minus: usize) -> usize
     requires { ⌜ length (now v) ≤ 10 ⌝ }
     ensures { λ r. ⌜ (r ≡ length (tabbed (signed-at 0 minus (now (v .entry))))) × (r ≤ 220) ⌝ }
 {
@@ -63,7 +64,7 @@ fn fields_width(v: &[u32], minus: usize) -> usize
 }
 
 // The numbers, each after a tab, where there is room; what is past them.
-fn put_fields(d: &mut [u8], from: usize, v: &[u32], minus: usize) -> usize
+fn put_fields(d: &mut [u8], from: usize, v: &[Handle], minus: usize) -> usize
     requires { ⌜ from + length (tabbed (signed-at 0 minus (now v))) ≤ length (now d) ⌝ }
     ensures { λ r. ⌜ (r ≡ from + length (tabbed (signed-at 0 minus (now (v .entry))))) × (now (d .exit) ≡ put (now (d .entry)) from (tabbed (signed-at 0 minus (now (v .entry))))) ⌝ }
 {
@@ -77,7 +78,7 @@ fn put_fields(d: &mut [u8], from: usize, v: &[u32], minus: usize) -> usize
 }
 
 // A whole line of a letter and numbers; where there is no room nothing is written.
-fn put_line(d: &mut [u8], letter: u8, v: &[u32], minus: usize) -> Wrote
+fn put_line(d: &mut [u8], letter: u8, v: &[Handle], minus: usize) -> Wrote
     requires { ⌜ length (now v) ≤ 10 ⌝ }
     ensures { λ r. ⌜ Writes (lettered letter (signed-at 0 minus (now (v .entry)))) (now (d .entry)) r (now (d .exit)) ⌝ }
 {
@@ -102,13 +103,13 @@ fn minus_place(k: usize, n: i32) -> usize
 }
 
 // The size of a signed number.
-fn size_of(n: i32) -> u32
+fn size_of(n: i32) -> Handle
     ensures { λ r. ⌜ r ≡ natAbs n ⌝ }
 {
-    numbers::size_of(n) as u32
+    numbers::size_of(n) as Handle
 }
 
-fn put_enter(d: &mut [u8], thread: u32, env: u32, count: u32, h: [u32; 8]) -> Wrote
+fn put_enter(d: &mut [u8], thread: u32, env: Handle, count: u32, h: [Handle; 8]) -> Wrote
     requires { ⌜ count ≤ 8 ⌝ }
     ensures { λ r. ⌜ Writes (written (N thread env (take count h))) (now (d .entry)) r (now (d .exit)) ⌝ }
 {
@@ -117,14 +118,23 @@ fn put_enter(d: &mut [u8], thread: u32, env: u32, count: u32, h: [u32; 8]) -> Wr
     put_line(d, b'N', &v[..n], MOST_FIELDS)
 }
 
-fn put_leave(d: &mut [u8], thread: u32, result: u32) -> Wrote
+fn put_leave(d: &mut [u8], thread: u32, result: Handle) -> Wrote
     ensures { λ r. ⌜ Writes (written (X thread result)) (now (d .entry)) r (now (d .exit)) ⌝ }
 {
     let v = [thread, result];
     put_line(d, b'X', &v, MOST_FIELDS)
 }
 
-fn put_call(d: &mut [u8], thread: u32, env: u32, f: u32, a: u32, b: u32, c: u32, n: i32) -> Wrote
+fn put_call(
+    d: &mut [u8],
+    thread: u32,
+    env: Handle,
+    f: u32,
+    a: Handle,
+    b: Handle,
+    c: Handle,
+    n: i32,
+) -> Wrote
     ensures { λ r. ⌜ Writes (written (C thread env f a b c n)) (now (d .entry)) r (now (d .exit)) ⌝ }
 {
     let v = [thread, env, f, a, b, c, size_of(n)];
@@ -138,14 +148,14 @@ fn put_status(d: &mut [u8], thread: u32, f: u32, status: i32, pending: u32) -> W
     put_line(d, b'R', &v, minus_place(RESULT_FIELD, status))
 }
 
-fn put_result(d: &mut [u8], thread: u32, f: u32, result: u32, pending: u32) -> Wrote
+fn put_result(d: &mut [u8], thread: u32, f: u32, result: Handle, pending: u32) -> Wrote
     ensures { λ r. ⌜ Writes (written (R thread f (pos result) pending)) (now (d .entry)) r (now (d .exit)) ⌝ }
 {
     let v = [thread, f, result, pending];
     put_line(d, b'R', &v, MOST_FIELDS)
 }
 
-fn put_return(d: &mut [u8], thread: u32, f: u32, result: u32, status: i32, pending: u32) -> Wrote
+fn put_return(d: &mut [u8], thread: u32, f: u32, result: Handle, status: i32, pending: u32) -> Wrote
     ensures { λ r. ⌜ Writes (written (R thread f (if gives-status f then status else pos result) pending)) (now (d .entry)) r (now (d .exit)) ⌝ }
 {
     if ranges::gives_status(f) {
@@ -157,12 +167,12 @@ fn put_return(d: &mut [u8], thread: u32, f: u32, result: u32, status: i32, pendi
 fn put_end(d: &mut [u8]) -> Wrote
     ensures { λ r. ⌜ Writes (written Z) (now (d .entry)) r (now (d .exit)) ⌝ }
 {
-    let v: [u32; 1] = [0];
+    let v: [Handle; 1] = [0];
     put_line(d, b'Z', &v[..0], MOST_FIELDS)
 }
 
 // The line of a good event.
-fn put_event(d: &mut [u8], e: Event, h: [u32; 8]) -> Wrote
+fn put_event(d: &mut [u8], e: Event, h: [Handle; 8]) -> Wrote
     requires { ⌜ is-good e h ≡ true ⌝ }
     ensures { λ r. ⌜ Writes (written (line-meant e h)) (now (d .entry)) r (now (d .exit)) ⌝ }
 {
@@ -190,7 +200,7 @@ fn put_event(d: &mut [u8], e: Event, h: [u32; 8]) -> Wrote
     }
 }
 
-fn write_event(d: &mut [u8], e: Event, h: [u32; 8]) -> Wrote
+fn write_event(d: &mut [u8], e: Event, h: [Handle; 8]) -> Wrote
     ensures { λ r. ⌜ (r ≡ wrote (meant e h) (now (d .entry))) × (now (d .exit) ≡ left (meant e h) (now (d .entry))) ⌝ }
 {
     if !ranges::is_good(e, h) {
@@ -200,7 +210,7 @@ fn write_event(d: &mut [u8], e: Event, h: [u32; 8]) -> Wrote
 }
 
 // Writes the line of an event at the start of d: 3 for a bad event, then 7 where d is short, and nothing is written. Bytes past the line stay.
-pub fn write_line(d: &mut [u8], e: Event, handles: &[u32; 8]) -> Wrote
+pub fn write_line(d: &mut [u8], e: Event, handles: &[Handle; 8]) -> Wrote
     ensures { λ r. ⌜ (r ≡ wrote (meant e (now (handles .entry))) (now (d .entry))) × (now (d .exit) ≡ left (meant e (now (handles .entry))) (now (d .entry))) ⌝ }
 {
     write_event(d, e, *handles)

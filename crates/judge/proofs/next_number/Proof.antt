@@ -1,7 +1,7 @@
 -- `judge::next_number` meets its contract. Assumes nothing.
 use native.Mathlib.Omega.{arith}
 use denote.Ref.{now}
-use Rattle.judge.proofs.Dispatch.{fewer-lines}
+use Rattle.judge.proofs.ByBook.{fewer-lines}
 use borrow.Author.Needs.{needs}
 use Rattle.judge.proofs.next_number.Statement.{statement}
 use Rattle.judge.proofs.next_number.Tie as tie

@@ -1,30 +1,31 @@
 -- `judge::on_event` meets its contract. Assumes nothing.
 use native.Mathlib.Omega.{arith}
-use Rattle.judge.proofs.Dispatch.{of-enter, of-leave, of-call, of-return, of-end, of-refused, few-named}
 use mathlib.Core.Path.{refl, sym}
 use mir.Facts.{toZ-ofZ}
 use lib.Seq.{length-take-le}
-use borrow.Author.Needs.{needs}
+use Rattle.judge.proofs.Reading.{few-named}
+use Rattle.judge.proofs.Dispatch.{of-enter, of-leave, of-call, of-return, of-end, of-refused}
+use borrow.Author.Needs.{needs, sfits-of}
 use Rattle.judge.proofs.on_event.Statement.{statement}
 use Rattle.judge.proofs.on_event.Tie as tie
 
 returns : tie.Need-returns
-returns c = of-enter _ _ _ _ (c .before .before .before .before .before .before .before .before .before .before .before .before .event .given .1) (c .before .before .before .before .before .before .enter .ensures _ _)
+returns c = let at-enter = c .before .before .before .before .before .before in let at-event = at-enter .before .before .before .before .before .before in of-enter _ _ _ _ _ _ _ (at-event .event .given .1) (at-enter .enter .ensures _ _ _)
 
 returns-2 : tie.Need-returns-2
-returns-2 c = of-leave _ _ _ _ _ (c .before .before .before .before .before .before .before .before .before .before .before .before .before .before .before .before .before .before .before .before .pre .0) (c .before .before .before .before .before .before .before .before .before .before .before .before .before .event2 .given .1) (c .before .before .before .before .before .before .leave .ensures)
+returns-2 c = let at-leave = c .before .before .before .before .before .before in let at-event2 = at-leave .before .before .before .before .before .before .before in of-leave _ _ _ _ _ _ _ (at-event2 .event2 .given .1) (at-leave .leave .ensures _)
 
 returns-3 : tie.Need-returns-3
-returns-3 c = of-call _ _ _ _ _ (c .before .before .before .before .before .before .before .before .before .before .before .before .before .before .before .before .before .before .before .before .before .before .before .before .pre .0) _ (toZ-ofZ (search needs)) (c .before .before .before .before .before .before .before .before .before .before .before .before .before .before .before .before .before .event3 .given .1) (c .before .before .before .before .before .before .before .before .before .before .call .ensures)
+returns-3 c = let at-call = c .before .before .before .before .before .before .before .before .before .before in let at-event3 = at-call .before .before .before .before .before .before .before in of-call _ _ _ _ _ _ _ (at-event3 .event3 .given .1) (at-call .call .ensures _)
 
 returns-4 : tie.Need-returns-4
-returns-4 c = of-return _ _ _ _ _ (c .before .before .before .before .before .before .before .before .before .before .before .before .before .before .before .before .before .before .before .before .before .before .before .before .pre .0) _ (toZ-ofZ (search needs)) (c .before .before .before .before .before .before .before .before .before .before .before .before .before .before .before .before .before .event4 .given .1) (c .before .before .before .before .before .before .before .before .before .before .give .ensures)
+returns-4 c = let at-returns = c .before .before .before .before .before .before .before .before .before .before in let at-known-told4 = at-returns .before .before .before .before .before .before in let at-event4 = at-known-told4 .before in of-return _ _ _ _ _ _ _ _ (toZ-ofZ (sfits-of (at-known-told4 .known-told4 .given .1 .1 .1 .0 .1))) (at-event4 .event4 .given .1) (at-returns .returns .ensures _)
 
 returns-5 : tie.Need-returns-5
-returns-5 c = of-end _ _ _ _ _ (c .before .before .before .before .before .before .before .before .before .before .before .before .before .before .before .pre .0) (c .before .before .before .before .before .before .before .before .before .before .before .before .before .before .before .pre .1) (c .before .before .before .before .before .before .before .before .enum-told .given .1) (c .before .before .end .ensures)
+returns-5 c = let at-end = c .before .before in let at-enum-told = at-end .before .before .before .before .before .before in of-end _ _ _ _ _ _ _ (at-enum-told .enum-told .given .1) (at-end .end .ensures _ _)
 
 returns-6 : tie.Need-returns-6
-returns-6 c = of-refused _ _ _ _ _ (c .before .before .event5 .given .1) (c .refused .ensures) refl
+returns-6 c = of-refused _ _ _ _ _ _ _ _ (c .before .before .event5 .given .1) (c .refused .ensures) refl
 
 pub on-event-spec : {M : Type 1} → statement M
 on-event-spec =
@@ -32,10 +33,8 @@ on-event-spec =
     (tie.spec
     (λ c. search needs)
     (λ c. search needs)
-    (λ c. omega (arith, few-named _ (c .before .before .before .before .before .before .before .before .before .before .before .pre .2) (c .before .before .before .before .event .given .1)))
-    (λ c. sym (length-take-le _ _ (omega (arith, few-named _ (c .before .before .before .before .before .before .before .before .before .before .before .before .pre .2) (c .before .before .before .before .before .event .given .1)))))
-    (λ c κs. tt)
-    (λ c. search needs)
+    (λ c. let at-event = c .before .before .before .before in let at-pre = at-event .before .before .before .before .before .before .before in omega (arith, few-named _ (at-pre .pre) (at-event .event .given .1)))
+    (λ c. let at-event = c .before .before .before .before .before in let at-pre = at-event .before .before .before .before .before .before .before in sym (length-take-le _ _ (omega (arith, few-named _ (at-pre .pre) (at-event .event .given .1)))))
     (λ c κs. search needs)
     (λ c. search needs)
     (λ c κs. search needs)
@@ -44,28 +43,30 @@ on-event-spec =
     (λ c. search needs)
     (λ c κs. search needs)
     (λ c. search needs)
-    (λ c κs. tt)
-    (λ c. c .before .before .before .before .before .before .enter .kept .0)
-    (λ c. c .before .before .before .before .before .before .enter .kept .1 .0)
-    (λ c. c .before .before .before .before .before .before .enter .kept .1 .1 .0)
+    (λ c κs. search needs)
+    (λ c. search needs)
+    (λ c κs. search needs)
+    (λ c. let at-enter = c .before .before .before .before .before .before in at-enter .enter .kept .0)
+    (λ c. let at-enter = c .before .before .before .before .before .before in at-enter .enter .kept .1 .0)
+    (λ c. let at-enter = c .before .before .before .before .before .before in at-enter .enter .kept .1 .1 .0)
     returns
-    (λ c. c .before .before .before .before .before .before .leave .kept .0)
-    (λ c. c .before .before .before .before .before .before .leave .kept .1 .0)
+    (λ c. let at-leave = c .before .before .before .before .before .before in at-leave .leave .kept .0)
+    (λ c. let at-leave = c .before .before .before .before .before .before in at-leave .leave .kept .1 .0)
     (λ c. refl)
     (λ c. refl)
-    (λ c. c .before .before .before .before .before .before .leave .kept .1 .1 .1 .1 .0)
+    (λ c. let at-leave = c .before .before .before .before .before .before in at-leave .leave .kept .1 .1 .1 .1 .0)
     returns-2
-    (λ c. c .before .before .before .before .before .before .before .before .before .before .call .kept .0)
-    (λ c. c .before .before .before .before .before .before .before .before .before .before .call .kept .1 .0)
-    (λ c. c .before .before .before .before .before .before .before .before .before .before .call .kept .1 .1 .0)
-    (λ c. c .before .before .before .before .before .before .before .before .before .before .call .kept .1 .1 .1 .0)
-    (λ c. c .before .before .before .before .before .before .before .before .before .before .call .kept .1 .1 .1 .1 .0)
+    (λ c. let at-call = c .before .before .before .before .before .before .before .before .before .before in at-call .call .kept .0)
+    (λ c. let at-call = c .before .before .before .before .before .before .before .before .before .before in at-call .call .kept .1 .0)
+    (λ c. let at-call = c .before .before .before .before .before .before .before .before .before .before in at-call .call .kept .1 .1 .0)
+    (λ c. let at-call = c .before .before .before .before .before .before .before .before .before .before in at-call .call .kept .1 .1 .1 .0)
+    (λ c. let at-call = c .before .before .before .before .before .before .before .before .before .before in at-call .call .kept .1 .1 .1 .1 .0)
     returns-3
-    (λ c. c .before .before .before .before .before .before .before .before .before .before .give .kept .0)
-    (λ c. c .before .before .before .before .before .before .before .before .before .before .give .kept .1 .0)
-    (λ c. c .before .before .before .before .before .before .before .before .before .before .give .kept .1 .1 .0)
-    (λ c. c .before .before .before .before .before .before .before .before .before .before .give .kept .1 .1 .1 .0)
-    (λ c. c .before .before .before .before .before .before .before .before .before .before .give .kept .1 .1 .1 .1 .0)
+    (λ c. let at-returns = c .before .before .before .before .before .before .before .before .before .before in at-returns .returns .kept .0)
+    (λ c. let at-returns = c .before .before .before .before .before .before .before .before .before .before in at-returns .returns .kept .1 .0)
+    (λ c. let at-returns = c .before .before .before .before .before .before .before .before .before .before in at-returns .returns .kept .1 .1 .0)
+    (λ c. let at-returns = c .before .before .before .before .before .before .before .before .before .before in at-returns .returns .kept .1 .1 .1 .0)
+    (λ c. let at-returns = c .before .before .before .before .before .before .before .before .before .before in at-returns .returns .kept .1 .1 .1 .1 .0)
     returns-4
     (λ c. refl)
     (λ c. refl)

@@ -1,5 +1,5 @@
 -- `judge::refused_by_book` meets its contract. Assumes nothing.
-use Rattle.judge.proofs.Dispatch.{unfit-told, full-told, fit-told}
+use Rattle.judge.proofs.ByBook.{unfit-told, full-told, fit-told}
 use mathlib.Core.Path.{refl}
 use borrow.Author.Needs.{needs}
 use Rattle.judge.proofs.refused_by_book.Statement.{statement}

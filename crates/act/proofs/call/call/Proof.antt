@@ -1,5 +1,5 @@
 -- `act::call::call` meets its contract. Assumes nothing.
-use Rattle.act.proofs.Calling.{called}
+use Rattle.act.proofs.Calling.{tables-called}
 use borrow.Author.Needs.{needs}
 use Rattle.act.proofs.call.call.Statement.{statement}
 use Rattle.act.proofs.call.call.Tie as tie
@@ -16,4 +16,4 @@ call-spec =
     (λ c. search needs)
     (λ c. search needs)
     (λ c. search needs)
-    (λ c. called _ _ _ _ _ _ _ _ _ _ _ _ _ _ (c .before .before .before .before .before .before .before .before .before .before .before .before .before .before .before .end-references .ensures) (c .before .before .before .before .before .before .before .before .release .ensures) (c .before .before .write-book .ensures)))
+    (λ c. let at-write-book = c .before .before in let at-release = at-write-book .before .before .before .before .before .before in let at-end-references = at-release .before .before .before .before .before .before .before in tables-called _ _ _ _ _ _ _ _ _ _ _ _ _ _ _ _ (at-end-references .end-references .ensures) (at-release .release .ensures) (at-write-book .write-book .ensures)))

@@ -10,9 +10,7 @@ delete-spec =
     (tie.spec
     (λ c κs. search needs)
     (λ c κs. search needs)
-    (λ c κs. search needs)
-    (λ c κs. search needs)
     (λ c. search needs)
     (λ c. search needs)
-    (λ c. handle-ended _ _ _ _ _ (c .before .before .before .before .before .before .before .before .before .before .before .before .is-delete .ensures) _ _ _ (c .before .before .before .before .before .before .before .before .before .before .before .if1 .taken) (c .before .before .before .before .before .before .before .before .delete-owner .ensures) (c .before .before .before .before .before .before .before .find .ensures) (c .before .before .before .before .end .ensures))
+    (λ c. let at-end = c .before .before .before .before in let at-if1 = at-end .before .before .before in let at-is-delete = at-if1 .before in handle-ended _ _ _ _ _ (at-is-delete .is-delete .ensures) _ (at-if1 .if1 .taken) (at-end .end .ensures))
     (λ c. no-handle-ended _ _ _ _ _ (c .before .is-delete .ensures) (c .if1 .left)))

@@ -6,9 +6,10 @@ use Rattle.act.proofs.call.end_references.Tie as tie
 
 pub end-references-spec : {M : Type 1} → statement M
 end-references-spec =
-    tie.close (tie.spec
+    tie.close
+    (tie.spec
     (λ c κs. search needs)
     (λ c κs. search needs)
     (λ c. search needs)
     (λ c. search needs)
-    (λ c. references-called _ _ _ _ _ _ _ (c .before .before .before .before .before .before .before .before .before .before .before .delete .ensures) (c .before .before .before .before .end-top .ensures)))
+    (λ c. let at-end-top = c .before .before .before .before in let at-delete = at-end-top .before .before .before .before .before .before .before in references-called _ _ _ _ _ _ _ _ (at-delete .delete .ensures) (at-end-top .end-top .ensures)))

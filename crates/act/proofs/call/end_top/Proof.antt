@@ -13,5 +13,5 @@ end-top-spec =
     (λ c κs. search needs)
     (λ c. search needs)
     (λ c. search needs)
-    (λ c. frame-ended _ _ _ _ _ (c .before .before .before .before .before .before .before .before .before .pops .ensures) _ _ (c .before .before .before .before .before .before .before .before .if1 .taken) (c .before .before .before .before .before .frames-of .ensures .0) (c .before .before .before .before .end-frames .ensures))
+    (λ c. let at-end-frames = c .before .before .before .before in let at-frames-of = at-end-frames .before in let at-if1 = at-frames-of .before .before .before in let at-pops = at-if1 .before in frame-ended _ _ _ _ _ (at-pops .pops .ensures) _ _ (at-if1 .if1 .taken) (at-frames-of .frames-of .ensures .0) (at-end-frames .end-frames .ensures))
     (λ c. no-frame-ended _ _ _ _ _ (c .before .pops .ensures) (c .if1 .left)))

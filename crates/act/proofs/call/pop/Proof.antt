@@ -8,5 +8,5 @@ pub pop-spec : {M : Type 1} → statement M
 pop-spec = tie.close (tie.spec
     (λ c κs. search needs)
     (λ c. search needs)
-    (λ c. frame-gone _ _ _ _ (c .before .before .before .before .if1 .taken) (c .before .before .pop-frame .ensures))
+    (λ c. let at-pop-frame = c .before .before in let at-if1 = at-pop-frame .before .before in frame-gone _ _ _ _ (at-if1 .if1 .taken) (at-pop-frame .pop-frame .ensures))
     (λ c. frame-stays _ _ _ (c .if1 .left)))

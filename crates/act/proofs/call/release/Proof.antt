@@ -10,10 +10,7 @@ release-spec =
     (tie.spec
     (λ c κs. search needs)
     (λ c κs. search needs)
-    (λ c κs. search needs)
-    (λ c κs. search needs)
-    (λ c κs. search needs)
     (λ c. search needs)
     (λ c. search needs)
-    (λ c. buffer-ended _ _ _ _ _ (c .before .before .before .before .before .before .before .before .before .before .before .before .before .is-release .ensures) _ _ _ _ (c .before .before .before .before .before .before .before .before .before .before .before .before .if1 .taken) (c .before .before .before .before .before .before .before .before .before .before .before .family .ensures) (c .before .before .before .before .before .before .before .before .pin-owner .ensures) (c .before .before .before .before .before .before .before .find .ensures) (c .before .before .before .before .end .ensures))
-    (λ c. no-buffer-ended _ _ _ _ _ (c .before .is-release .ensures) (c .if1 .left)))
+    (λ c. let at-end = c .before .before .before .before in let at-if1 = at-end .before .before .before in let at-is-buffer-place = at-if1 .before in buffer-ended _ _ _ _ (at-is-buffer-place .is-buffer-place .ensures) _ (at-if1 .if1 .taken) (at-end .end .ensures))
+    (λ c. no-buffer-ended _ _ _ _ (c .before .is-buffer-place .ensures) (c .if1 .left)))

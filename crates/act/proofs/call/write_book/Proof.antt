@@ -9,4 +9,4 @@ write-book-spec = tie.close (tie.spec
     (λ c κs. search needs)
     (λ c κs. search needs)
     (λ c. search needs)
-    (λ c. book-called _ _ _ _ _ (c .before .before .before .before .before .before .pop .ensures) (c .before .before .count-line .ensures)))
+    (λ c. let at-count-line = c .before .before in let at-pop = at-count-line .before .before .before .before in book-called _ _ _ _ _ (at-pop .pop .ensures) (at-count-line .count-line .ensures)))

@@ -11,6 +11,6 @@ keep-env-spec =
     (λ c κs. search needs)
     (λ c κs. search needs)
     (λ c. search needs)
-    (λ c. env-new _ _ _ _ _ (c .before .before .before .before .before .env-of .ensures) (c .before .before .before .before .if1 .taken) (c .before .before .set-env .ensures))
+    (λ c. let at-set-env = c .before .before in let at-if1 = at-set-env .before .before in let at-env-of = at-if1 .before in env-new _ _ _ _ _ (at-env-of .env-of .ensures) (at-if1 .if1 .taken) (at-set-env .set-env .ensures))
     (λ c. search needs)
     (λ c. env-old _ _ _ _ (c .before .env-of .ensures) (c .if1 .left)))

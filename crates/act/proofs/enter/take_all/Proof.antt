@@ -27,7 +27,7 @@ take-all-spec =
     (λ c κs. search needs)
     (λ c. omega arith)
     (λ c. omega arith)
-    (λ c. (omega arith, c .before .before .before .before .take .kept .0 ∙ c .before .before .before .before .before .before .before .before .before .loop .inv .1, c .before .before .before .before .take .kept .1 .0 ∙ c .before .before .before .before .before .before .before .before .before .loop .inv .2, rest-next _ _ _ _ _ _ _ (c .before .before .before .before .before .before .before .before .loop-test .taken) (c .before .before .before .before .before .before .before .before .before .loop .inv .3) (c .before .before .before .before .take .ensures .1)))
+    (λ c. let at-take = c .before .before .before .before in let at-loop-test = at-take .before .before .before .before in let at-loop = at-loop-test .before in (omega arith, at-take .take .kept .0 ∙ at-loop .loop .inv .1, at-take .take .kept .1 .0 ∙ at-loop .loop .inv .2, rest-next _ _ _ _ _ _ _ (at-loop-test .loop-test .taken) (at-loop .loop .inv .3) (at-take .take .ensures .1)))
     (λ c. c .before .loop .inv .1)
     (λ c. c .before .loop .inv .2)
     (λ c. rest-last _ _ _ _ _ _ (c .loop-test .left) (c .before .loop .inv .3)))

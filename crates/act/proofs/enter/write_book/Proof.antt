@@ -13,4 +13,4 @@ write-book-spec =
     (λ c κs. search needs)
     (λ c κs. search needs)
     (λ c. search needs)
-    (λ c. book-entered _ _ _ _ _ _ _ (c .before .before .before .before .before .before .before .before .before .before .before .before .before .before .push-frame .ensures) (c .before .before .before .before .before .before .before .before .before .before .keep-env .ensures) (c .before .before .before .before .before .before .set-pending .ensures) (c .before .before .count-line .ensures)))
+    (λ c. let at-count-line = c .before .before in let at-set-pending = at-count-line .before .before .before .before in let at-keep-env = at-set-pending .before .before .before .before in let at-push-frame = at-keep-env .before .before .before .before in book-entered _ _ _ _ _ _ _ (at-push-frame .push-frame .ensures) (at-keep-env .keep-env .ensures) (at-set-pending .set-pending .ensures) (at-count-line .count-line .ensures)))

@@ -10,4 +10,4 @@ write-book-spec =
     (λ c κs. search needs)
     (λ c κs. search needs)
     (λ c. search needs)
-    (λ c. book-left _ _ _ _ (c .before .before .before .before .before .before .leave-native .ensures) (c .before .before .count-line .ensures)))
+    (λ c. let at-count-line = c .before .before in let at-leave-native = at-count-line .before .before .before .before in book-left _ _ _ _ (at-leave-native .leave-native .ensures) (at-count-line .count-line .ensures)))

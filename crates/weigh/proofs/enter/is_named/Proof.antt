@@ -5,7 +5,7 @@ use native.Mathlib.Omega.{arith}
 use lib.Dec.{eqb}
 use lib.ListN.{length, drop}
 use Rattle.words.specs.Lists.{any}
-use Rattle.weigh.proofs.EnterLaws.{any-hit, any-next, any-end}
+use Rattle.sight.proofs.AnyLaws.{any-hit, any-next, any-end}
 use borrow.Author.Needs.{needs}
 use borrow.Author.Tests.{eq-eqb, ne-eqb}
 use Rattle.weigh.proofs.enter.is_named.Statement.{statement}

@@ -1,12 +1,12 @@
 -- `weigh::places::buffer_rule` meets its contract. Assumes nothing.
 use Rattle.weigh.proofs.PlaceLaws.{null-buffer, buffer-out, buffer-not-out}
-use borrow.Author.Needs.{needs}
 use Rattle.weigh.proofs.places.buffer_rule.Statement.{statement}
 use Rattle.weigh.proofs.places.buffer_rule.Tie as tie
 
 pub buffer-rule-spec : {M : Type 1} → statement M
-buffer-rule-spec = tie.close (tie.spec
-    (λ c. null-buffer _ _ _ _ (c .if1 .taken))
-    (λ c κs. search needs)
-    (λ c. buffer-out _ _ _ _ _ (c .before .before .if1 .left) (c .before .is-outstanding .ensures) (c .if2 .taken))
-    (λ c. buffer-not-out _ _ _ _ _ (c .before .before .if1 .left) (c .before .is-outstanding .ensures) (c .if2 .left)))
+buffer-rule-spec =
+    tie.close
+    (tie.spec
+    (λ c. null-buffer _ _ (c .if1 .taken))
+    (λ c. buffer-out _ _ (c .before .if1 .left) (c .if2 .taken))
+    (λ c. buffer-not-out _ _ (c .before .if1 .left) (c .if2 .left)))

@@ -1,0 +1,158 @@
+-- What the code answers to a line of each event, and leaves, is its outcome. Assumes nothing.
+use Prim.Native.Nat.{ℕ}
+use mathlib.Core.Path.{_≡_, refl, sym, ap, ap₂, _∙_}
+use mathlib.Core.Bool.{Bool, true, false, not}
+use mathlib.Core.List.{List, []}
+use mathlib.Core.Option.{Option}
+use native.Mathlib.Omega.{arith}
+use borrow.Author.Tests.{not-true, not-false}
+use lib.IntN.{ℤ}
+use Rattle.words.specs.Choice.{if_then_else_}
+use Rattle.facts.specs.declared.Result.{Result}
+use Rattle.lines.specs.Line.{N, X, C, R, Z, is-zero}
+use Rattle.lines.specs.Events.{result-in-line}
+use Rattle.history.specs.Items.{Item, asked}
+use Rattle.book.specs.Threads.{closed-in}
+use Rattle.answers.specs.declared.Answer.{Answer}
+use Rattle.answers.specs.Answer.{refused-with, answer-of}
+use Rattle.answers.specs.Listed.{listed}
+use Rattle.answers.proofs.OfLine.{enter-listed}
+use Rattle.tables.specs.Tables.{Tables, seen-in}
+use Rattle.tables.specs.Weighing.{refusal-in}
+use Rattle.tables.specs.Acting.{acted}
+use Rattle.sight.specs.declared.enter.EnterSight.{EnterSight}
+use Rattle.sight.specs.declared.leave.LeaveSight.{LeaveSight}
+use Rattle.sight.specs.declared.call.CallSight.{CallSight}
+use Rattle.sight.specs.declared.returns.ReturnSight.{ReturnSight}
+use Rattle.sight.specs.declared.end.EndSight.{EndSight}
+use Rattle.sight.specs.Sights.{enter-sight, leave-sight, call-sight, end-sight}
+use Rattle.sight.specs.Returns.{return-sight}
+use Rattle.sight.proofs.RowLaws.{deleted-row, released-row, place-told}
+use Rattle.sight.proofs.ReturnLaws.{handle-row, buffer-row, kind-told}
+use Rattle.weigh.specs.Enter.{enter-turn, enter-refusal}
+use Rattle.weigh.specs.Leave.{leave-refusal, judged-leave}
+use Rattle.weigh.specs.Call.{call-refusal, judged-call}
+use Rattle.weigh.specs.Returns.{return-turn, return-refusal, found-return}
+use Rattle.weigh.specs.End.{found-end}
+use Rattle.weigh.proofs.Refused.{enter-told, leave-told, call-told, end-told}
+use Rattle.weigh.proofs.ReturnRefused.{return-told}
+use Rattle.weigh.proofs.Found.{leave-found, call-found, return-found, end-found}
+use Rattle.act.specs.Calls.{called}
+use Rattle.act.specs.Returns.{returned}
+use Rattle.act.proofs.Calling.{called-is-acted}
+use Rattle.act.proofs.Returning.{returned-is-acted}
+use Rattle.events.specs.Outcome.{leaves, line-outcome}
+use Rattle.events.proofs.Outcomes.{stays, goes}
+
+-- a line that is not in turn is given 4, another what its sight says
+in-turn : (turn : Bool) (k n : ℕ) → turn ≡ true → k ≡ n → k ≡ (if turn then n else 4)
+in-turn turn k n y e = rw y e
+
+out-of-turn : (turn : Bool) (n : ℕ) → turn ≡ false → 4 ≡ (if turn then n else 4)
+out-of-turn turn n y = rw y refl
+
+-- ---- N
+
+module _ (T : Tables) (top : Option Item) (many t env : ℕ) (hs : List ℕ) (line : ℕ) (closed x : Bool) (ec : closed ≡ closed-in (T .book)) (ex : x ≡ enter-turn closed top) where
+  enter-is : (b : Bool) → x ≡ b → enter-turn (closed-in (T .book)) top ≡ b
+  enter-is b q = sym (ex ∙ ap (λ (o : Bool). enter-turn o top) ec) ∙ q
+
+  pub enter-out : (y : Answer) → not x ≡ true → y ≡ refused-with 4 → leaves y T ≡ line-outcome line (N t env hs) top many T
+  enter-out y n ey =
+      stays line (N t env hs) top many T y 4
+      (out-of-turn (enter-turn (closed-in (T .book)) top) _ (enter-is false (not-true x n)) ∙ sym (enter-told T top many t env hs))
+      (λ z. omega (arith, z))
+      ey
+
+  module _ (v : EnterSight) (k : ℕ) (n : not x ≡ false) (ev : v ≡ enter-sight T t env hs) (ek : k ≡ enter-refusal many env hs v) where
+    enter-number : k ≡ refusal-in (N t env hs) top many T
+    enter-number =
+        in-turn (enter-turn (closed-in (T .book)) top) k _ (enter-is true (not-false x n)) (ek ∙ ap (enter-refusal many env hs) ev)
+        ∙ sym (enter-told T top many t env hs)
+
+    pub enter-stays : (y : Answer) → (k ≡ 0 → ⊥) → y ≡ refused-with k → leaves y T ≡ line-outcome line (N t env hs) top many T
+    enter-stays y z ey = stays line (N t env hs) top many T y k enter-number z ey
+
+    pub enter-goes : (y : Answer) (S : Tables) → k ≡ 0 → y ≡ answer-of [] → ((i : ℕ) → S ≡ acted (N t env hs) i T)
+        → leaves y S ≡ line-outcome line (N t env hs) top many T
+    enter-goes y S z ey es =
+        goes line (N t env hs) top many T y [] S (sym enter-number ∙ z) ey (sym (enter-listed line t env hs (seen-in T))) (es (asked top))
+
+-- ---- X
+
+module _ (T : Tables) (top : Option Item) (many t r line : ℕ) (closed : Bool) (k : ℕ) (ec : closed ≡ closed-in (T .book)) (ek : k ≡ leave-refusal closed top) where
+  leave-number : k ≡ refusal-in (X t r) top many T
+  leave-number = ek ∙ ap (λ (o : Bool). leave-refusal o top) ec ∙ sym (leave-told T top many t r)
+
+  pub leave-stays : (y : Answer) → (k ≡ 0 → ⊥) → y ≡ refused-with k → leaves y T ≡ line-outcome line (X t r) top many T
+  leave-stays y z ey = stays line (X t r) top many T y k leave-number z ey
+
+  pub leave-goes : (v : LeaveSight) (y : Answer) (S : Tables) → k ≡ 0 → v ≡ leave-sight T t r → ((i : ℕ) → S ≡ acted (X t r) i T)
+      → y ≡ answer-of (listed (judged-leave line r v)) → leaves y S ≡ line-outcome line (X t r) top many T
+  leave-goes v y S z ev es ey =
+      goes line (X t r) top many T y _ S (sym leave-number ∙ z) ey
+      (ap (λ (u : LeaveSight). listed (judged-leave line r u)) ev ∙ leave-found T line t r)
+      (es (asked top))
+
+-- ---- C
+
+module _ (T : Tables) (top : Option Item) (many t env f a b c : ℕ) (n : ℤ) (line : ℕ) (closed : Bool) (k : ℕ) (ec : closed ≡ closed-in (T .book))
+    (ek : k ≡ call-refusal closed top many) where
+  call-number : k ≡ refusal-in (C t env f a b c n) top many T
+  call-number = ek ∙ ap (λ (o : Bool). call-refusal o top many) ec ∙ sym (call-told T top many t env f a b c n)
+
+  pub call-stays : (y : Answer) → (k ≡ 0 → ⊥) → y ≡ refused-with k → leaves y T ≡ line-outcome line (C t env f a b c n) top many T
+  call-stays y z ey = stays line (C t env f a b c n) top many T y k call-number z ey
+
+  pub call-goes : (v : CallSight) (y : Answer) (S : Tables) → k ≡ 0 → v ≡ call-sight T t f a b c → S ≡ called T t f a (v .a .row) (v .pb) (v .b .row)
+      → y ≡ answer-of (listed (judged-call line env f a b c v)) → leaves y S ≡ line-outcome line (C t env f a b c n) top many T
+  call-goes v y S z ev es ey =
+      goes line (C t env f a b c n) top many T y _ S (sym call-number ∙ z) ey
+      (ap (λ (u : CallSight). listed (judged-call line env f a b c u)) ev ∙ call-found T line t env f a b c n)
+      (es
+      ∙ ap (λ (u : CallSight). called T t f a (u .a .row) (u .pb) (u .b .row)) ev
+      ∙ called-is-acted T t env f a b c n (asked top) _ _ _ (deleted-row T t f a b c) (place-told T t f a b c) (released-row T t f a b c))
+
+-- ---- R
+
+module _ (T : Tables) (top : Option Item) (many t f h p : ℕ) (s : ℤ) (line : ℕ) (closed x : Bool) (ec : closed ≡ closed-in (T .book)) (ex : x ≡ return-turn closed f top) where
+  return-is : (b : Bool) → x ≡ b → return-turn (closed-in (T .book)) f top ≡ b
+  return-is b q = sym (ex ∙ ap (λ (o : Bool). return-turn o f top) ec) ∙ q
+
+  pub return-out : (y : Answer) → not x ≡ true → y ≡ refused-with 4 → leaves y T ≡ line-outcome line (R t f (result-in-line f h s) p) top many T
+  return-out y n ey =
+      stays line (R t f (result-in-line f h s) p) top many T y 4
+      (out-of-turn (return-turn (closed-in (T .book)) f top) _ (return-is false (not-true x n)) ∙ sym (return-told T top many t f h p s))
+      (λ z. omega (arith, z))
+      ey
+
+  module _ (v : ReturnSight) (acts : Bool) (k : ℕ) (n : not x ≡ false) (ev : v ≡ return-sight T t f h) (ea : acts ≡ is-zero s) (ek : k ≡ return-refusal f acts v) where
+    return-number : k ≡ refusal-in (R t f (result-in-line f h s) p) top many T
+    return-number =
+        in-turn (return-turn (closed-in (T .book)) f top) k _ (return-is true (not-false x n)) (ek ∙ ap₂ (return-refusal f) ea ev)
+        ∙ sym (return-told T top many t f h p s)
+
+    pub return-stays : (y : Answer) → (k ≡ 0 → ⊥) → y ≡ refused-with k → leaves y T ≡ line-outcome line (R t f (result-in-line f h s) p) top many T
+    return-stays y z ey = stays line (R t f (result-in-line f h s) p) top many T y k return-number z ey
+
+    pub return-goes : (y : Answer) (S : Tables) (z : ℤ) (i : ℕ) → k ≡ 0 → z ≡ s → i ≡ asked top → S ≡ returned T (v .kind) (v .made .row) t f h z p i
+        → y ≡ answer-of (found-return line h v) → leaves y S ≡ line-outcome line (R t f (result-in-line f h s) p) top many T
+    return-goes y S z i q ez ei es ey =
+        goes line (R t f (result-in-line f h s) p) top many T y _ S (sym return-number ∙ q) ey
+        (ap (found-return line h) ev ∙ return-found T line t f h p s)
+        (es
+        ∙ ap₂ (λ (u : ReturnSight) (w : ℤ). returned T (u .kind) (u .made .row) t f h w p i) ev ez
+        ∙ ap₂ (λ (kind : Result) (j : ℕ). returned T kind (return-sight T t f h .made .row) t f h s p j) (kind-told T t f h) ei
+        ∙ returned-is-acted T (return-sight T t f h .made .row) t f h s p (asked top) (handle-row T t f h) (buffer-row T t f h))
+
+-- ---- Z
+
+module _ (T : Tables) (line : ℕ) (closed : Bool) (ec : closed ≡ closed-in (T .book)) (top : Option Item) (many : ℕ) (y : Answer) where
+  pub end-stays : closed ≡ true → y ≡ refused-with 4 → leaves y T ≡ line-outcome line Z top many T
+  end-stays q ey =
+      stays line Z top many T y 4 (ap (λ (o : Bool). if o then 4 else 0) (sym q ∙ ec) ∙ sym (end-told T top many)) (λ z. omega (arith, z)) ey
+
+  pub end-goes : (v : EndSight) (S : Tables) → closed ≡ false → v ≡ end-sight T → ((i : ℕ) → S ≡ acted Z i T) → y ≡ answer-of (found-end line v)
+      → leaves y S ≡ line-outcome line Z top many T
+  end-goes v S q ev es ey =
+      goes line Z top many T y _ S (end-told T top many ∙ ap (λ (o : Bool). if o then 4 else 0) (sym ec ∙ q)) ey (ap (found-end line) ev ∙ end-found T line) (es (asked top))

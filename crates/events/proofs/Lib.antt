@@ -1,0 +1,3 @@
+pub mod Signs
+pub mod Outcomes
+pub mod Following

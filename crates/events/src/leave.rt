@@ -1,0 +1,34 @@
+// X: weighed; where it is accepted, what it does.
+use answers::Answer;
+use book::Top;
+use rows::Number;
+use words::Handle;
+ghost use mathlib.Core.Path.{_≡_};
+ghost use Prim.Native.Nat.{ℕ};
+ghost use Rattle.lines.specs.Line.{X};
+ghost use Rattle.book.specs.Threads.{top-is};
+ghost use Rattle.tables.specs.Tables.{tables};
+ghost use Rattle.events.specs.Outcome.{leaves, line-outcome};
+
+// Line number `line`; `top` is on top of the thread's open items.
+pub fn leave(
+    rows: &mut [Number],
+    marks: &mut [u64],
+    pins: &[Number],
+    pinmarks: &[u64],
+    book: &mut [u64],
+    top: Top,
+    line: u32,
+    t: u32,
+    result: Handle,
+) -> Answer
+    ensures { λ r. ⌜ ((many : ℕ) → leaves r (tables (now (rows .exit)) (now (marks .exit)) (now (pins .entry)) (now (pinmarks .entry)) (now (book .exit))) ≡ line-outcome line (X t result) (top-is top) many (tables (now (rows .entry)) (now (marks .entry)) (now (pins .entry)) (now (pinmarks .entry)) (now (book .entry)))) ⌝ }
+{
+    let k = weigh::leave::refusal(book::is_closed(book), top);
+    if k != 0 {
+        return answers::refused(k);
+    }
+    let seen = sight::leave::leave(rows, marks, pins, pinmarks, t, result);
+    act::leave::leave(rows, marks, book, t);
+    weigh::leave::findings(seen, line, result)
+}

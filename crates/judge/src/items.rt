@@ -1,0 +1,48 @@
+// The open items of a line's thread: whose they are, and how an accepted line moves them.
+use book::NO_FUNCTION;
+use lines::Event;
+ghost use mathlib.Core.Path.{_≡_};
+ghost use mathlib.Core.List.{List};
+ghost use Prim.Native.Nat.{ℕ};
+ghost use Rattle.lines.specs.Reading.{above-zero};
+ghost use Rattle.judge.specs.Event.{read-as, thread-named, items-after};
+
+// The thread that an event names; 0 for none.
+pub(crate) fn thread_of(event: Event) -> u32
+    ensures { λ r. ⌜ r ≡ thread-named event ⌝ }
+{
+    match event {
+        Event::Enter { thread, .. } => thread,
+        Event::Leave { thread, .. } => thread,
+        Event::Call { thread, .. } => thread,
+        Event::Return { thread, .. } => thread,
+        Event::End => 0,
+        Event::Refused(_) => 0,
+    }
+}
+
+// Negative capacity counts as zero.
+fn above_zero(n: i32) -> u32
+    ensures { λ r. ⌜ r ≡ above-zero n ⌝ }
+{
+    if n < 0 { 0 } else { n as u32 }
+}
+
+// N opens a native and C a call; X and R close what is on top.
+pub(crate) fn move_item(book: &mut [u64], event: Event)
+    ensures { λ _. ⌜ ((hs : List ℕ) → now (book .exit) ≡ items-after (read-as event hs) (now (book .entry))) ⌝ }
+{
+    match event {
+        Event::Enter { thread, .. } => book::push_item(book, thread, NO_FUNCTION, 0),
+        Event::Leave { thread, .. } => book::pop_item(book, thread),
+        Event::Call {
+            thread,
+            function,
+            n,
+            ..
+        } => book::push_item(book, thread, function, above_zero(n)),
+        Event::Return { thread, .. } => book::pop_item(book, thread),
+        Event::End => {}
+        Event::Refused(_) => {}
+    }
+}

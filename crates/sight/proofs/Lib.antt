@@ -1,0 +1,5 @@
+pub mod AnyLaws
+pub mod SpotLaws
+pub mod RowLaws
+pub mod SightLaws
+pub mod ReturnLaws

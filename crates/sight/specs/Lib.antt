@@ -1,0 +1,3 @@
+pub mod Spots
+pub mod Returns
+pub mod Sights

@@ -1,0 +1,64 @@
+// C: what its findings look at, and the rows that it may end.
+use crate::seen::in_critical;
+use crate::spot::Spot;
+use crate::spot::place;
+use facts::Place;
+use rows::Number;
+use words::Handle;
+ghost use mathlib.Core.Path.{_≡_};
+ghost use Rattle.tables.specs.Tables.{tables};
+ghost use Rattle.sight.specs.Sights.{call-sight};
+
+pub struct CallSight {
+    pub env: u64,
+    pub pending: u64,
+    pub monitors: u64,
+    pub pushed: bool,
+    pub critical: bool,
+    pub pa: Place,
+    pub pb: Place,
+    pub pc: Place,
+    pub a: Spot,
+    pub b: Spot,
+    pub c: Spot,
+}
+
+pub fn call(
+    rows: &[Number],
+    marks: &[u64],
+    pins: &[Number],
+    pinmarks: &[u64],
+    book: &[u64],
+    t: u32,
+    f: u32,
+    a: Handle,
+    b: Handle,
+    c: Handle,
+) -> CallSight
+    ensures { λ r. ⌜ r ≡ call-sight (tables (now (rows .entry)) (now (marks .entry)) (now (pins .entry)) (now (pinmarks .entry)) (now (book .entry))) t f a b c ⌝ }
+{
+    let env = book::env_of(book, t);
+    let pending = book::pending_of(book, t);
+    let monitors = book::monitors_of(book, t);
+    let pushed = book::top_pushed(book, t);
+    let critical = in_critical(pins, pinmarks, t);
+    let pa = facts::place_a(f);
+    let pb = facts::place_b(f);
+    let pc = facts::place_c(f);
+    let at_a = place(rows, marks, pins, pinmarks, pa, t, f, a);
+    let at_b = place(rows, marks, pins, pinmarks, pb, t, f, b);
+    let at_c = place(rows, marks, pins, pinmarks, pc, t, f, c);
+    CallSight {
+        env,
+        pending,
+        monitors,
+        pushed,
+        critical,
+        pa,
+        pb,
+        pc,
+        a: at_a,
+        b: at_b,
+        c: at_c,
+    }
+}

@@ -1,0 +1,8 @@
+// What a line is told of the lent tables: looked up once, handed on by value.
+pub mod call;
+pub mod end;
+pub mod enter;
+pub mod leave;
+pub mod returns;
+mod seen;
+pub mod spot;

@@ -1,0 +1,44 @@
+-- That the promises of a line of each event are tight. Assumes nothing.
+use mathlib.Core.List.{[]}
+use mathlib.Core.Option.{none}
+use lib.IntN.{pos}
+use Rattle.events.proofs as events
+use Rattle.events.specs.Outcome.{Outcome}
+use Rattle.tight.specs.Tight.{given, Tight}
+use Rattle.tight.proofs.Shapes.{by, with-table, with-tables}
+
+pub call-tight : Tight events.call.call.ended events.call.call.Reads.Asked events.call.call.Reads.Learnt
+call-tight κs args = (
+  tt,
+  λ x y p q. by (λ (o : Outcome). given (o .answer) (with-tables (o .left) (x .left .1 .1 .1 .1 .1))) (p (pos 0)) (q (pos 0)),
+)
+
+pub end-tight : Tight events.end.end.ended events.end.end.Reads.Asked events.end.end.Reads.Learnt
+end-tight κs args = (
+  tt,
+  λ x y p q.
+      by (λ (o : Outcome). given (o .answer) (x .left .0, (x .left .1 .0, (x .left .1 .1 .0, (x .left .1 .1 .1 .0, (o .left .book, x .left .1 .1 .1 .1 .1))))))
+      (p none 0)
+      (q none 0),
+)
+
+pub enter-tight : Tight events.enter.enter.ended events.enter.enter.Reads.Asked events.enter.enter.Reads.Learnt
+enter-tight κs args = (
+  tt,
+  λ x y p q. by (λ (o : Outcome). given (o .answer) (with-table (o .left .references) (o .left .book, x .left .1 .1 .1))) (p [] [] 0) (q [] [] 0),
+)
+
+pub leave-tight : Tight events.leave.leave.ended events.leave.leave.Reads.Asked events.leave.leave.Reads.Learnt
+leave-tight κs args = (
+  tt,
+  λ x y p q.
+      by (λ (o : Outcome). given (o .answer) (with-table (o .left .references) (x .left .1 .1 .0, (x .left .1 .1 .1 .0, (o .left .book, x .left .1 .1 .1 .1 .1)))))
+      (p 0)
+      (q 0),
+)
+
+pub returns-tight : Tight events.returns.returns.ended events.returns.returns.Reads.Asked events.returns.returns.Reads.Learnt
+returns-tight κs args = (
+  tt,
+  λ x y p q. by (λ (o : Outcome). given (o .answer) (with-tables (o .left) (x .left .1 .1 .1 .1 .1))) (p 0) (q 0),
+)
