@@ -16,8 +16,7 @@ use Rattle.facts.specs.Named.{PushLocalFrame, EnsureLocalCapacity, MonitorEnter
 use Rattle.facts.specs.declared.Result.{Result}
 use Rattle.facts.specs.Results.{is-buffer-result, is-handle-result, is-local-result}
 use Rattle.facts.specs.declared.Result.the-variants as Result
-use Rattle.lines.specs.Line.{R, is-zero}
-use Rattle.lines.specs.Reading.{above-zero}
+use Rattle.lines.specs.Line.{R, is-zero, above-zero}
 use Rattle.lines.specs.Events.{is-status, gives-status, result-in-line}
 use Rattle.rows.specs.Table.{Table, table, free-row, stored, taken}
 use Rattle.rows.specs.References.{references}

@@ -1,5 +1,5 @@
 -- What is judged of a line lists its findings, rule by rule, and nothing judged lists none.
-use Prim.Native.Nat.{ℕ, suc, _+_}
+use Prim.Native.Nat.{ℕ, suc}
 use mathlib.Core.Path.{_≡_, refl, _∙_}
 use mathlib.Core.Bool.{Bool, true, false, not, _&&_, _||_, false≢true}
 use mathlib.Core.List.{List, [], _++_, append-nil}
@@ -9,8 +9,7 @@ use borrow.Author.Tests.{ne-eqb, eqb-true, not-true}
 use lib.Dec.{eqb}
 use lib.IntN.{ℤ}
 use Rattle.words.specs.Lists.{joined}
-use Rattle.lines.specs.Line.{N, R, Z}
-use Rattle.lines.specs.Reading.{above-zero}
+use Rattle.lines.specs.Line.{N, R, Z, above-zero}
 use Rattle.history.specs.Handles.{global-or-weak}
 use Rattle.history.specs.Acceptance.{everything}
 use Rattle.history.specs.Seen.{Seen}

@@ -12,8 +12,7 @@ use Rattle.numbers.specs.Signed.{is-i32, largest-i32}
 use Rattle.facts.specs.Table.{fact-of, family, is-critical, is-function, first-function, last-function}
 use Rattle.facts.specs.Named.{PushLocalFrame, EnsureLocalCapacity}
 use Rattle.facts.specs.Results.{is-buffer-result}
-use Rattle.lines.specs.Line.{Line, N, X, C, R, Z, is-allowed, is-thread, is-env, is-value, threads, place-allows, capacity-allows, is-zero}
-use Rattle.lines.specs.Reading.{above-zero}
+use Rattle.lines.specs.Line.{Line, N, X, C, R, Z, is-allowed, is-thread, is-env, is-value, threads, place-allows, capacity-allows, is-zero, above-zero}
 use Rattle.history.specs.Past.{History, thread-of, is-of}
 use Rattle.history.specs.Frames.{depth}
 use Rattle.history.specs.Handles.{Alive, makes}

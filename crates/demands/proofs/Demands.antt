@@ -7,6 +7,7 @@ use native.Mathlib.Omega.{arith}
 use lib.ListN.{length}
 use Rattle.lines.specs.Reading.{Read, says, refused, read}
 use Rattle.lines.specs.Line.{Line}
+use Rattle.lines.proofs.Refusals.{refused-by-number}
 use Rattle.history.specs.Past.{History}
 use Rattle.history.specs.Seen.{seen}
 use Rattle.history.specs.Acceptance.{Room}
@@ -17,7 +18,6 @@ use Rattle.history.specs.Refusals.{Given, four, five, six, seven, none}
 use Rattle.history.specs.Verdicts.{Weighs, too-many, not-read, refuses, takes}
 use Rattle.history.specs.declared.Finding.{Finding}
 use Rattle.history.proofs.Replies.{verdict-is, heard-accepted, told-all}
-use Rattle.history.proofs.Reading.{read-number}
 use Rattle.tables.specs.Tables.{Tables}
 use Rattle.tables.specs.Stepping.{Stepped, step-of, start-of}
 use Rattle.demands.specs.Calls.{room-of, Long, after, from-start, heard-by, all-found}
@@ -82,7 +82,7 @@ number-of j k h = cc
 
 weighs-seven : (room : Room) (past : History) (bs : List ℕ) (v : Read) → Weighs room past bs v → v ≡ refused 7 → Out-of-room room past bs
 weighs-seven room past bs _ (too-many l) is = absurd (omega (arith, number-of 1 7 is))
-weighs-seven room past bs _ (not-read k l h) is = absurd (omega (arith, number-of k 7 is, read-number bs k h))
+weighs-seven room past bs _ (not-read k l h) is = absurd (omega (arith, number-of k 7 is, refused-by-number bs k h))
 weighs-seven room past bs _ (refuses e k l h d g) is = given-seven room past bs e k h l g (number-of k 7 is)
 weighs-seven room past bs _ (takes e l h g) is = let z : _≡_ {A = ℕ} 0 1 = cc in absurd (omega arith)
 

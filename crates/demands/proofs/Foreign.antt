@@ -11,6 +11,7 @@ use lib.ListN.{length}
 use Rattle.words.specs.Choice.{if_then_else_}
 use Rattle.lines.specs.Line.{Line}
 use Rattle.lines.specs.Reading.{Read, says, refused, read}
+use Rattle.lines.proofs.Refusals.{refused-by-number}
 use Rattle.rows.specs.Table.{cleared as rows-cleared}
 use Rattle.history.specs.Past.{thread-of}
 use Rattle.history.specs.Items.{Item, top-of, asked}
@@ -18,7 +19,6 @@ use Rattle.history.specs.Acceptance.{in-step, env-right, makes-anew, has-item-r
 use Rattle.history.specs.Findings.{of-line}
 use Rattle.history.specs.Replies.{accepted, not-accepted, most-lines}
 use Rattle.history.specs.declared.Finding.{Finding}
-use Rattle.history.proofs.Reading.{read-number}
 use Rattle.book.specs.Threads.{items-in, lines-in}
 use Rattle.book.specs.Moves.{cleared as book-cleared}
 use Rattle.book.specs.Unfit.{unfit}
@@ -74,7 +74,7 @@ line-sound T e is = go (eqb (refusal-in e (top-of is) (length is) T) 0)
     go false = untouched-sound 8 (refusal-in e (top-of is) (length is) T) T (refusal-number e (top-of is) (length is) T)
 
 read-sound : (T : Tables) (bs : List ℕ) (r : Read) → read bs ≡ r → Sound 8 T (on-read r T)
-read-sound T bs (refused k) is = untouched-sound 8 k T (omega (arith, read-number bs k is))
+read-sound T bs (refused k) is = untouched-sound 8 k T (omega (arith, refused-by-number bs k is))
 read-sound T bs (says e) is = line-sound T e (items-in (T .book) (thread-of e))
 
 -- past the test of the book

@@ -11,8 +11,7 @@ use borrow.Author.Tests.{ne-eqb, ltb-true}
 use Rattle.words.specs.Choice.{if_then_else_}
 use Rattle.words.specs.Lists.{count}
 use Rattle.facts.specs.Named.{PushLocalFrame}
-use Rattle.lines.specs.Line.{Line, N, X, C, R, Z, is-allowed, is-zero, threads}
-use Rattle.lines.specs.Reading.{above-zero}
+use Rattle.lines.specs.Line.{Line, N, X, C, R, Z, is-allowed, is-zero, threads, above-zero}
 use Rattle.history.specs.Past.{History, thread-of, is-of, closed}
 use Rattle.history.specs.Items.{Item, items, items-after, top-of, asked}
 use Rattle.history.specs.Frames.{Frame, pushed, frames, frames-after, depth}

@@ -8,6 +8,7 @@ use lib.ListN.{length}
 use Rattle.words.specs.Choice.{if_then_else_}
 use Rattle.lines.specs.Line.{Line}
 use Rattle.lines.specs.Reading.{Read, says, refused, read}
+use Rattle.lines.proofs.RoundTrip.{read-allowed}
 use Rattle.history.specs.Past.{History, thread-of}
 use Rattle.history.specs.Items.{items, top-of, asked}
 use Rattle.history.specs.Seen.{seen}
@@ -17,7 +18,6 @@ use Rattle.history.specs.Replies.{accepted, not-accepted, most-lines, weighed, 
 use Rattle.history.specs.Accepted.{Accepted, and-line}
 use Rattle.history.specs.Verdicts.{Weighs, takes}
 use Rattle.history.proofs.Replies.{verdict-is, heard-accepted}
-use Rattle.history.proofs.Reading.{read-allowed}
 use Rattle.history.proofs.Refusals.{refusal-is}
 use Rattle.book.specs.Threads.{items-in}
 use Rattle.tables.specs.Tables.{Tables}

@@ -9,8 +9,7 @@ use lib.IntN.{ℤ, pos, negsuc, natAbs}
 use lib.Signed.{ltZ, nonNeg}
 use mir.Syntax.{w32}
 use mir.Val.{Fits, SFits, ofZ}
-use Rattle.lines.specs.Line.{is-zero}
-use Rattle.lines.specs.Reading.{above-zero}
+use Rattle.lines.specs.Line.{is-zero, above-zero}
 use Rattle.act.proofs.Returning.{zero-status, other-status}
 
 pub below-zero : (n : ℤ) {z : ℤ} → z ≡ n → ltZ z (pos 0) ≡ true → 0 ≡ above-zero n

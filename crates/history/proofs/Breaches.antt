@@ -18,8 +18,7 @@ use Rattle.facts.specs.declared.Place.the-variants as Place
 use Rattle.facts.specs.declared.Result.{Result}
 use Rattle.facts.specs.Results.{is-local-result}
 use Rattle.facts.specs.declared.Result.the-variants as Result
-use Rattle.lines.specs.Line.{Line, N, X, C, R, Z}
-use Rattle.lines.specs.Reading.{above-zero}
+use Rattle.lines.specs.Line.{Line, N, X, C, R, Z, above-zero}
 use Rattle.history.specs.Past.{History}
 use Rattle.history.specs.Frames.{frames, top-pushed, depth}
 use Rattle.history.specs.Handles.{living, global-or-weak, alive-in}

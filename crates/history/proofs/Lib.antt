@@ -24,7 +24,6 @@ pub mod Turns
 pub mod Refusals
 pub mod Envs
 pub mod Rooms
-pub mod Reading
 pub mod Replies
 pub mod Report
 pub mod ShutOut

@@ -6,7 +6,8 @@ use mathlib.Core.List.{List, [], _∷_, map}
 use Rattle.words.specs.Text.{bytes}
 use Rattle.facts.specs.Table.{table, fact-of}
 use Rattle.numbers.specs.Decimal.{read-on}
-use Rattle.lines.specs.Reading.{Read, says, refused, fields, numbers, enter-of, leave-of, call-of, return-of, end-of, line-of, of-fields, read}
+use Rattle.lines.specs.Forms.{of-letter}
+use Rattle.lines.specs.Reading.{Read, says, refused, fields, numbers, line-of, of-fields, read}
 use Rattle.history.proofs.Worked.{typed}
 
 infix 80 _gives_
@@ -102,5 +103,5 @@ lines =
     ∷ []
 
 lines-read : map given lines ≡ map expected lines
-unfolding table fact-of read-on fields numbers enter-of leave-of call-of return-of end-of line-of of-fields read
+unfolding table fact-of read-on fields numbers line-of of-letter of-fields read
 lines-read = refl

@@ -14,8 +14,7 @@ use Rattle.words.specs.Lists.{joined, sum}
 use Rattle.facts.specs.Table.{fact-of, table, is-allowed-pending, is-allowed-critical}
 use Rattle.facts.specs.Named.{PopLocalFrame, MonitorExit}
 use Rattle.facts.specs.declared.Place.the-variants as Place
-use Rattle.lines.specs.Line.{Line, N, X, C, R, Z}
-use Rattle.lines.specs.Reading.{above-zero}
+use Rattle.lines.specs.Line.{Line, N, X, C, R, Z, above-zero}
 use Rattle.history.specs.Past.{History}
 use Rattle.history.specs.Frames.{top-pushed}
 use Rattle.history.specs.Handles.{global-or-weak}

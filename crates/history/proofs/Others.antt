@@ -10,8 +10,7 @@ use Rattle.words.specs.Choice.{if_then_else_}
 use Rattle.words.specs.Lists.{count, but-first}
 use Rattle.facts.specs.Table.{fact-of, family, is-critical}
 use Rattle.facts.specs.Results.{is-buffer-result, is-buffer-place}
-use Rattle.lines.specs.Line.{Line, N, X, C, R, Z}
-use Rattle.lines.specs.Reading.{above-zero}
+use Rattle.lines.specs.Line.{Line, N, X, C, R, Z, above-zero}
 use Rattle.history.specs.Past.{History, is-of}
 use Rattle.history.specs.Handles.{Alive, local, shared, living}
 use Rattle.history.specs.Buffers.{Pin, ordinary, critical, pin, same-pin, gets, releases, outstanding}

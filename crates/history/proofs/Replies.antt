@@ -10,6 +10,8 @@ use lib.ListN.{length}
 use borrow.Author.Tests.{eqb-true, eqb-false, eq-eqb, ne-eqb, leb-true, leb-false, le-leb, lt-leb}
 use Rattle.lines.specs.Line.{Line, Z}
 use Rattle.lines.specs.Reading.{Read, says, refused, read}
+use Rattle.lines.proofs.RoundTrip.{read-allowed}
+use Rattle.lines.proofs.Refusals.{refused-by-number}
 use Rattle.history.specs.Past.{History}
 use Rattle.history.specs.Seen.{seen}
 use Rattle.history.specs.Acceptance.{Room, refusal}
@@ -22,7 +24,6 @@ use Rattle.history.specs.Refusals.{Given, four, five, six, seven, none}
 use Rattle.history.specs.Verdicts.{Weighs, too-many, not-read, refuses, takes}
 use Rattle.history.specs.Runs.{findings-in, told, Runs, no-more, stops, goes-on}
 use Rattle.history.proofs.Refusals.{refusal-is}
-use Rattle.history.proofs.Reading.{read-allowed, read-number}
 
 module _ (room : Room) (past : History) (bs : List ℕ) where
   -- ---- what the line is
@@ -121,7 +122,7 @@ given-number room past e _ (none s w m x) = omega arith
 
 weighs-number : (room : Room) (past : History) (bs : List ℕ) (x : Read) → Weighs room past bs x → Number x
 weighs-number room past bs _ (too-many l) = omega arith
-weighs-number room past bs _ (not-read k l h) = omega (arith, read-number bs k h)
+weighs-number room past bs _ (not-read k l h) = omega (arith, refused-by-number bs k h)
 weighs-number room past bs _ (refuses e k l h d g) = omega (arith, given-number room past e k g)
 weighs-number room past bs _ (takes e l h g) = tt
 

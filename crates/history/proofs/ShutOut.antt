@@ -7,7 +7,8 @@ use lib.IntN.{pos}
 use Rattle.numbers.specs.Decimal.{read-on}
 use Rattle.facts.specs.Table.{table, fact-of, is-allowed-pending, is-allowed-critical}
 use Rattle.lines.specs.Line.{N, X, C, R, Z}
-use Rattle.lines.specs.Reading.{fields, numbers, enter-of, leave-of, call-of, return-of, end-of, line-of, of-fields, read}
+use Rattle.lines.specs.Forms.{of-letter}
+use Rattle.lines.specs.Reading.{fields, numbers, line-of, of-fields, read}
 use Rattle.history.specs.Past.{History, through, closed}
 use Rattle.history.specs.Items.{items}
 use Rattle.history.specs.Frames.{frames, depth}
@@ -25,7 +26,7 @@ use Rattle.history.specs.Runs.{line, program-room}
 
 -- what a worked case computes with: the reader and the table
 reads : Unit {0}
-unfolding read of-fields fields numbers read-on line-of enter-of leave-of call-of return-of end-of fact-of table is-allowed-pending is-allowed-critical
+unfolding read of-fields fields numbers read-on line-of of-letter fact-of table is-allowed-pending is-allowed-critical
 reads = tt
 
 -- the history

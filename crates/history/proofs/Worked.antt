@@ -8,7 +8,8 @@ use Rattle.words.specs.Text.{bytes, with-tabs, line-feed}
 use Rattle.facts.specs.Table.{table, fact-of, is-allowed-pending, is-allowed-critical, family, is-critical}
 use Rattle.numbers.specs.Decimal.{digits-in, digits, read-on}
 use Rattle.lines.specs.Line.{Line}
-use Rattle.lines.specs.Reading.{fields, numbers, enter-of, leave-of, call-of, return-of, end-of, line-of, of-fields, read}
+use Rattle.lines.specs.Forms.{of-letter}
+use Rattle.lines.specs.Reading.{fields, numbers, line-of, of-fields, read}
 use Rattle.history.specs.Past.{History, through, closed}
 use Rattle.history.specs.Items.{items}
 use Rattle.history.specs.Frames.{frames, depth}
@@ -59,7 +60,7 @@ refused-by = refusal
 
 -- the reply to a line after calls, which stand newest first
 unfoldable pub replied : Room → List (List ℕ) → List ℕ → Reply
-unfolding refused-by is-allowed-pending is-allowed-critical read-on fields numbers enter-of leave-of call-of return-of end-of line-of of-fields read handle-rule kind-rule place-rule handle-alive is-there rule-at in-critical overflows call-rule end-rule line-rule breach of-line verdict reply heard
+unfolding refused-by is-allowed-pending is-allowed-critical read-on fields numbers line-of of-letter of-fields read handle-rule kind-rule place-rule handle-alive is-there rule-at in-critical overflows call-rule end-rule line-rule breach of-line verdict reply heard
 replied room before bs = reply room (heard room before) bs
 
 -- the report

@@ -11,8 +11,7 @@ use Rattle.facts.specs.Named.{PopLocalFrame, MonitorExit}
 use Rattle.facts.specs.Results.{is-local-result, is-handle-place, is-buffer-place}
 use Rattle.facts.specs.declared.Place.{Place}
 use Rattle.facts.specs.declared.Place.the-variants as Place
-use Rattle.lines.specs.Line.{Line, if-X_then_else_, if-C_then_else_, if-R_then_else_, if-Z_then_else_, kind}
-use Rattle.lines.specs.Reading.{above-zero}
+use Rattle.lines.specs.Line.{Line, if-X_then_else_, if-C_then_else_, if-R_then_else_, if-Z_then_else_, kind, above-zero}
 use Rattle.history.specs.Past.{thread-of}
 use Rattle.history.specs.Frames.{top-pushed}
 use Rattle.history.specs.Handles.{is-local, is-shared, in-frame, global-or-weak}

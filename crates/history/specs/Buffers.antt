@@ -7,8 +7,7 @@ use Rattle.words.specs.Choice.{if_then_else_}
 use Rattle.words.specs.Lists.{but-first}
 use Rattle.facts.specs.Table.{fact-of, family, is-critical}
 use Rattle.facts.specs.Results.{is-buffer-result, is-buffer-place}
-use Rattle.lines.specs.Line.{Line, if-C_then_else_, if-R_then_else_}
-use Rattle.lines.specs.Reading.{above-zero}
+use Rattle.lines.specs.Line.{Line, if-C_then_else_, if-R_then_else_, above-zero}
 use Rattle.history.specs.Past.{History}
 
 -- critical ones belong to the getting thread, the others to no thread

@@ -9,8 +9,7 @@ use Rattle.facts.specs.Table.{fact-of}
 use Rattle.facts.specs.Named.{DeleteGlobalRef, DeleteLocalRef, DeleteWeakGlobalRef}
 use Rattle.facts.specs.declared.Result.{Result}
 use Rattle.facts.specs.declared.Result.the-variants as Result
-use Rattle.lines.specs.Line.{Line, if-N_then_else_, if-C_then_else_, if-R_then_else_, kind}
-use Rattle.lines.specs.Reading.{above-zero}
+use Rattle.lines.specs.Line.{Line, if-N_then_else_, if-C_then_else_, if-R_then_else_, kind, above-zero}
 use Rattle.history.specs.Past.{History, thread-of}
 use Rattle.history.specs.Frames.{depth}
 

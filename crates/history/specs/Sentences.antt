@@ -13,8 +13,8 @@ use Rattle.words.specs.Text.{bytes, line-feed}
 use Rattle.facts.specs.Table.{_/_, fact-of, is-function, families, family, is-critical}
 use Rattle.facts.specs.Named.{PushLocalFrame, PopLocalFrame, DeleteGlobalRef, DeleteLocalRef, EnsureLocalCapacity, MonitorEnter, MonitorExit, DeleteWeakGlobalRef}
 use Rattle.facts.specs.Results.{is-buffer-result, is-buffer-place}
-use Rattle.lines.specs.Line.{Line, N, X, C, R, Z, kind, is-zero}
-use Rattle.lines.specs.Reading.{Read, says, refused, read, above-zero}
+use Rattle.lines.specs.Line.{Line, N, X, C, R, Z, kind, is-zero, above-zero}
+use Rattle.lines.specs.Reading.{Read, says, refused, read}
 use Rattle.history.specs.Past.{History, is-of}
 use Rattle.history.specs.Items.{in-call, items, top-of, asked}
 use Rattle.history.specs.Frames.{Frame, entered, pushed, frames, depth}

@@ -10,8 +10,8 @@ use lib.IntN.{pos}
 use lib.ListN.{length, take, drop}
 use Rattle.words.specs.Choice.{if_then_else_}
 use Rattle.words.specs.Lists.{any}
-use Rattle.lines.specs.Line.{Line, N, X, C, R, Z, is-allowed, is-zero, most-handles, is-thread, is-env, is-argument}
-use Rattle.lines.specs.Reading.{Read, says, refused, read, above-zero}
+use Rattle.lines.specs.Line.{Line, N, X, C, R, Z, is-allowed, is-zero, most-handles, is-thread, is-env, is-argument, above-zero}
+use Rattle.lines.specs.Reading.{Read, says, refused, read}
 use Rattle.lines.specs.Events.{gives-status, event-of, slots-of, not-zero, with-slots, meant}
 use Rattle.lines.specs.declared.Event.{Event}
 use Rattle.lines.specs.declared.Event.the-variants as Event

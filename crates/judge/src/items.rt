@@ -4,7 +4,7 @@ use lines::Event;
 ghost use mathlib.Core.Path.{_≡_};
 ghost use mathlib.Core.List.{List};
 ghost use Prim.Native.Nat.{ℕ};
-ghost use Rattle.lines.specs.Reading.{above-zero};
+ghost use Rattle.lines.specs.Line.{above-zero};
 ghost use Rattle.judge.specs.Event.{read-as, thread-named, items-after};
 
 // The thread that an event names; 0 for none.

@@ -12,16 +12,18 @@ use borrow.Author.Tests.{le-leb, lt-ltb, le-ltb, eq-eqb, ne-eqb, eqb-true}
 use Rattle.words.specs.Choice.{if_then_else_}
 use Rattle.words.specs.Text.{tab, line-feed}
 use Rattle.lines.specs.Line.{longest}
+use Rattle.lines.specs.Forms.{of-letter}
 use Rattle.lines.specs.Reading.{refused, onto-first, fields, numbers, line-of, if-numbers, of-fields, read}
 use Rattle.lines.specs.Gathered.{fields-from, letter-alone}
 use Rattle.lines.proofs.Cut.{is-tab}
 use Rattle.lines.proofs.Tests.{or-true}
+use Rattle.lines.proofs.Formed.{no-count}
 
 -- a tab is no letter
 tab-two : (o : Option (List ℤ)) → if-numbers tab o ≡ refused 2
-unfolding line-of
+unfolding line-of of-letter
 tab-two none = refl
-tab-two (some ns) = refl
+tab-two (some ns) = rw (no-count (length ns))
 
 two-bytes : (b x : ℕ) (ws : List (List ℕ)) → of-fields (onto-first b (onto-first x ws)) ≡ refused 2
 unfolding of-fields

@@ -1,14 +1,14 @@
 -- How long the numbers of an allowed line are: the whole line fits. Assumes nothing.
-use mathlib.Core.Path.{_≡_, refl, ap}
+use mathlib.Core.Path.{_≡_, refl}
 use mathlib.Core.Bool.{Bool, true, false, not, _||_}
 use mathlib.Core.List.{List, [], _∷_, map}
-use Prim.Native.Nat.{ℕ, suc, _+_, _*_, _≤_}
+use Prim.Native.Nat.{ℕ, suc, _*_, _≤_}
 use native.Mathlib.Omega.{arith}
 use lib.Dec.{eqb, leb}
 use lib.IntN.{ℤ, pos, negsuc, natAbs}
-use lib.ListN.{length, length-append, length-map}
+use lib.ListN.{length, length-append}
 use borrow.Author.Tests.{leb-true, eqb-true, not-true}
-use Rattle.words.specs.Choice.{if_then_else_, within}
+use Rattle.words.specs.Choice.{if_then_else_}
 use Rattle.words.specs.Lists.{any}
 use Rattle.words.specs.Text.{line-feed}
 use Rattle.numbers.specs.Decimal.{shown}
@@ -20,9 +20,12 @@ use Rattle.facts.specs.declared.Place.the-variants as Place
 use Rattle.facts.specs.declared.Result.{Result}
 use Rattle.facts.specs.declared.Result.the-variants as Result
 use Rattle.lines.specs.Line.{Line, N, X, C, R, Z, is-allowed, is-thread, is-env, is-value, is-argument, is-made, is-zero, kind, threads, largest, longest, most-handles, place-allows, capacity-allows, value-allows, result-allows}
+use Rattle.lines.specs.Forms.{most-fields, form-of, letter-of, numbers-of}
+use Rattle.lines.specs.Reading.{line-of}
 use Rattle.lines.specs.Writing.{tabbed, written}
 use Rattle.lines.proofs.Tests.{both, all4, all7, neither}
-use Rattle.lines.proofs.Numbered.{numbers-of, written-numbers}
+use Rattle.lines.proofs.Formed.{within-high, most-few}
+use Rattle.lines.proofs.Numbered.{in-form-said, line-says}
 
 -- no size is over the largest
 abbrev pub Each : List ℤ → Type 0
@@ -30,9 +33,6 @@ Each [] = Unit
 Each (n ∷ ns) = (natAbs n ≤ largest) × Each ns
 
 -- ---- the tests of a line
-
-pub within-high : (lo hi n : ℕ) → within lo hi n ≡ true → n ≤ hi
-within-high lo hi n h = leb-true n hi (both (leb lo n) (leb n hi) h .1)
 
 thread-fits : (t : ℕ) → is-thread t ≡ true → t ≤ largest
 thread-fits t h = let k = within-high 1 threads t h in omega arith
@@ -125,16 +125,13 @@ allowed-fits (R t f r p) h =
     (thread-fits t (k .0), (function-fits f (k .1), (result-fits (fact-of f .result) r (k .2), (omega arith, tt))))
 allowed-fits Z h = tt
 
-pub few-numbers : (e : Line) → is-allowed e ≡ true → length (numbers-of e) ≤ most-handles + 2
-few-numbers (N t env hs) h =
-    let k = all4 (is-thread t) (is-env env) (leb (length hs) most-handles) (not (any (λ (x : ℕ). not (is-argument x)) hs)) h in
-    let l = leb-true (length hs) most-handles (k .2) in
-    let m : length (map pos hs) ≡ length hs = length-map hs pos in
-    omega arith
-few-numbers (X t r) h = omega arith
-few-numbers (C t env f a b c n) h = omega arith
-few-numbers (R t f r p) h = omega arith
-few-numbers Z h = omega arith
+pub few-numbers : (e : Line) → is-allowed e ≡ true → length (numbers-of e) ≤ most-fields
+unfolding line-of
+few-numbers e h =
+    let f = form-of (letter-of e) in
+    let k = in-form-said f (numbers-of e) e (line-says e h) in
+    let l = within-high (f .least) (f .most) (length (numbers-of e)) (k .count) in
+    omega (arith, most-few (letter-of e))
 
 -- ---- lengths
 
@@ -152,9 +149,9 @@ length-tabbed (n ∷ ns) h =
     omega arith
 
 pub length-written : (e : Line) → is-allowed e ≡ true → length (written e) ≤ suc longest
+unfolding written
 length-written e h =
     let a = length-tabbed (numbers-of e) (allowed-fits e h) in
     let b = length-append (tabbed (numbers-of e)) (line-feed ∷ []) in
     let c = few-numbers e h in
-    let d = ap length (written-numbers e) in
     omega arith

@@ -21,8 +21,9 @@ use Rattle.numbers.specs.declared.Field.the-variants as Field
 use Rattle.numbers.proofs.Put.{put-none, put-cons}
 use Rattle.numbers.specs.Signed.{is-negative}
 use Rattle.lines.specs.Line.{largest}
+use Rattle.lines.specs.Forms.{most-fields}
 use Rattle.lines.specs.Reading.{and-number, numbers}
-use Rattle.lines.specs.Gathered.{fields-from, most-fields, tally, wrong, Gathered, gathered-as, and-field, taken, gathered}
+use Rattle.lines.specs.Gathered.{fields-from, tally, wrong, Gathered, gathered-as, and-field, taken, gathered}
 use Rattle.lines.specs.declared.Tally.{Tally}
 use Rattle.lines.proofs.Field.{field-fits, next-field, past-end}
 use Rattle.lines.proofs.Tests.{neither, or-false, or-true, or-or}

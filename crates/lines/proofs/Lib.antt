@@ -5,14 +5,15 @@ pub mod RoundTrip
 pub mod Refusals
 pub mod Meant
 pub mod Worked
-pub mod Good
 pub mod Content
+pub mod Listed
+pub mod Every
+pub mod Formed
 mod Cut
 mod Field
 mod Gathering
-mod Counts
-mod InRange
-mod Raw
-mod I32
-mod Slots
-mod Held
+mod Tested
+pub mod Makes
+mod Signs
+pub mod Made
+mod Naming

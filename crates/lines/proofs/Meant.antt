@@ -14,8 +14,8 @@ use Rattle.words.specs.Lists.{any}
 use Rattle.facts.specs.Table.{fact-of, is-function}
 use Rattle.facts.specs.declared.Result.{Result}
 use Rattle.facts.specs.declared.Result.the-variants as Result
-use Rattle.lines.specs.Line.{Line, N, X, C, R, Z, is-allowed, is-thread, is-env, is-argument, is-zero, is-made, result-allows, value-allows, most-handles}
-use Rattle.lines.specs.Reading.{says, refused, above-zero}
+use Rattle.lines.specs.Line.{Line, N, X, C, R, Z, is-allowed, is-thread, is-env, is-argument, is-zero, is-made, result-allows, value-allows, above-zero, most-handles}
+use Rattle.lines.specs.Reading.{says, refused}
 use Rattle.lines.specs.Events.{is-status, gives-status, event-of, padded, slots-of, not-zero, with-slots, meant}
 use Rattle.lines.specs.declared.Event.{Event}
 use Rattle.lines.specs.declared.Event.the-variants as Event

@@ -1,43 +1,24 @@
--- The letter and the numbers of a line: they are what is written of it, and what it is read from. Assumes nothing.
-use mathlib.Core.Path.{_≡_, refl, ap, ap₂, sym, subst, _∙_}
-use mathlib.Core.Bool.{Bool, true, false, not, _&&_}
-use mathlib.Core.List.{List, [], _∷_, _++_, map}
-use Prim.Native.Nat.{ℕ}
+-- A line is read from its own letter and numbers, and from no others. Assumes nothing.
+use mathlib.Core.Path.{_≡_, refl, ap, ap₂, sym, _∙_}
+use mathlib.Core.Bool.{Bool, true, false, not, true≢false}
+use mathlib.Core.List.{List, [], _∷_, _++_, map, append-nil}
+use Prim.Native.Nat.{ℕ, suc, _≤_}
 use Prim.Native.Char.{code}
 use native.Mathlib.Omega.{arith}
-use lib.Dec.{eqb, leb}
+use lib.Dec.{leb}
 use lib.IntN.{ℤ, pos, negsuc}
-use lib.ListN.{length, length-map}
-use borrow.Author.Tests.{eqb-true}
-use Rattle.words.specs.Choice.{if_then_else_}
+use lib.ListN.{length, length-map, drop-of-length-le}
+use lib.Seq.{take-all}
+use borrow.Author.Tests.{leb-true}
+use Rattle.words.specs.Choice.{if_then_else_, within}
 use Rattle.words.specs.Lists.{any}
 use Rattle.numbers.specs.Signed.{is-negative}
-use Rattle.lines.specs.Line.{Line, N, X, C, R, Z, is-allowed, is-thread, is-env, is-argument, most-handles}
-use Rattle.lines.specs.Reading.{Read, says, refused, above-zero, if-allowed, enter-of, leave-of, call-of, return-of, end-of, line-of}
-use Rattle.lines.specs.Writing.{lettered, written}
+use Rattle.lines.specs.Line.{Line, N, X, C, R, Z, is-allowed, is-thread, is-env, is-argument, above-zero, most-handles}
+use Rattle.lines.specs.Forms.{Form, most-fields, enter-form, leave-form, call-form, return-form, end-form, forms, of-letter, form-of, letter-of, numbers-of}
+use Rattle.lines.specs.Reading.{says, refused, if-allowed, without, in-form, line-of}
 use Rattle.lines.proofs.Tests.{neither, all4}
-
-abbrev pub letter-of : Line → ℕ
-letter-of (N t env hs) = code "N"
-letter-of (X t r) = code "X"
-letter-of (C t env f a b c n) = code "C"
-letter-of (R t f r p) = code "R"
-letter-of Z = code "Z"
-
-abbrev pub numbers-of : Line → List ℤ
-numbers-of (N t env hs) = pos t ∷ pos env ∷ map pos hs
-numbers-of (X t r) = pos t ∷ pos r ∷ []
-numbers-of (C t env f a b c n) = pos t ∷ pos env ∷ pos f ∷ pos a ∷ pos b ∷ pos c ∷ n ∷ []
-numbers-of (R t f r p) = pos t ∷ pos f ∷ r ∷ pos p ∷ []
-numbers-of Z = []
-
-pub written-numbers : (e : Line) → written e ≡ lettered (letter-of e) (numbers-of e)
-unfolding written
-written-numbers (N t env hs) = refl
-written-numbers (X t r) = refl
-written-numbers (C t env f a b c n) = refl
-written-numbers (R t f r p) = refl
-written-numbers Z = refl
+use Rattle.lines.proofs.Listed.{of-length}
+use Rattle.lines.proofs.Formed.{is-within, within-low, within-high, within-one, no-count, of-each, letter-is}
 
 -- ---- numbers without a sign
 
@@ -59,123 +40,118 @@ plain (n ∷ ns) h =
     let k = neither (is-negative n) (any is-negative ns) h in
     ap₂ (λ x y. x ∷ y) (not-negative n (k .0)) (plain ns (k .1))
 
--- ---- an allowed line is read from its numbers
-
-pub line-says : (e : Line) → is-allowed e ≡ true → line-of (letter-of e) (numbers-of e) ≡ says e
-unfolding line-of enter-of leave-of call-of return-of end-of
-line-says (N t env hs) h =
-    let k = all4 (is-thread t) (is-env env) (leb (length hs) most-handles) (not (any (λ (x : ℕ). not (is-argument x)) hs)) h in
-    let l : leb (length (map pos hs)) most-handles ≡ true = ap (λ (n : ℕ). leb n most-handles) (length-map hs pos) ∙ k .2 in
-    rw (l, none-negative hs, sizes hs, h)
-line-says (X t r) h = rw h
-line-says (C t env f a b c n) h = rw h
-line-says (R t f r p) h = rw h
-line-says Z h = refl
+-- a place past them is none of theirs
+without-none : (k : ℕ) (ns : List ℤ) → length ns ≤ k → without k ns ≡ ns
+without-none k ns h = rw (take-all k ns h, drop-of-length-le ns {i = suc k} (omega arith), append-nil ns)
 
 -- ---- numbers that are read are those of an allowed line
 
 pub never : {k : ℕ} {e : Line} → refused k ≡ says e → ⊥
 never h = let z : _≡_ {A = ℕ} 0 1 = cc in omega arith
 
-pub record Allowed (ns : List ℤ) (x e : Line) : Type 0 where
-  pub plain : any is-negative ns ≡ false
-  pub allowed : is-allowed x ≡ true
-  pub is : x ≡ e
-
-pub if-allowed-said : (ns : List ℤ) (x e : Line) → if-allowed ns x ≡ says e → Allowed ns x e
-if-allowed-said ns x e = go (any is-negative ns) refl (is-allowed x) refl
+pub if-allowed-said : (x e : Line) → if-allowed x ≡ says e → x ≡ e
+if-allowed-said x e = go (is-allowed x)
   where
-    go : (a : Bool) → any is-negative ns ≡ a → (b : Bool) → is-allowed x ≡ b
-        → (if not a && b then says x else refused 3) ≡ says e → Allowed ns x e
-    go true p b q h = absurd (never h)
-    go false p true q h = record { plain = p; allowed = q; is = cc }
-    go false p false q h = absurd (never h)
+    go : (t : Bool) → (if t then says x else refused 3) ≡ says e → x ≡ e
+    go true h = cc
+    go false h = absurd (never h)
+
+-- numbers in a form that say a line
+pub record Formed (f : Form) (ns : List ℤ) (e : Line) : Type 0 where
+  pub count : within (f .least) (f .most) (length ns) ≡ true
+  pub plain : any is-negative (without (f .signed) ns) ≡ false
+  pub is : f .line ns ≡ e
+  pub allowed : is-allowed e ≡ true
+
+pub in-form-said : (f : Form) (ns : List ℤ) (e : Line) → in-form f ns ≡ says e → Formed f ns e
+in-form-said f ns e = go (within (f .least) (f .most) (length ns)) refl (any is-negative (without (f .signed) ns)) refl (is-allowed (f .line ns)) refl
+  where
+    go : (a : Bool) → within (f .least) (f .most) (length ns) ≡ a → (b : Bool) → any is-negative (without (f .signed) ns) ≡ b
+        → (c : Bool) → is-allowed (f .line ns) ≡ c
+        → (if not a then refused 2 else if b then refused 3 else if c then says (f .line ns) else refused 3) ≡ says e → Formed f ns e
+    go true p false q true r h = let i : f .line ns ≡ e = cc in record { count = p; plain = q; is = i; allowed = ap is-allowed (sym i) ∙ r }
+    go true p false q false r h = absurd (never h)
+    go true p true q c r h = absurd (never h)
+    go false p b q c r h = absurd (never h)
+
+-- ---- an allowed line is read from its numbers
+
+formed : (f : Form) (ns : List ℤ) (e : Line) → within (f .least) (f .most) (length ns) ≡ true → any is-negative (without (f .signed) ns) ≡ false → f .line ns ≡ e
+    → in-form f ns ≡ if-allowed e
+formed f ns e c p i = rw (c, p, i)
+
+pub enter-numbers : (t env : ℕ) (hs : List ℕ) → length hs ≤ most-handles → line-of (code "N") (pos t ∷ pos env ∷ map pos hs) ≡ if-allowed (N t env hs)
+unfolding line-of of-letter
+enter-numbers t env hs l =
+    let m : length (map pos hs) ≡ length hs = length-map hs pos in
+    let ns = pos t ∷ pos env ∷ map pos hs in
+    formed enter-form ns (N t env hs)
+    (is-within 2 most-fields (length ns) (omega arith) (omega arith))
+    (ap (any is-negative) (without-none most-fields ns (omega arith)) ∙ none-negative (t ∷ env ∷ hs))
+    (ap (N t env) (sizes hs))
+
+pub line-says : (e : Line) → is-allowed e ≡ true → line-of (letter-of e) (numbers-of e) ≡ says e
+unfolding line-of of-letter
+line-says (N t env hs) h =
+    let k = all4 (is-thread t) (is-env env) (leb (length hs) most-handles) (not (any (λ (x : ℕ). not (is-argument x)) hs)) h in
+    enter-numbers t env hs (leb-true (length hs) most-handles (k .2)) ∙ rw h
+line-says (X t r) h = rw h
+line-says (C t env f a b c n) h = rw h
+line-says (R t f r p) h = rw h
+line-says Z h = refl
+
+-- ---- a line made of numbers is taken apart into them
+
+abbrev Apart : Form → List ℤ → Type 0
+Apart f ns = any is-negative (without (f .signed) ns) ≡ false → (letter-of (f .line ns) ≡ f .letter) × (numbers-of (f .line ns) ≡ ns)
+
+enter-apart : (ns : List ℤ) → within 2 most-fields (length ns) ≡ true → Apart enter-form ns
+enter-apart ns l h = (refl, go ns (within-low 2 most-fields (length ns) l) (sym (ap (any is-negative) (without-none most-fields ns (within-high 2 most-fields (length ns) l))) ∙ h))
+  where
+    go : (ns : List ℤ) → 2 ≤ length ns → any is-negative ns ≡ false → numbers-of (enter-form .line ns) ≡ ns
+    go [] l h = absurd (omega arith)
+    go (t ∷ []) l h = absurd (omega arith)
+    go (t ∷ env ∷ hs) l h = plain (t ∷ env ∷ hs) h
+
+leave-apart : (t r : ℤ) → Apart leave-form (t ∷ r ∷ [])
+leave-apart t r h = (refl, plain (t ∷ r ∷ []) h)
+
+call-apart : (t env f a b c n : ℤ) → Apart call-form (t ∷ env ∷ f ∷ a ∷ b ∷ c ∷ n ∷ [])
+call-apart t env f a b c n h = (refl, ap (λ (xs : List ℤ). xs ++ (n ∷ [])) (plain (t ∷ env ∷ f ∷ a ∷ b ∷ c ∷ []) h))
+
+return-apart : (t f r p : ℤ) → Apart return-form (t ∷ f ∷ r ∷ p ∷ [])
+return-apart t f r p h =
+    let q : pos (above-zero t) ∷ pos (above-zero f) ∷ pos (above-zero p) ∷ [] ≡ t ∷ f ∷ p ∷ [] = plain (t ∷ f ∷ p ∷ []) h in
+    (refl, cc)
+
+apart : (b : ℕ) (ns : List ℤ) → within (form-of b .least) (form-of b .most) (length ns) ≡ true → Apart (form-of b) ns
+apart =
+    of-each (λ f. (ns : List ℤ) → within (f .least) (f .most) (length ns) ≡ true → Apart f ns) forms (
+      enter-apart,
+      (
+        λ ns l. of-length 2 (Apart leave-form) leave-apart ns (within-one 2 (length ns) l),
+        (
+          λ ns l. of-length 7 (Apart call-form) call-apart ns (within-one 7 (length ns) l),
+          (
+            λ ns l. of-length 4 (Apart return-form) return-apart ns (within-one 4 (length ns) l),
+            (
+              λ ns l. of-length 0 (Apart end-form) (λ h. (refl, refl)) ns (within-one 0 (length ns) l),
+              tt,
+            ),
+          ),
+        ),
+      ),
+    )
+    (λ b ns l. absurd (true≢false (sym l ∙ no-count (length ns))))
 
 pub record Numbered (b : ℕ) (ns : List ℤ) (e : Line) : Type 0 where
   pub letter : letter-of e ≡ b
   pub numbers : numbers-of e ≡ ns
   pub allowed : is-allowed e ≡ true
 
-numbered : (ns : List ℤ) (ps : List ℤ) (x e : Line) → Allowed ps x e → numbers-of x ≡ ns → Numbered (letter-of x) ns e
-numbered ns ps x e a h =
-    subst (Numbered (letter-of x) ns) (a .is) (record { letter = refl; numbers = h; allowed = a .allowed })
-
-enter-said : (ns : List ℤ) (e : Line) → enter-of ns ≡ says e → Numbered (code "N") ns e
-unfolding enter-of
-enter-said [] e h = absurd (never h)
-enter-said (t ∷ []) e h = absurd (never h)
-enter-said (t ∷ env ∷ hs) e h = go (leb (length hs) most-handles) h
-  where
-    go : (b : Bool)
-        → (if b then if-allowed (t ∷ env ∷ hs) (N (above-zero t) (above-zero env) (map above-zero hs)) else refused 2) ≡ says e
-        → Numbered (code "N") (t ∷ env ∷ hs) e
-    go true h =
-        let a = if-allowed-said (t ∷ env ∷ hs) (N (above-zero t) (above-zero env) (map above-zero hs)) e h in
-        numbered (t ∷ env ∷ hs) (t ∷ env ∷ hs) (N (above-zero t) (above-zero env) (map above-zero hs)) e a (plain (t ∷ env ∷ hs) (a .plain))
-    go false h = absurd (never h)
-
-leave-said : (ns : List ℤ) (e : Line) → leave-of ns ≡ says e → Numbered (code "X") ns e
-unfolding leave-of
-leave-said [] e h = absurd (never h)
-leave-said (t ∷ []) e h = absurd (never h)
-leave-said (t ∷ r ∷ []) e h =
-    let ns = t ∷ r ∷ [] in
-    let x = X (above-zero t) (above-zero r) in
-    let a = if-allowed-said ns x e h in
-    numbered ns ns x e a (plain ns (a .plain))
-leave-said (t ∷ r ∷ y ∷ ys) e h = absurd (never h)
-
-call-said : (ns : List ℤ) (e : Line) → call-of ns ≡ says e → Numbered (code "C") ns e
-unfolding call-of
-call-said [] e h = absurd (never h)
-call-said (t ∷ []) e h = absurd (never h)
-call-said (t ∷ env ∷ []) e h = absurd (never h)
-call-said (t ∷ env ∷ f ∷ []) e h = absurd (never h)
-call-said (t ∷ env ∷ f ∷ a ∷ []) e h = absurd (never h)
-call-said (t ∷ env ∷ f ∷ a ∷ b ∷ []) e h = absurd (never h)
-call-said (t ∷ env ∷ f ∷ a ∷ b ∷ c ∷ []) e h = absurd (never h)
-call-said (t ∷ env ∷ f ∷ a ∷ b ∷ c ∷ n ∷ []) e h =
-    let ps = t ∷ env ∷ f ∷ a ∷ b ∷ c ∷ [] in
-    let x = C (above-zero t) (above-zero env) (above-zero f) (above-zero a) (above-zero b) (above-zero c) n in
-    let k = if-allowed-said ps x e h in
-    numbered (t ∷ env ∷ f ∷ a ∷ b ∷ c ∷ n ∷ []) ps x e k (ap (λ (xs : List ℤ). xs ++ (n ∷ [])) (plain ps (k .plain)))
-call-said (t ∷ env ∷ f ∷ a ∷ b ∷ c ∷ n ∷ y ∷ ys) e h = absurd (never h)
-
-return-said : (ns : List ℤ) (e : Line) → return-of ns ≡ says e → Numbered (code "R") ns e
-unfolding return-of
-return-said [] e h = absurd (never h)
-return-said (t ∷ []) e h = absurd (never h)
-return-said (t ∷ f ∷ []) e h = absurd (never h)
-return-said (t ∷ f ∷ r ∷ []) e h = absurd (never h)
-return-said (t ∷ f ∷ r ∷ p ∷ []) e h =
-    let ps = t ∷ f ∷ p ∷ [] in
-    let x = R (above-zero t) (above-zero f) r (above-zero p) in
-    let k = if-allowed-said ps x e h in
-    let q : pos (above-zero t) ∷ pos (above-zero f) ∷ pos (above-zero p) ∷ [] ≡ ps = plain ps (k .plain) in
-    numbered (t ∷ f ∷ r ∷ p ∷ []) ps x e k (cc)
-return-said (t ∷ f ∷ r ∷ p ∷ y ∷ ys) e h = absurd (never h)
-
-end-said : (ns : List ℤ) (e : Line) → end-of ns ≡ says e → Numbered (code "Z") ns e
-unfolding end-of
-end-said [] e h = let z : Z ≡ e = cc in subst (Numbered (code "Z") []) z (record { letter = refl; numbers = refl; allowed = refl })
-end-said (y ∷ ys) e h = absurd (never h)
-
--- one letter, or the next
-way : {P : Type 0} (b n : ℕ) (x y : Read) (e : Line) → (b ≡ n → x ≡ says e → P) → (y ≡ says e → P) → (if eqb b n then x else y) ≡ says e → P
-way {P} b n x y e f g = go (eqb b n) refl
-  where
-    go : (t : Bool) → eqb b n ≡ t → (if t then x else y) ≡ says e → P
-    go true p h = f (eqb-true b n p) h
-    go false p h = g h
-
 pub line-said : (b : ℕ) (ns : List ℤ) (e : Line) → line-of b ns ≡ says e → Numbered b ns e
 unfolding line-of
-line-said b ns e =
-    way b (code "N") _ _ e (λ p h. read-as p (enter-said ns e h))
-    (way b (code "X") _ _ e (λ p h. read-as p (leave-said ns e h))
-    (way b (code "C") _ _ e (λ p h. read-as p (call-said ns e h))
-    (way b (code "R") _ _ e (λ p h. read-as p (return-said ns e h))
-    (way b (code "Z") _ _ e (λ p h. read-as p (end-said ns e h)) (λ h. absurd (never h))))))
-  where
-    read-as : {n : ℕ} → b ≡ n → Numbered n ns e → Numbered b ns e
-    read-as p k = subst (λ (x : ℕ). Numbered x ns e) (sym p) k
+line-said b ns e h =
+    let k = in-form-said (form-of b) ns e h in
+    let a = apart b ns (k .count) (k .plain) in
+    record { letter = ap letter-of (sym (k .is)) ∙ a .0 ∙ letter-is b; numbers = ap numbers-of (sym (k .is)) ∙ a .1; allowed = k .allowed }

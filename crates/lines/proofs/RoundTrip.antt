@@ -18,11 +18,12 @@ use Rattle.numbers.specs.Decimal.{number, shown}
 use Rattle.numbers.proofs.Back.{written-is-read, read-was-written}
 use Rattle.numbers.proofs.Bytes.{Parts, not-in-shown}
 use Rattle.lines.specs.Line.{Line, N, X, C, R, Z, is-allowed, longest}
+use Rattle.lines.specs.Forms.{letter-of, numbers-of}
 use Rattle.lines.specs.Reading.{says, refused, fields, and-number, numbers, if-numbers, of-fields, read}
 use Rattle.lines.specs.Writing.{tabbed, written}
 use Rattle.lines.proofs.Tests.{neither}
 use Rattle.lines.proofs.Cut.{is-tab, tails, parted, parted-fields, NoTabs, fields-parted, tabbed-tails}
-use Rattle.lines.proofs.Numbered.{letter-of, numbers-of, written-numbers, line-says, line-said, never}
+use Rattle.lines.proofs.Numbered.{line-says, line-said, never}
 use Rattle.lines.proofs.Fits.{length-written}
 
 -- a line without its LF
@@ -30,7 +31,8 @@ abbrev pub content-of : Line → List ℕ
 content-of e = letter-of e ∷ tabbed (numbers-of e)
 
 pub written-content : (e : Line) → written e ≡ content-of e ++ (line-feed ∷ [])
-written-content e = written-numbers e
+unfolding written
+written-content e = refl
 
 -- ---- tabs and LF stand where they belong
 
@@ -179,6 +181,9 @@ read-exactly bs e = (
   λ h. let k = written-read bs e h in (k .1, k .0),
   λ h. ap read (sym (h .1)) ∙ read-written e (h .0),
 )
+
+pub read-allowed : (bs : List ℕ) (e : Line) → read bs ≡ says e → is-allowed e ≡ true
+read-allowed bs e h = written-read bs e h .1
 
 pub written-injective : (e f : Line) → is-allowed e ≡ true → is-allowed f ≡ true → written e ≡ written f → e ≡ f
 written-injective e f a b h = let k : says e ≡ says f = sym (read-written e a) ∙ ap read h ∙ read-written f b in cc

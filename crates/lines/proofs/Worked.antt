@@ -9,7 +9,8 @@ use Rattle.words.specs.Text.{bytes, with-tabs}
 use Rattle.numbers.specs.Decimal.{read-on, digits, digits-in}
 use Rattle.facts.specs.Table.{table, fact-of}
 use Rattle.lines.specs.Line.{N, X, C, R, Z}
-use Rattle.lines.specs.Reading.{Read, says, refused, fields, numbers, enter-of, leave-of, call-of, return-of, end-of, line-of, of-fields, read}
+use Rattle.lines.specs.Forms.{of-letter}
+use Rattle.lines.specs.Reading.{Read, says, refused, fields, numbers, line-of, of-fields, read}
 use Rattle.lines.specs.Writing.{tabbed, written}
 
 -- a line with its tabs shown as spaces, and what it says
@@ -77,7 +78,7 @@ worked =
     ∷ []
 
 pub worked-lines : map (λ (w : Worked). read (with-tabs (bytes (w .line)))) worked ≡ map (λ (w : Worked). w .reading) worked
-unfolding read of-fields fields numbers line-of enter-of leave-of call-of return-of end-of read-on fact-of table
+unfolding read of-fields fields numbers line-of of-letter read-on fact-of table
 worked-lines = refl
 
 -- 128 and 129 bytes before the LF
@@ -85,11 +86,11 @@ abbrev pub digits-then-line-feed : ℕ → List ℕ
 digits-then-line-feed n = with-tabs (bytes "X 1 ") ++ replicate n 57 ++ bytes "\n"
 
 pub longest-line : (length (digits-then-line-feed 124) ≡ 129) × (read (digits-then-line-feed 124) ≡ refused 3)
-unfolding read of-fields fields numbers line-of enter-of leave-of call-of return-of end-of read-on fact-of table
+unfolding read of-fields fields numbers line-of of-letter read-on fact-of table
 longest-line = (refl, refl)
 
 pub too-long : (length (digits-then-line-feed 125) ≡ 130) × (read (digits-then-line-feed 125) ≡ refused 1)
-unfolding read of-fields fields numbers line-of enter-of leave-of call-of return-of end-of read-on fact-of table
+unfolding read of-fields fields numbers line-of of-letter read-on fact-of table
 too-long = (refl, refl)
 
 pub written-lines : (written (N 1 100 (5 ∷ [])) ≡ with-tabs (bytes "N 1 100 5\n"))

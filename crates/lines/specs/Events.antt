@@ -1,5 +1,6 @@
 -- The code's events and the lines that they are; what the reader and the writer answer and leave. Assumes nothing.
 use Prim.Native.Nat.{ℕ, _-_}
+use mathlib.Core.Path.{_≡_}
 use mathlib.Core.Bool.{Bool, true, false, not, _&&_}
 use mathlib.Core.List.{List, [], _++_}
 use lib.Dec.{eqb, leb, ltb}
@@ -10,8 +11,8 @@ use Rattle.words.specs.Lists.{any}
 use Rattle.facts.specs.Table.{fact-of}
 use Rattle.facts.specs.declared.Result.{Result}
 use Rattle.facts.specs.declared.Result.the-variants as Result
-use Rattle.lines.specs.Line.{Line, N, X, C, R, Z, is-allowed, is-zero, most-handles}
-use Rattle.lines.specs.Reading.{Read, says, refused, above-zero}
+use Rattle.lines.specs.Line.{Line, N, X, C, R, Z, if-N_then_else_, is-allowed, is-zero, above-zero, most-handles}
+use Rattle.lines.specs.Reading.{Read, says, refused}
 use Rattle.lines.specs.Writing.{written}
 use Rattle.lines.specs.declared.Event.{Event}
 use Rattle.lines.specs.declared.Event.the-variants as Event
@@ -49,11 +50,11 @@ padded hs = hs ++ replicate (most-handles - length hs) 0
 
 abbrev pub slots-of : Read → List ℕ
 slots-of (refused k) = padded []
-slots-of (says (N t env hs)) = padded hs
-slots-of (says (X t r)) = padded []
-slots-of (says (C t env f a b c n)) = padded []
-slots-of (says (R t f r p)) = padded []
-slots-of (says Z) = padded []
+slots-of (says e) = padded (if-N e then (λ t env hs. hs) else [])
+
+-- the reader's answer and the slots that it leaves
+abbrev pub Reads : Read → Event → List ℕ → Type 0
+Reads x e hs = (e ≡ event-of x) × (hs ≡ slots-of x)
 
 -- ---- what the writer answers and leaves
 

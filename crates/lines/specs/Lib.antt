@@ -1,6 +1,7 @@
 pub mod Line
+pub mod Forms
 pub mod Reading
 pub mod Writing
 pub mod Events
-pub mod Good
+pub mod Sizes
 pub mod Gathered

@@ -108,6 +108,11 @@ abbrev pub is-zero : ℤ → Bool
 is-zero (pos n) = eqb n 0
 is-zero (negsuc n) = false
 
+-- max(n,0)
+abbrev pub above-zero : ℤ → ℕ
+above-zero (pos n) = n
+above-zero (negsuc n) = 0
+
 -- an unused place is written 0
 abbrev pub place-allows : Place → ℕ → Bool
 place-allows Place.Unused v = eqb v 0

@@ -1,18 +1,18 @@
 -- What the bytes of a line say, or why they say nothing. Assumes nothing.
 use Prim.Native.Nat.{ℕ, suc, _-_}
-use Prim.Native.Char.{code}
-use mathlib.Core.Bool.{not, _&&_, _||_}
-use mathlib.Core.List.{List, [], _∷_, map}
+use mathlib.Core.Bool.{not, _||_}
+use mathlib.Core.List.{List, [], _∷_, _++_}
 use mathlib.Core.Option.{Option, none, some}
-use lib.Dec.{eqb, leb, ltb}
-use lib.IntN.{ℤ, pos, negsuc}
-use lib.ListN.{length, getD, take}
-use Rattle.words.specs.Choice.{if_then_else_}
+use lib.Dec.{eqb, ltb}
+use lib.IntN.{ℤ}
+use lib.ListN.{length, getD, take, drop}
+use Rattle.words.specs.Choice.{if_then_else_, within}
 use Rattle.words.specs.Lists.{any}
 use Rattle.words.specs.Text.{tab, line-feed}
 use Rattle.numbers.specs.Decimal.{number}
 use Rattle.numbers.specs.Signed.{is-negative}
-use Rattle.lines.specs.Line.{Line, N, X, C, R, Z, is-allowed, longest, most-handles}
+use Rattle.lines.specs.Line.{Line, is-allowed, longest}
+use Rattle.lines.specs.Forms.{Form, form-of}
 
 -- an event, or a number given instead of one
 pub data Read : Type 0 where
@@ -39,61 +39,25 @@ unfoldable pub numbers : List (List ℕ) → Option (List ℤ)
 numbers [] = some []
 numbers (w ∷ ws) = and-number (number w) (numbers ws)
 
--- ---- the line that a letter and numbers are: 2 where the count of fields is wrong, 3 where one is out of range
+-- ---- the line that a letter and numbers are
 
--- max(n,0)
-abbrev pub above-zero : ℤ → ℕ
-above-zero (pos n) = n
-above-zero (negsuc n) = 0
+-- the line, if all is in range
+abbrev pub if-allowed : Line → Read
+if-allowed e = if is-allowed e then says e else refused 3
 
--- the line, if none of these fields is negative and all is in range
-abbrev pub if-allowed : List ℤ → Line → Read
-if-allowed ns e = if not (any is-negative ns) && is-allowed e then says e else refused 3
+-- all but that at place k
+abbrev pub without : ℕ → List ℤ → List ℤ
+without k ns = take k ns ++ drop (suc k) ns
 
-unfoldable pub enter-of : List ℤ → Read
-enter-of [] = refused 2
-enter-of (t ∷ []) = refused 2
-enter-of (t ∷ env ∷ hs) =
-    if leb (length hs) most-handles then if-allowed (t ∷ env ∷ hs) (N (above-zero t) (above-zero env) (map above-zero hs)) else refused 2
-
-unfoldable pub leave-of : List ℤ → Read
-leave-of [] = refused 2
-leave-of (t ∷ []) = refused 2
-leave-of (t ∷ r ∷ []) = if-allowed (t ∷ r ∷ []) (X (above-zero t) (above-zero r))
-leave-of (t ∷ r ∷ _ ∷ _) = refused 2
-
-unfoldable pub call-of : List ℤ → Read
-call-of [] = refused 2
-call-of (t ∷ []) = refused 2
-call-of (t ∷ env ∷ []) = refused 2
-call-of (t ∷ env ∷ f ∷ []) = refused 2
-call-of (t ∷ env ∷ f ∷ a ∷ []) = refused 2
-call-of (t ∷ env ∷ f ∷ a ∷ b ∷ []) = refused 2
-call-of (t ∷ env ∷ f ∷ a ∷ b ∷ c ∷ []) = refused 2
-call-of (t ∷ env ∷ f ∷ a ∷ b ∷ c ∷ n ∷ []) =
-    if-allowed (t ∷ env ∷ f ∷ a ∷ b ∷ c ∷ []) (C (above-zero t) (above-zero env) (above-zero f) (above-zero a) (above-zero b) (above-zero c) n)
-call-of (t ∷ env ∷ f ∷ a ∷ b ∷ c ∷ n ∷ _ ∷ _) = refused 2
-
-unfoldable pub return-of : List ℤ → Read
-return-of [] = refused 2
-return-of (t ∷ []) = refused 2
-return-of (t ∷ f ∷ []) = refused 2
-return-of (t ∷ f ∷ r ∷ []) = refused 2
-return-of (t ∷ f ∷ r ∷ p ∷ []) = if-allowed (t ∷ f ∷ p ∷ []) (R (above-zero t) (above-zero f) r (above-zero p))
-return-of (t ∷ f ∷ r ∷ p ∷ _ ∷ _) = refused 2
-
-unfoldable pub end-of : List ℤ → Read
-end-of [] = says Z
-end-of (_ ∷ _) = refused 2
+-- 2 where the count of numbers is wrong, 3 where one is below zero that may not be, or out of range
+abbrev pub in-form : Form → List ℤ → Read
+in-form f ns =
+    if not (within (f .least) (f .most) (length ns)) then refused 2
+    else if any is-negative (without (f .signed) ns) then refused 3
+    else if-allowed (f .line ns)
 
 unfoldable pub line-of : ℕ → List ℤ → Read
-line-of letter ns =
-    if eqb letter (code "N") then enter-of ns
-    else if eqb letter (code "X") then leave-of ns
-    else if eqb letter (code "C") then call-of ns
-    else if eqb letter (code "R") then return-of ns
-    else if eqb letter (code "Z") then end-of ns
-    else refused 2
+line-of letter ns = in-form (form-of letter) ns
 
 abbrev pub if-numbers : ℕ → Option (List ℤ) → Read
 if-numbers letter none = refused 2

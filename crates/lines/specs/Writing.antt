@@ -1,11 +1,11 @@
 -- The bytes of a line. Assumes nothing.
 use Prim.Native.Nat.{ℕ}
-use Prim.Native.Char.{code}
-use mathlib.Core.List.{List, [], _∷_, _++_, map}
-use lib.IntN.{ℤ, pos}
+use mathlib.Core.List.{List, [], _∷_, _++_}
+use lib.IntN.{ℤ}
 use Rattle.words.specs.Text.{tab, line-feed}
 use Rattle.numbers.specs.Decimal.{shown}
-use Rattle.lines.specs.Line.{Line, N, X, C, R, Z}
+use Rattle.lines.specs.Line.{Line}
+use Rattle.lines.specs.Forms.{letter-of, numbers-of}
 
 -- each number after a tab
 unfoldable pub tabbed : List ℤ → List ℕ
@@ -17,8 +17,4 @@ abbrev pub lettered : ℕ → List ℤ → List ℕ
 lettered letter ns = letter ∷ (tabbed ns ++ (line-feed ∷ []))
 
 unfoldable pub written : Line → List ℕ
-written (N t env hs) = lettered (code "N") (pos t ∷ pos env ∷ map pos hs)
-written (X t r) = lettered (code "X") (pos t ∷ pos r ∷ [])
-written (C t env f a b c n) = lettered (code "C") (pos t ∷ pos env ∷ pos f ∷ pos a ∷ pos b ∷ pos c ∷ n ∷ [])
-written (R t f r p) = lettered (code "R") (pos t ∷ pos f ∷ r ∷ pos p ∷ [])
-written Z = lettered (code "Z") []
+written e = lettered (letter-of e) (numbers-of e)

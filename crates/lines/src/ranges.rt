@@ -1,5 +1,4 @@
-// The ranges of an event's fields: one test for the reader and the writer.
-use crate::Event;
+// The ranges of a line's numbers.
 use facts::Place;
 use facts::Result;
 use facts::functions::ENSURE_LOCAL_CAPACITY;
@@ -9,24 +8,27 @@ use facts::handles::IDENTITY;
 use facts::handles::KINDS;
 use facts::handles::LOCAL;
 use facts::handles::WEAK;
+use numbers::Int;
 use words::Handle;
 use words::LARGEST;
 ghost use mathlib.Core.Path.{_≡_};
+ghost use mathlib.Core.Bool.{true, not};
+ghost use Prim.Native.Nat.{_≤_};
 ghost use lib.IntN.{pos};
-ghost use Rattle.facts.specs.Table.{is-function};
-ghost use Rattle.lines.specs.Line.{is-thread, is-env, is-made, value-allows, place-allows, capacity-allows};
+ghost use Rattle.words.specs.Lists.{any};
+ghost use Rattle.numbers.specs.Signed.{signed, is-i32};
+ghost use Rattle.facts.specs.Table.{fact-of, is-function};
+ghost use Rattle.lines.specs.Line.{N, X, C, R, is-allowed, is-thread, is-env, is-argument, is-made, value-allows, place-allows, capacity-allows, result-allows};
 ghost use Rattle.lines.specs.Events.{is-status, gives-status};
-ghost use Rattle.lines.specs.Good.{is-slot, slots-allow, return-allows, enter-allows, leave-allows, call-allows, return-line-allows, is-good};
+ghost use Rattle.lines.specs.Sizes.{named};
 
 pub const THREADS: u32 = 16;
-
-const MOST_HANDLES: u32 = 8;
 
 const FIRST_FUNCTION: u32 = 4;
 
 const LAST_FUNCTION: u32 = 232;
 
-fn is_status(k: Result) -> bool
+pub(crate) fn is_status(k: Result) -> bool
     ensures { λ r. ⌜ r ≡ is-status k ⌝ }
 {
     match k {
@@ -64,24 +66,10 @@ fn is_function(f: u32) -> bool
     (FIRST_FUNCTION <= f) & (f <= LAST_FUNCTION)
 }
 
-// A slot beside an event that names n handles.
-fn is_slot(i: u32, n: u32, h: Handle) -> bool
-    ensures { λ r. ⌜ r ≡ is-slot i n h ⌝ }
+fn is_argument(h: Handle) -> bool
+    ensures { λ r. ⌜ r ≡ is-argument h ⌝ }
 {
-    ((i < n) & ((h % KINDS == LOCAL) & (h <= LARGEST))) | ((n <= i) & (h == 0))
-}
-
-fn slots_allow(n: u32, h: [Handle; 8]) -> bool
-    ensures { λ r. ⌜ r ≡ slots-allow n h ⌝ }
-{
-    let mut ok = n <= MOST_HANDLES;
-    let mut i: u32 = 0;
-    while i < MOST_HANDLES {
-        let x = h[i as usize];
-        ok = ok & is_slot(i, n, x);
-        i += 1;
-    }
-    ok
+    (h % KINDS == LOCAL) & (h <= LARGEST)
 }
 
 fn place_allows(p: Place, v: Handle) -> bool
@@ -99,10 +87,39 @@ fn place_allows(p: Place, v: Handle) -> bool
     }
 }
 
-fn capacity_allows(f: u32, n: i32) -> bool
-    ensures { λ r. ⌜ r ≡ capacity-allows f n ⌝ }
+fn wide(n: Handle) -> u64
+    ensures { λ r. ⌜ r ≡ n ⌝ }
 {
-    ((f == PUSH_LOCAL_FRAME) | (f == ENSURE_LOCAL_CAPACITY)) | (numbers::size_of(n) == 0)
+    n as u64
+}
+
+// A number of signed 32 bits.
+fn is_i32(minus: bool, size: Handle) -> bool
+    ensures { λ r. ⌜ r ≡ is-i32 (signed minus size) ⌝ }
+{
+    match numbers::int_of(minus, wide(size)) {
+        Int::Value(_) => true,
+        Int::Out => false,
+    }
+}
+
+pub(crate) fn int_of(minus: bool, size: Handle) -> i32
+    requires { ⌜ is-i32 (signed minus size) ≡ true ⌝ }
+    ensures { λ r. ⌜ r ≡ signed minus size ⌝ }
+{
+    match numbers::int_of(minus, wide(size)) {
+        Int::Value(n) => n,
+        Int::Out => 0,
+    }
+}
+
+fn capacity_allows(f: u32, minus: bool, size: Handle) -> bool
+    ensures { λ r. ⌜ r ≡ capacity-allows f (signed minus size) ⌝ }
+{
+    if (f == PUSH_LOCAL_FRAME) | (f == ENSURE_LOCAL_CAPACITY) {
+        return is_i32(minus, size);
+    }
+    size == 0
 }
 
 // A result that is 0 or a handle of kind k.
@@ -112,36 +129,68 @@ fn made_allows(k: Handle, v: Handle) -> bool
     (v <= LARGEST) & ((v == 0) | (v % KINDS == k))
 }
 
-// A status and no result, or a result and no status.
-fn return_allows(k: Result, r: Handle, s: i32) -> bool
-    ensures { λ t. ⌜ t ≡ return-allows k r s ⌝ }
+fn value_allows(k: Result, v: Handle) -> bool
+    ensures { λ r. ⌜ r ≡ result-allows k (pos v) ⌝ }
 {
-    let plain = numbers::size_of(s) == 0;
     match k {
-        Result::Status => r == 0,
-        Result::Local => plain & made_allows(LOCAL, r),
-        Result::Global => plain & made_allows(GLOBAL, r),
-        Result::Weak => plain & made_allows(WEAK, r),
-        Result::Identity => plain & made_allows(IDENTITY, r),
-        Result::Buffer => plain & (r <= LARGEST),
-        Result::Nothing => plain & (r == 0),
+        Result::Status => is_i32(false, v),
+        Result::Local => made_allows(LOCAL, v),
+        Result::Global => made_allows(GLOBAL, v),
+        Result::Weak => made_allows(WEAK, v),
+        Result::Identity => made_allows(IDENTITY, v),
+        Result::Buffer => v <= LARGEST,
+        Result::Nothing => v == 0,
     }
 }
 
-fn enter_allows(thread: u32, env: Handle) -> bool
-    ensures { λ r. ⌜ r ≡ enter-allows thread env ⌝ }
+// Only a status may be below zero.
+fn result_allows(k: Result, minus: bool, size: Handle) -> bool
+    ensures { λ r. ⌜ r ≡ result-allows k (signed minus size) ⌝ }
 {
-    is_thread(thread) & is_env(env)
+    if minus & (size != 0) {
+        return is_status(k) & is_i32(minus, size);
+    }
+    value_allows(k, size)
 }
 
-fn leave_allows(thread: u32, result: Handle) -> bool
-    ensures { λ r. ⌜ r ≡ leave-allows thread result ⌝ }
+// The handles that N names, after thread and env.
+fn are_arguments(v: [Handle; 10], n: usize) -> bool
+    requires { ⌜ n ≤ 10 ⌝ }
+    ensures { λ r. ⌜ r ≡ not (any (λ x. not (is-argument x)) (named n v)) ⌝ }
+{
+    let mut ok = true;
+    let mut i = 2;
+    while i < n {
+        ok = ok & is_argument(v[i]);
+        i += 1;
+    }
+    ok
+}
+
+pub(crate) fn enter_allows(thread: u32, env: Handle, v: [Handle; 10], n: usize) -> bool
+    requires { ⌜ n ≤ 10 ⌝ }
+    ensures { λ r. ⌜ r ≡ is-allowed (N thread env (named n v)) ⌝ }
+{
+    is_thread(thread) & is_env(env) & are_arguments(v, n)
+}
+
+pub(crate) fn leave_allows(thread: u32, result: Handle) -> bool
+    ensures { λ r. ⌜ r ≡ is-allowed (X thread result) ⌝ }
 {
     is_thread(thread) & (result <= LARGEST)
 }
 
-fn call_allows(thread: u32, env: Handle, f: u32, a: Handle, b: Handle, c: Handle, n: i32) -> bool
-    ensures { λ r. ⌜ r ≡ call-allows thread env f a b c n ⌝ }
+pub(crate) fn call_allows(
+    thread: u32,
+    env: Handle,
+    f: u32,
+    a: Handle,
+    b: Handle,
+    c: Handle,
+    minus: bool,
+    n: Handle,
+) -> bool
+    ensures { λ r. ⌜ r ≡ is-allowed (C thread env f a b c (signed minus n)) ⌝ }
 {
     is_thread(thread)
         & is_env(env)
@@ -149,42 +198,20 @@ fn call_allows(thread: u32, env: Handle, f: u32, a: Handle, b: Handle, c: Handle
         & place_allows(facts::place_a(f), a)
         & place_allows(facts::place_b(f), b)
         & place_allows(facts::place_c(f), c)
-        & capacity_allows(f, n)
+        & capacity_allows(f, minus, n)
 }
 
-fn return_line_allows(thread: u32, f: u32, result: Handle, status: i32, pending: u32) -> bool
-    ensures { λ r. ⌜ r ≡ return-line-allows thread f result status pending ⌝ }
+// `k` is what the function gives back.
+pub(crate) fn return_allows(
+    thread: u32,
+    f: u32,
+    k: Result,
+    minus: bool,
+    result: Handle,
+    pending: u32,
+) -> bool
+    requires { ⌜ k ≡ fact-of f .result ⌝ }
+    ensures { λ r. ⌜ r ≡ is-allowed (R thread f (signed minus result) pending) ⌝ }
 {
-    is_thread(thread)
-        & is_function(f)
-        & return_allows(facts::result_of(f), result, status)
-        & (pending <= 1)
-}
-
-// An event that may be written, with the slots beside it.
-pub fn is_good(e: Event, h: [Handle; 8]) -> bool
-    ensures { λ r. ⌜ r ≡ is-good e h ⌝ }
-{
-    match e {
-        Event::Enter { thread, env, count } => slots_allow(count, h) & enter_allows(thread, env),
-        Event::Leave { thread, result } => slots_allow(0, h) & leave_allows(thread, result),
-        Event::Call {
-            thread,
-            env,
-            function,
-            a,
-            b,
-            c,
-            n,
-        } => slots_allow(0, h) & call_allows(thread, env, function, a, b, c, n),
-        Event::Return {
-            thread,
-            function,
-            result,
-            status,
-            pending,
-        } => slots_allow(0, h) & return_line_allows(thread, function, result, status, pending),
-        Event::End => slots_allow(0, h),
-        Event::Refused(_) => false,
-    }
+    is_thread(thread) & is_function(f) & result_allows(k, minus, result) & (pending <= 1)
 }

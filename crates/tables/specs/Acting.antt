@@ -8,8 +8,7 @@ use Rattle.words.specs.Choice.{if_then_else_}
 use Rattle.facts.specs.Table.{fact-of, family, is-critical}
 use Rattle.facts.specs.Named.{PushLocalFrame, PopLocalFrame, DeleteGlobalRef, DeleteLocalRef, EnsureLocalCapacity, MonitorEnter, MonitorExit, DeleteWeakGlobalRef}
 use Rattle.facts.specs.Results.{is-buffer-place}
-use Rattle.lines.specs.Line.{Line, if-N_then_else_, if-X_then_else_, if-C_then_else_, if-R_then_else_, if-Z_then_else_, kind, is-zero}
-use Rattle.lines.specs.Reading.{above-zero}
+use Rattle.lines.specs.Line.{Line, if-N_then_else_, if-X_then_else_, if-C_then_else_, if-R_then_else_, if-Z_then_else_, kind, is-zero, above-zero}
 use Rattle.rows.specs.Table.{Layout, Table, found, taken, ended, ended-all}
 use Rattle.rows.specs.References.{references, is-handle, from-frame}
 use Rattle.rows.specs.Pins.{pins, is-buffer}

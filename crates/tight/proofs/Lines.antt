@@ -9,5 +9,8 @@ read-line-tight κs args = (tt, λ x y. by-two (λ r slots. given r (tt, (slots,
 pub gives-status-tight : Tight lines.ranges.gives_status.ended lines.ranges.gives_status.Reads.Asked lines.ranges.gives_status.Reads.Learnt
 gives-status-tight κs args = (tt, by-reply)
 
-pub is-good-tight : Tight lines.ranges.is_good.ended lines.ranges.is_good.Reads.Asked lines.ranges.is_good.Reads.Learnt
-is-good-tight κs args = (tt, by-reply)
+pub counts-of-tight : Tight lines.forms.counts_of.ended lines.forms.counts_of.Reads.Asked lines.forms.counts_of.Reads.Learnt
+counts-of-tight κs args = (tt, by-reply)
+
+pub event-of-tight : Tight lines.forms.event_of.ended lines.forms.event_of.Reads.Asked lines.forms.event_of.Reads.Learnt
+event-of-tight κs args = (tt, by-reply)

@@ -17,8 +17,7 @@ use Rattle.facts.specs.Results.{is-local-result}
 use Rattle.facts.specs.declared.Place.the-variants as Place
 use Rattle.facts.specs.declared.Result.{Result}
 use Rattle.facts.specs.declared.Result.the-variants as Result
-use Rattle.lines.specs.Line.{X, C, R, Z}
-use Rattle.lines.specs.Reading.{above-zero}
+use Rattle.lines.specs.Line.{X, C, R, Z, above-zero}
 use Rattle.lines.specs.Events.{is-status, result-in-line}
 use Rattle.rows.specs.Table.{Table}
 use Rattle.history.specs.Handles.{in-frame}

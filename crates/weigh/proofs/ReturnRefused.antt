@@ -17,8 +17,7 @@ use Rattle.facts.specs.Named.{PushLocalFrame}
 use Rattle.facts.specs.Results.{is-buffer-result}
 use Rattle.facts.specs.declared.Result.{Result}
 use Rattle.facts.specs.declared.Result.the-variants as Result
-use Rattle.lines.specs.Line.{R, is-zero}
-use Rattle.lines.specs.Reading.{above-zero}
+use Rattle.lines.specs.Line.{R, is-zero, above-zero}
 use Rattle.lines.specs.Events.{is-status, result-in-line}
 use Rattle.lines.proofs.Tests.{and-true}
 use Rattle.rows.specs.Table.{Layout, Table, room, alive, free-row}

@@ -1,18 +1,15 @@
 -- Numbers laid out one after the other are what is written of a line. Assumes nothing.
-use mathlib.Core.Path.{_≡_, refl, ap, ap₂, sym, _∙_}
+use mathlib.Core.Path.{_≡_, ap, ap₂, sym, _∙_}
 use mathlib.Core.Bool.{Bool}
-use mathlib.Core.List.{List, [], _∷_, _++_, map}
-use Prim.Native.Nat.{ℕ, suc, _+_, _^_, _≤_, _<_}
-use Prim.Native.Char.{code}
+use mathlib.Core.List.{List, [], _∷_, _++_}
+use Prim.Native.Nat.{ℕ, suc, _+_, _≤_, _<_}
 use native.Mathlib.Omega.{arith}
 use native.Mathlib.Numerals.{add-one}
 use lib.Dec.{eqb}
-use lib.IntN.{ℤ, pos, negsuc, natAbs}
-use lib.ListN.{length, getD, take, drop, set, length-append, length-take, length-set, drop-of-length-le}
-use lib.Seq.{drop-cons, length-take-le}
-use mir.Syntax.{w32}
-use mir.Val.{SFits}
-use borrow.Author.Tests.{lt-ltb, le-ltb, le-leb, ne-eqb}
+use lib.IntN.{ℤ}
+use lib.ListN.{length, getD, drop, set, length-append, length-set, drop-of-length-le}
+use lib.Seq.{drop-cons}
+use borrow.Author.Tests.{lt-ltb, le-ltb, le-leb}
 use Rattle.words.specs.Text.{tab, line-feed}
 use Rattle.numbers.specs.Decimal.{shown}
 use Rattle.numbers.specs.Signed.{signed}
@@ -20,10 +17,9 @@ use Rattle.numbers.specs.Writing.{put, Puts}
 use Rattle.numbers.specs.declared.Room.{Room}
 use Rattle.numbers.specs.declared.Room.the-variants.{To}
 use Rattle.numbers.proofs.Put.{put-one, put-put, put-cons, length-put}
-use Rattle.lines.specs.Line.{N, X, C, R, Z}
-use Rattle.lines.specs.Writing.{tabbed, lettered, written}
-use Rattle.lines.specs.Gathered.{most-fields}
-use Rattle.writer.specs.Laid.{signed-at, minus-place, Writes}
+use Rattle.lines.specs.Writing.{tabbed, lettered}
+use Rattle.lines.specs.Sizes.{signed-at}
+use Rattle.writer.specs.Laid.{Writes}
 use Rattle.lines.specs.declared.Wrote.{Wrote}
 use Rattle.lines.specs.declared.Wrote.the-variants as Wrote
 
@@ -89,77 +85,6 @@ writes-framed d b ns {n} {d'} h e g =
       reply = rw (t, k);
       left = rw t (g ∙ ap (λ (i : ℕ). set (put (set d 0 b) 1 (tabbed ns)) i line-feed) e ∙ framed d b (tabbed ns) h);
     }
-
--- ---- by the kind of line
-
--- the size of a signed number fits 32 bits
-pub size-fits : (n : ℤ) {m : ℕ} → SFits w32 n → m ≡ natAbs n → m < 2 ^ 32
-size-fits (pos n) f e = let h : n < 2 ^ 31 = f .sfits in omega arith
-size-fits (negsuc n) f e = let h : n < 2 ^ 31 = f .sfits in omega arith
-
-pub laid-leave : (t r : ℕ) → lettered (code "X") (signed-at 0 most-fields (t ∷ r ∷ [])) ≡ written (X t r)
-unfolding signed-at written
-laid-leave t r = refl
-
-pub laid-end : lettered (code "Z") (signed-at 0 most-fields []) ≡ written Z
-unfolding signed-at written
-laid-end = refl
-
-pub laid-result : (t f r p : ℕ) → lettered (code "R") (signed-at 0 most-fields (t ∷ f ∷ r ∷ p ∷ [])) ≡ written (R t f (pos r) p)
-unfolding signed-at written
-laid-result t f r p = refl
-
-laid-status-as : (t f : ℕ) (s : ℤ) (p : ℕ) → lettered (code "R") (signed-at 0 (minus-place 2 s) (t ∷ f ∷ natAbs s ∷ p ∷ [])) ≡ written (R t f s p)
-unfolding signed-at written
-laid-status-as t f (pos n) p = refl
-laid-status-as t f (negsuc n) p = refl
-
-pub laid-status : (t f : ℕ) (s : ℤ) (p : ℕ) {m k : ℕ} → m ≡ natAbs s → k ≡ minus-place 2 s
-    → lettered (code "R") (signed-at 0 k (t ∷ f ∷ m ∷ p ∷ [])) ≡ written (R t f s p)
-laid-status t f s p e h = ap₂ (λ (i x : ℕ). lettered (code "R") (signed-at 0 i (t ∷ f ∷ x ∷ p ∷ []))) h e ∙ laid-status-as t f s p
-
-laid-call-as : (t env f a b c : ℕ) (n : ℤ)
-    → lettered (code "C") (signed-at 0 (minus-place 6 n) (t ∷ env ∷ f ∷ a ∷ b ∷ c ∷ natAbs n ∷ [])) ≡ written (C t env f a b c n)
-unfolding signed-at written
-laid-call-as t env f a b c (pos n) = refl
-laid-call-as t env f a b c (negsuc n) = refl
-
-pub laid-call : (t env f a b c : ℕ) (n : ℤ) {m k : ℕ} → m ≡ natAbs n → k ≡ minus-place 6 n
-    → lettered (code "C") (signed-at 0 k (t ∷ env ∷ f ∷ a ∷ b ∷ c ∷ m ∷ [])) ≡ written (C t env f a b c n)
-laid-call t env f a b c n e h =
-    ap₂ (λ (i x : ℕ). lettered (code "C") (signed-at 0 i (t ∷ env ∷ f ∷ a ∷ b ∷ c ∷ x ∷ []))) h e ∙ laid-call-as t env f a b c n
-
--- no place below most-fields is k
-plain-at : (i : ℕ) (vs : List ℕ) → i + length vs ≤ most-fields → signed-at i most-fields vs ≡ map pos vs
-unfolding signed-at
-plain-at i [] h = refl
-plain-at i (v ∷ vs) h = rw (ne-eqb i most-fields (λ e. omega arith)) (ap (λ (x : List ℤ). pos v ∷ x) (plain-at (suc i) vs (omega arith)))
-
--- the eight slots, one by one
-slot-list : (hs : List ℕ) → length hs ≡ 8
-    → getD hs 0 0 ∷ getD hs 1 0 ∷ getD hs 2 0 ∷ getD hs 3 0 ∷ getD hs 4 0 ∷ getD hs 5 0 ∷ getD hs 6 0 ∷ getD hs 7 0 ∷ [] ≡ hs
-slot-list hs h =
-    sym
-    (all hs ∙ rw (drop-cons hs 0 0 (omega arith)) (rw (drop-cons hs 1 0 (omega arith)) (rw (drop-cons hs 2 0 (omega arith)) (rw (drop-cons hs 3 0 (omega arith))
-    (rw (drop-cons hs 4 0 (omega arith)) (rw (drop-cons hs 5 0 (omega arith)) (rw (drop-cons hs 6 0 (omega arith)) (rw (drop-cons hs 7 0 (omega arith))
-    (rw (drop-of-length-le hs {i = 8} (omega arith)))))))))))
-  where
-    all : (x : List ℕ) → x ≡ drop 0 x
-    all x = refl
-
-pub few-slots : (v : List ℕ) (n : ℕ) → length v ≡ most-fields → n ≤ 8 → length (take (n + 2) v) ≤ 10
-few-slots v n l h = let k = length-take (n + 2) v in omega arith
-
-pub laid-enter : (t env n : ℕ) (hs : List ℕ) → length hs ≡ 8 → n ≤ 8
-    → lettered (code "N") (signed-at 0 most-fields (take (n + 2) (t ∷ env ∷ getD hs 0 0 ∷ getD hs 1 0 ∷ getD hs 2 0 ∷ getD hs 3 0 ∷ getD hs 4 0 ∷ getD hs 5 0 ∷ getD hs 6 0 ∷ getD hs 7 0 ∷ [])))
-    ≡ written (N t env (take n hs))
-unfolding written
-laid-enter t env n hs l h =
-    let k : n + 2 ≡ suc (suc n) = omega arith in
-    let m : length (t ∷ env ∷ take n hs) ≡ suc (suc n) = ap (λ (x : ℕ). suc (suc x)) (length-take-le n hs (omega arith)) in
-    ap (λ (x : List ℕ). lettered (code "N") (signed-at 0 most-fields (take (n + 2) (t ∷ env ∷ x)))) (slot-list hs l)
-    ∙ ap (λ (i : ℕ). lettered (code "N") (signed-at 0 most-fields (take i (t ∷ env ∷ hs)))) k
-    ∙ ap (lettered (code "N")) (plain-at 0 (t ∷ env ∷ take n hs) (omega arith))
 
 -- ---- a number put after a tab, where there is room
 

@@ -1,2 +1,2 @@
 mod Laid
-mod Answers
+mod Taking

@@ -6,7 +6,7 @@ use native.Mathlib.Omega.{arith}
 use lib.ListN.{length, set, length-set}
 use denote.Ref.{now}
 use Rattle.words.specs.Text.{line-feed}
-use Rattle.writer.specs.Laid.{signed-at}
+use Rattle.lines.specs.Sizes.{signed-at}
 use Rattle.writer.proofs.Laid.{writes-short, writes-framed, length-lettered}
 use borrow.Author.Needs.{needs}
 use Rattle.writer.proofs.put_line.Statement.{statement}

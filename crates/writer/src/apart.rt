@@ -1,0 +1,127 @@
+// An event taken apart into its letter and numbers.
+use lines::Event;
+use lines::ranges;
+use words::Handle;
+ghost use mathlib.Core.Path.{_≡_};
+ghost use lib.IntN.{natAbs};
+ghost use Rattle.writer.specs.Apart.{are-empty, apart, apart-return};
+
+// The letter, how many numbers there are, their sizes at the front, and whether the one that may be below zero is;
+// and whether the event has its handles, or its result and status, as an event has them.
+pub(crate) struct Taken {
+    pub letter: u8,
+    pub count: usize,
+    pub minus: bool,
+    pub values: [Handle; 10],
+    pub good: bool,
+}
+
+const MOST_HANDLES: u32 = 8;
+
+// The size of a signed number.
+fn size_of(n: i32) -> Handle
+    ensures { λ r. ⌜ r ≡ natAbs n ⌝ }
+{
+    numbers::size_of(n) as Handle
+}
+
+// No slot from n on names a handle.
+fn are_empty(h: [Handle; 8], n: u32) -> bool
+    ensures { λ r. ⌜ r ≡ are-empty n h ⌝ }
+{
+    let mut ok = true;
+    let mut i = n;
+    while i < MOST_HANDLES {
+        let x = h[i as usize];
+        ok = ok & (x == 0);
+        i += 1;
+    }
+    ok
+}
+
+// What a function returns is its status, or its result where it has no status; the other is 0.
+fn take_return(
+    thread: u32,
+    function: u32,
+    result: Handle,
+    status: i32,
+    pending: u32,
+    empty: bool,
+) -> Taken
+    ensures { λ r. ⌜ r ≡ apart-return thread function result status pending empty ⌝ }
+{
+    if ranges::gives_status(function) {
+        let size = size_of(status);
+        return Taken {
+            letter: b'R',
+            count: 4,
+            minus: numbers::is_negative(status),
+            values: [thread, function, size, pending, 0, 0, 0, 0, 0, 0],
+            good: (result == 0) & empty,
+        };
+    }
+    Taken {
+        letter: b'R',
+        count: 4,
+        minus: false,
+        values: [thread, function, result, pending, 0, 0, 0, 0, 0, 0],
+        good: (size_of(status) == 0) & empty,
+    }
+}
+
+pub(crate) fn take_apart(e: Event, h: [Handle; 8]) -> Taken
+    ensures { λ r. ⌜ r ≡ apart e h ⌝ }
+{
+    match e {
+        Event::Enter { thread, env, count } => Taken {
+            letter: b'N',
+            count: count as usize + 2,
+            minus: false,
+            values: [thread, env, h[0], h[1], h[2], h[3], h[4], h[5], h[6], h[7]],
+            good: (count <= MOST_HANDLES) & are_empty(h, count),
+        },
+        Event::Leave { thread, result } => Taken {
+            letter: b'X',
+            count: 2,
+            minus: false,
+            values: [thread, result, 0, 0, 0, 0, 0, 0, 0, 0],
+            good: are_empty(h, 0),
+        },
+        Event::Call {
+            thread,
+            env,
+            function,
+            a,
+            b,
+            c,
+            n,
+        } => Taken {
+            letter: b'C',
+            count: 7,
+            minus: numbers::is_negative(n),
+            values: [thread, env, function, a, b, c, size_of(n), 0, 0, 0],
+            good: are_empty(h, 0),
+        },
+        Event::Return {
+            thread,
+            function,
+            result,
+            status,
+            pending,
+        } => take_return(thread, function, result, status, pending, are_empty(h, 0)),
+        Event::End => Taken {
+            letter: b'Z',
+            count: 0,
+            minus: false,
+            values: [0; 10],
+            good: are_empty(h, 0),
+        },
+        Event::Refused(_) => Taken {
+            letter: 0,
+            count: 0,
+            minus: false,
+            values: [0; 10],
+            good: false,
+        },
+    }
+}
