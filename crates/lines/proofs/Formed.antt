@@ -4,11 +4,12 @@ use mathlib.Core.Bool.{Bool, true, false}
 use mathlib.Core.List.{List, [], _∷_}
 use Prim.Native.Nat.{ℕ, zero, suc, _≤_}
 use native.Mathlib.Omega.{arith}
-use lib.Dec.{eqb, leb}
-use borrow.Author.Tests.{eqb-true, le-leb, lt-leb, leb-true}
+use lib.Dec.{eqb, leb, ltb}
+use borrow.Author.Tests.{eqb-true, le-leb, lt-leb, leb-true, ltb-false}
 use Rattle.words.specs.Choice.{if_then_else_, within}
+use Rattle.words.specs.Lists.{any}
 use Rattle.lines.specs.Forms.{Form, forms, no-form, of-letter, form-of, most-fields}
-use Rattle.lines.proofs.Tests.{both, and-false}
+use Rattle.lines.proofs.Tests.{both, neither, and-false}
 
 pub within-low : (lo hi n : ℕ) → within lo hi n ≡ true → lo ≤ n
 within-low lo hi n h = leb-true lo n (both (leb lo n) (leb n hi) h .0)
@@ -56,9 +57,17 @@ letter-in b (f ∷ fs) = go (eqb b (f .letter)) refl (letter-in b fs)
 pub letter-is : (b : ℕ) → form-of b .letter ≡ b
 letter-is b = letter-in b forms
 
--- no letter has more numbers than the most
+-- no letter has more numbers than the most: one computed test over the table
+few-in : (b : ℕ) (fs : List Form) → any (λ (f : Form). ltb most-fields (f .most)) fs ≡ false → of-letter b fs .most ≤ most-fields
+unfolding of-letter
+few-in b [] h = omega arith
+few-in b (f ∷ fs) h =
+    let k = neither (ltb most-fields (f .most)) (any (λ (f : Form). ltb most-fields (f .most)) fs) h in
+    go (eqb b (f .letter)) (ltb-false most-fields (f .most) (k .0)) (few-in b fs (k .1))
+  where
+    go : (t : Bool) → f .most ≤ most-fields → of-letter b fs .most ≤ most-fields → (if t then f else of-letter b fs) .most ≤ most-fields
+    go true l rest = l
+    go false l rest = rest
+
 pub most-few : (b : ℕ) → form-of b .most ≤ most-fields
-most-few =
-    of-each (λ f. f .most ≤ most-fields) forms
-    (omega arith, (omega arith, (omega arith, (omega arith, (omega arith, tt)))))
-    (λ b. omega arith)
+most-few b = few-in b forms refl

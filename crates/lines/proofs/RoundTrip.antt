@@ -21,7 +21,7 @@ use Rattle.lines.specs.Line.{Line, N, X, C, R, Z, is-allowed, longest}
 use Rattle.lines.specs.Forms.{letter-of, numbers-of}
 use Rattle.lines.specs.Reading.{says, refused, fields, and-number, numbers, if-numbers, of-fields, read}
 use Rattle.lines.specs.Writing.{tabbed, written}
-use Rattle.lines.proofs.Tests.{neither}
+use Rattle.lines.proofs.Tests.{neither, or-false}
 use Rattle.lines.proofs.Cut.{is-tab, tails, parted, parted-fields, NoTabs, fields-parted, tabbed-tails}
 use Rattle.lines.proofs.Numbered.{line-says, line-said, never}
 use Rattle.lines.proofs.Fits.{length-written}
@@ -58,29 +58,23 @@ unfolding tabbed
 none-tabbed [] = refl
 none-tabbed (n ∷ ns) = any-append is-line-feed (shown n) (tabbed ns) (not-in-shown line-feed-parts n) (none-tabbed ns)
 
-one-tab : (e : Line) → any is-tab (letter-of e ∷ []) ≡ false
-one-tab (N t env hs) = refl
-one-tab (X t r) = refl
-one-tab (C t env f a b c n) = refl
-one-tab (R t f r p) = refl
-one-tab Z = refl
+-- a letter is neither
+letter-plain : (e : Line) → (is-tab (letter-of e) ≡ false) × (is-line-feed (letter-of e) ≡ false)
+letter-plain (N t env hs) = (refl, refl)
+letter-plain (X t r) = (refl, refl)
+letter-plain (C t env f a b c n) = (refl, refl)
+letter-plain (R t f r p) = (refl, refl)
+letter-plain Z = (refl, refl)
 
 pub fields-written : (e : Line) → fields (content-of e) ≡ (letter-of e ∷ []) ∷ map shown (numbers-of e)
 fields-written e =
     ap (λ (x : List ℕ). fields (letter-of e ∷ x)) (tabbed-tails (numbers-of e))
-    ∙ fields-parted (letter-of e ∷ []) (map shown (numbers-of e)) (one-tab e) (no-tabs (numbers-of e))
+    ∙ fields-parted (letter-of e ∷ []) (map shown (numbers-of e)) (or-false (is-tab (letter-of e)) ∙ letter-plain e .0) (no-tabs (numbers-of e))
 
 -- the only LF is the last byte
 pub no-line-feed : (e : Line) → any is-line-feed (content-of e) ≡ false
-no-line-feed e = rest (letter-of e) (not-letter e) (numbers-of e)
+no-line-feed e = rest (letter-of e) (letter-plain e .1) (numbers-of e)
   where
-    not-letter : (e : Line) → is-line-feed (letter-of e) ≡ false
-    not-letter (N t env hs) = refl
-    not-letter (X t r) = refl
-    not-letter (C t env f a b c n) = refl
-    not-letter (R t f r p) = refl
-    not-letter Z = refl
-
     rest : (b : ℕ) → is-line-feed b ≡ false → (ns : List ℤ) → any is-line-feed (b ∷ tabbed ns) ≡ false
     rest b h ns = rw h (none-tabbed ns)
 
