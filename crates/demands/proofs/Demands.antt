@@ -26,7 +26,7 @@ use Rattle.demands.proofs.PastRows.{rows-hold, pin-rows-hold}
 use Rattle.demands.proofs.Weighed.{used-rows, used-pin-rows}
 use Rattle.demands.proofs.Started.{fit}
 use Rattle.demands.proofs.Stepped.{with-line-in, answered, step-is, follows}
-use Rattle.demands.proofs.Foreign.{accepted-not, refusal-keeps, eight-is, start-is}
+use Rattle.demands.proofs.Foreign.{numbered, accepted-not, refusal-keeps, eight-is, start-is}
 use Rattle.demands.proofs.Numbers.{references-exact, pins-exact}
 use Rattle.demands.proofs.Runs.{reports-are}
 
@@ -143,7 +143,7 @@ from-a-start-has T long calls =
 pub demands : Demands
 demands =
     record {
-      of-any-tables = λ T. record { refusal-changes-nothing = refusal-keeps T; eight-exactly = eight-is T; start-forgets = λ S. start-is S T };
+      of-any-tables = λ T. record { refusal-changes-nothing = refusal-keeps T; refusal-numbered = numbered T; eight-exactly = eight-is T; start-forgets = λ S. start-is S T };
       of-past-rows =
           λ room calls.
           record { rows-hold = rows-hold room (heard room calls) (heard-accepted room calls); pin-rows-hold = pin-rows-hold (heard room calls) };

@@ -1,5 +1,5 @@
--- Of tables that hold whatever they may: a refusal changes nothing, 8 is given exactly when the book is not fit, and a start forgets. Assumes nothing.
-use Prim.Native.Nat.{ℕ, suc, _<_}
+-- Of tables that hold whatever they may: a refusal changes nothing and is one of 1 to 8, 8 is given exactly when the book is not fit, and a start forgets. Assumes nothing.
+use Prim.Native.Nat.{ℕ, suc, _≤_, _<_}
 use mathlib.Core.Path.{_≡_, refl}
 use mathlib.Core.Logic.{_↔_}
 use mathlib.Core.Bool.{Bool, true, false, _&&_}
@@ -8,6 +8,7 @@ use mathlib.Core.Option.{Option}
 use native.Mathlib.Omega.{arith}
 use lib.Dec.{eqb, leb}
 use lib.ListN.{length}
+use borrow.Author.Tests.{eqb-false}
 use Rattle.words.specs.Choice.{if_then_else_}
 use Rattle.lines.specs.Line.{Line}
 use Rattle.lines.specs.Reading.{Read, says, refused, read}
@@ -35,16 +36,16 @@ accepted-not fs k h = let z : _≡_ {A = ℕ} 0 1 = cc in omega arith
 same-number : (j k : ℕ) → not-accepted j ≡ not-accepted k → j ≡ k
 same-number j k h = cc
 
--- if it is a refusal, all is untouched and its number is less than m
+-- if it is a refusal, all is untouched and its number is above 0 and less than m
 record Sound (m : ℕ) (T : Tables) (s : Stepped) : Type 0 where
   keeps : (k : ℕ) → s .reply ≡ not-accepted k → s .left ≡ T
-  below : (k : ℕ) → s .reply ≡ not-accepted k → k < m
+  number : (k : ℕ) → s .reply ≡ not-accepted k → (0 < k) × (k < m)
 
-untouched-sound : (m k : ℕ) (T : Tables) → k < m → Sound m T (untouched k T)
-untouched-sound m k T l = record { keeps = λ j h. refl; below = λ j h. omega (arith, same-number k j h) }
+untouched-sound : (m k : ℕ) (T : Tables) → 0 < k → k < m → Sound m T (untouched k T)
+untouched-sound m k T z l = record { keeps = λ j h. refl; number = λ j h. (omega (arith, same-number k j h), omega (arith, same-number k j h)) }
 
 stepped-sound : (m : ℕ) (fs : List Finding) (S T : Tables) → Sound m T (stepped (accepted fs) S)
-stepped-sound m fs S T = record { keeps = λ j h. absurd (accepted-not fs j h); below = λ j h. absurd (accepted-not fs j h) }
+stepped-sound m fs S T = record { keeps = λ j h. absurd (accepted-not fs j h); number = λ j h. absurd (accepted-not fs j h) }
 
 if-sound : (m : ℕ) (T : Tables) (b : Bool) (s u : Stepped) → Sound m T s → Sound m T u → Sound m T (if b then s else u)
 if-sound m T true s u x y = x
@@ -64,17 +65,20 @@ refusal-number e top many T =
 
 line-sound : (T : Tables) (e : Line) (is : List Item) → Sound 8 T (on-line e is T)
 unfolding weighed-in
-line-sound T e is = go (eqb (refusal-in e (top-of is) (length is) T) 0)
+line-sound T e is = go (eqb (refusal-in e (top-of is) (length is) T) 0) refl
   where
     fs : List Finding
     fs = of-line (suc (lines-in (T .book))) e (seen-in T)
 
-    go : (q : Bool) → Sound 8 T (follow e (asked (top-of is)) (if q then accepted fs else not-accepted (refusal-in e (top-of is) (length is) T)) T)
-    go true = stepped-sound 8 fs _ T
-    go false = untouched-sound 8 (refusal-in e (top-of is) (length is) T) T (refusal-number e (top-of is) (length is) T)
+    go : (q : Bool) → eqb (refusal-in e (top-of is) (length is) T) 0 ≡ q
+        → Sound 8 T (follow e (asked (top-of is)) (if q then accepted fs else not-accepted (refusal-in e (top-of is) (length is) T)) T)
+    go true h = stepped-sound 8 fs _ T
+    go false h =
+        let z = eqb-false (refusal-in e (top-of is) (length is) T) 0 h in
+        untouched-sound 8 (refusal-in e (top-of is) (length is) T) T (omega arith) (refusal-number e (top-of is) (length is) T)
 
 read-sound : (T : Tables) (bs : List ℕ) (r : Read) → read bs ≡ r → Sound 8 T (on-read r T)
-read-sound T bs (refused k) is = untouched-sound 8 k T (omega (arith, refused-by-number bs k is))
+read-sound T bs (refused k) is = let n = refused-by-number bs k is in untouched-sound 8 k T (omega arith) (omega arith)
 read-sound T bs (says e) is = line-sound T e (items-in (T .book) (thread-of e))
 
 -- past the test of the book
@@ -83,7 +87,7 @@ fit-step T bs = if leb most-lines (lines-in (T .book)) then untouched 1 T else o
 
 fit-sound : (T : Tables) (bs : List ℕ) → Sound 8 T (fit-step T bs)
 fit-sound T bs =
-    if-sound 8 T (leb most-lines (lines-in (T .book))) (untouched 1 T) (on-read (read bs) T) (untouched-sound 8 1 T (omega arith)) (read-sound T bs (read bs) refl)
+    if-sound 8 T (leb most-lines (lines-in (T .book))) (untouched 1 T) (on-read (read bs) T) (untouched-sound 8 1 T (omega arith) (omega arith)) (read-sound T bs (read bs) refl)
 
 pub refusal-keeps : (T : Tables) (bs : List ℕ) (k : ℕ) → step-of T bs .reply ≡ not-accepted k → step-of T bs .left ≡ T
 unfolding step-of
@@ -99,7 +103,15 @@ eight-is T bs = (go (unfit (T .book)), λ u. rw u)
   where
     go : (q : Bool) → (if q then untouched 8 T else fit-step T bs) .reply ≡ not-accepted 8 → q ≡ true
     go true h = refl
-    go false h = absurd (omega (arith, fit-sound T bs .below 8 h))
+    go false h = absurd (omega (arith, fit-sound T bs .number 8 h .1))
+
+pub numbered : (T : Tables) (bs : List ℕ) (k : ℕ) → step-of T bs .reply ≡ not-accepted k → (1 ≤ k) × (k ≤ 8)
+unfolding step-of
+numbered T bs k = go (unfit (T .book))
+  where
+    go : (q : Bool) → (if q then untouched 8 T else fit-step T bs) .reply ≡ not-accepted k → (1 ≤ k) × (k ≤ 8)
+    go true h = let e = same-number 8 k h in (omega arith, omega arith)
+    go false h = let n = fit-sound T bs .number k h in (omega arith, omega arith)
 
 -- ---- a start
 

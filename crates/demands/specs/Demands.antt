@@ -1,5 +1,5 @@
 -- What is demanded of the judge over lent tables, each demand as one statement: whoever doubts the judge reads these. Assumes nothing.
-use Prim.Native.Nat.{ℕ, _<_}
+use Prim.Native.Nat.{ℕ, _≤_, _<_}
 use mathlib.Core.Path.{_≡_}
 use mathlib.Core.Logic.{_↔_}
 use mathlib.Core.Bool.{Bool, true, false}
@@ -43,6 +43,8 @@ pub record Out-of-room (room : Room) (past : History) (bs : List ℕ) : Type 0 w
 pub record Of-any-tables (T : Tables) : Type 0 where
   -- "Each leaves rows, marks, book and findings untouched and returns only its number."
   pub refusal-changes-nothing : (bs : List ℕ) (k : ℕ) → step-of T bs .reply ≡ not-accepted k → step-of T bs .left ≡ T
+  -- its number is one of the paper's
+  pub refusal-numbered : (bs : List ℕ) (k : ℕ) → step-of T bs .reply ≡ not-accepted k → (1 ≤ k) × (k ≤ 8)
   -- 8 is "given exactly when" the lent thread book is not fit, whatever the line
   pub eight-exactly : (bs : List ℕ) → (step-of T bs .reply ≡ not-accepted 8) ↔ (unfit (T .book) ≡ true)
   -- "A start call clears all rows, marks and book": it forgets whatever stood there

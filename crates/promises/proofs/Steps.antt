@@ -1,0 +1,66 @@
+-- Calls of the judge: what the contracts say is the step over lent tables, and so what is proved of it. Assumes nothing.
+use Prim.Native.Nat.{ℕ, _≤_}
+use mathlib.Core.Path.{_≡_, refl, ap, ap₂, sym, _∙_}
+use mathlib.Core.Logic.{_≢_}
+use mathlib.Core.List.{List, [], _∷_}
+use native.Mathlib.Omega.{arith}
+use Rattle.history.specs.Replies.{Reply, accepted, not-accepted, reply}
+use Rattle.answers.specs.declared.Answer.{Answer}
+use Rattle.answers.specs.Answer.{refused-with, answer-of, answered}
+use Rattle.tables.specs.Tables.{Tables, tables}
+use Rattle.tables.specs.Stepping.{step-of, start-of}
+use Rattle.events.specs.Outcome.{Outcome}
+use Rattle.judge.specs.Outcome.{step-outcome}
+use Rattle.demands.specs.Demands.{Demands}
+use Rattle.demands.specs.Calls.{room-of, Long, after, from-start, heard-by}
+use Rattle.demands.proofs.Demands.{demands}
+use Rattle.promises.specs.Calls.{Starts, Steps, Called, started, stepped}
+
+-- ---- what the contracts say
+
+start-is : {T S : Tables} → Starts T S → S ≡ start-of T
+start-is c = sym (c .given-back) ∙ c .promised ∙ ap start-of (c .lent)
+
+step-is : {T S : Tables} {bs : List ℕ} {r : Answer} → Steps T bs r S → (r ≡ answered (step-of T bs .reply)) × (S ≡ step-of T bs .left)
+unfolding step-outcome
+step-is {T} {S} {bs} {r} c = (
+  ap (λ (o : Outcome). o .answer) (c .promised) ∙ ap₂ (λ (X : Tables) (x : List ℕ). answered (step-of X x .reply)) (c .lent) (c .line),
+  sym (c .given-back) ∙ ap (λ (o : Outcome). o .left) (c .promised) ∙ ap₂ (λ (X : Tables) (x : List ℕ). step-of X x .left) (c .lent) (c .line),
+)
+
+-- ---- a refusal
+
+-- an answer that refuses is of a reply that does
+refuses : (x : Reply) → answered x .refusal ≢ 0 → (k : ℕ) × (x ≡ not-accepted k)
+unfolding answer-of
+refuses (accepted fs) h = absurd (h refl)
+refuses (not-accepted k) h = (k, refl)
+
+pub refusal-changes-nothing : {T S : Tables} {bs : List ℕ} {r : Answer} → Steps T bs r S → r .refusal ≢ 0 → (S ≡ T) × (r ≡ refused-with (r .refusal))
+refusal-changes-nothing {T} {S} {bs} {r} c refusing =
+    let s = step-is c in
+    let k = refuses (step-of T bs .reply) (λ z. refusing (ap (λ (a : Answer). a .refusal) (s .0) ∙ z)) in
+    let e : r ≡ refused-with (k .0) = s .0 ∙ ap answered (k .1) in
+    (s .1 ∙ demands .of-any-tables T .refusal-changes-nothing bs (k .0) (k .1), e ∙ ap (λ (a : Answer). refused-with (a .refusal)) (sym e))
+
+pub refusal-number : {T S : Tables} {bs : List ℕ} {r : Answer} → Steps T bs r S → r .refusal ≤ 8
+unfolding answer-of
+refusal-number {T} {S} {bs} {r} c = go (step-of T bs .reply) refl (step-is c .0)
+  where
+    go : (x : Reply) → step-of T bs .reply ≡ x → r ≡ answered x → r .refusal ≤ 8
+    go (accepted fs) e h = let k : r .refusal ≡ 0 = ap (λ (a : Answer). a .refusal) h in omega arith
+    go (not-accepted k) e h = let j : r .refusal ≡ k = ap (λ (a : Answer). a .refusal) h in omega (arith, demands .of-any-tables T .refusal-numbered bs k e .1)
+
+-- ---- after a start
+
+pub tables-are : {T S : Tables} {calls : List (List ℕ)} → Called T calls S → S ≡ from-start T calls
+unfolding after
+tables-are (started c) = start-is c
+tables-are (stepped {calls} {S} {S'} {bs} {r} before c) = step-is c .1 ∙ ap (λ (X : Tables). step-of X bs .left) (tables-are before)
+
+pub answers : {T S S' : Tables} {calls : List (List ℕ)} {bs : List ℕ} {r : Answer} → Long T → Called T calls S → Steps S bs r S'
+    → r ≡ answered (reply (room-of T) (heard-by T calls) bs)
+answers {T} {S} {S'} {calls} {bs} {r} long before c =
+    step-is c .0
+    ∙ ap (λ (X : Tables). answered (step-of X bs .reply)) (tables-are before)
+    ∙ ap answered (demands .from-a-start T long calls .replies bs)

@@ -1,0 +1,34 @@
+-- What is demanded of the code, each demand as one statement about calls of its public functions. Assumes nothing.
+use Prim.Native.Nat.{ℕ, _≤_}
+use mathlib.Core.Path.{_≡_}
+use mathlib.Core.Logic.{_≢_}
+use mathlib.Core.Bool.{false}
+use mathlib.Core.List.{List}
+use lib.ListN.{length, take}
+use Rattle.lines.specs.Line.{most-handles}
+use Rattle.lines.specs.declared.Event.{Event}
+use Rattle.lines.specs.declared.Event.the-variants as Event
+use Rattle.lines.specs.declared.Wrote.{Wrote}
+use Rattle.lines.specs.declared.Wrote.the-variants as Wrote
+use Rattle.history.specs.Replies.{reply}
+use Rattle.answers.specs.declared.Answer.{Answer}
+use Rattle.answers.specs.Answer.{refused-with, answered}
+use Rattle.tables.specs.Tables.{Tables}
+use Rattle.demands.specs.Calls.{room-of, Long, from-start, heard-by}
+use Rattle.promises.specs.Calls.{Reads, Writes, Starts, Steps, Called}
+
+pub record Promises : Type 0 where
+  -- demand 1: "A refusal gives its number from document 01 and changes no table, no count and no finding", whatever the tables hold
+  pub refusal-changes-nothing : {T S : Tables} {bs : List ℕ} {r : Answer} → Steps T bs r S → r .refusal ≢ 0 → (S ≡ T) × (r ≡ refused-with (r .refusal))
+  pub refusal-number : {T S : Tables} {bs : List ℕ} {r : Answer} → Steps T bs r S → r .refusal ≤ 8
+  -- demand 2: "Writing an event and reading it gives that event"
+  pub written-is-read : {d d' hs gs : List ℕ} {e x : Event} {n : ℕ} → length hs ≡ most-handles
+      → Writes d e hs (Wrote.Bytes n) d' → Reads (take n d') x gs → (x ≡ e) × (gs ≡ hs)
+  -- "reading an allowed line and writing it gives those bytes", where they have room
+  pub read-is-written : {bs d d' hs : List ℕ} {e : Event} {r : Wrote} → ((k : ℕ) → e ≢ Event.Refused k) → length bs ≤ length d
+      → Reads bs e hs → Writes d e hs r d' → (r ≡ Wrote.Bytes (length bs)) × (take (length bs) d' ≡ bs)
+  -- demand 3: after a start and any calls the step's answer is the history's reply to the lines heard, whatever stood in the tables before
+  pub answers : {T S S' : Tables} {calls : List (List ℕ)} {bs : List ℕ} {r : Answer} → Long T → Called T calls S → Steps S bs r S'
+      → r ≡ answered (reply (room-of T) (heard-by T calls) bs)
+  -- and the tables are those of which `demands: From-a-start` speaks
+  pub tables-are : {T S : Tables} {calls : List (List ℕ)} → Called T calls S → S ≡ from-start T calls

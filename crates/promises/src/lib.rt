@@ -1,0 +1,1 @@
+// The demands, said of the functions themselves. There is no code here.
