@@ -4,6 +4,7 @@ pub mod Counts
 pub mod Order
 pub mod Threads
 pub mod Acts
+pub mod Changes
 pub mod Living
 pub mod OneMore
 pub mod Buffers

@@ -2,7 +2,8 @@
 use mathlib.Core.Path.{refl}
 use Rattle.history.specs.Sentences.{On-breaches, On-handles, On-buffers, On-lines, On-refusals, On-replies, Shut-out}
 use Rattle.history.proofs.Living.{living-are, local-alive, shared-alive}
-use Rattle.history.proofs.Acts.{enter-frames, enter-capacities, enter-pending, pop-frames, pop-nothing, return-pending, call-pending, push-frames, ensure-capacities, enter-monitors, exit-monitors, other-status-frames, other-status-capacities, other-status-monitors}
+use Rattle.history.proofs.Acts.{enter-items, call-items, leave-items, return-items, enter-frames, enter-capacities, enter-pending, pop-frames, pop-nothing, pop-capacities, return-pending, call-pending, push-frames, enter-monitors, exit-monitors, other-status-frames, other-status-capacities, other-status-monitors}
+use Rattle.history.proofs.Changes.{nothing-at-start, items-kept, frames-kept, capacities-kept, pending-kept, monitors-kept}
 use Rattle.history.proofs.Breaches.{breaches-are}
 use Rattle.history.proofs.Findings.{findings-are, findings-ordered, found-once}
 use Rattle.history.proofs.Most.{one-a-place, at-most}
@@ -10,10 +11,10 @@ use Rattle.history.proofs.Once.{alive-once, local-placed, shared-kind}
 use Rattle.history.proofs.Buffers.{gets-are, releases-are, got-and-released}
 use Rattle.history.proofs.Families.{families-agree, paired, of-its-thread, of-no-thread}
 use Rattle.history.proofs.Capacities.{capacities-fit}
-use Rattle.history.proofs.Calls.{matching-call, matching-push, native-closes, nothing-of-it-lives}
+use Rattle.history.proofs.Calls.{matching-call, matching-push, matching-ensure, native-closes, nothing-of-it-lives}
 use Rattle.history.proofs.Kept.{capacities-close}
 use Rattle.history.proofs.Others.{other-threads}
-use Rattle.history.proofs.Envs.{env-of-first, envs-apart}
+use Rattle.history.proofs.Envs.{env-of-first, no-env, envs-apart}
 use Rattle.history.proofs.Accepting.{accepted-before}
 use Rattle.history.proofs.Refusals.{refusal-is, seven-is-room, within-room, never-eight}
 use Rattle.history.proofs.Rooms.{run-more}
@@ -36,21 +37,32 @@ pub on-lines : On-lines
 on-lines =
     record {
       named = (refl, refl, refl, refl, refl, refl, refl, refl);
+      nothing-at-start = nothing-at-start;
+      enter-items = enter-items;
+      call-items = call-items;
+      leave-items = leave-items;
+      return-items = return-items;
       enter-frames = enter-frames;
       enter-capacities = enter-capacities;
       enter-pending = enter-pending;
       pop-frames = pop-frames;
       pop-nothing = pop-nothing;
+      pop-capacities = pop-capacities;
       return-pending = return-pending;
       call-pending = call-pending;
       push-frames = push-frames;
       matching-push = matching-push;
-      ensure-capacities = ensure-capacities;
+      matching-ensure = matching-ensure;
       enter-monitors = enter-monitors;
       exit-monitors = exit-monitors;
       other-status-frames = other-status-frames;
       other-status-capacities = other-status-capacities;
       other-status-monitors = other-status-monitors;
+      items-kept = items-kept;
+      frames-kept = frames-kept;
+      capacities-kept = capacities-kept;
+      pending-kept = pending-kept;
+      monitors-kept = monitors-kept;
       capacities-fit = capacities-fit;
       matching-call = matching-call;
       native-closes = native-closes;
@@ -58,6 +70,7 @@ on-lines =
       nothing-of-it-lives = nothing-of-it-lives;
       other-threads = other-threads;
       env-of-first = env-of-first;
+      no-env = no-env;
       envs-apart = envs-apart;
     }
 

@@ -16,6 +16,7 @@ pub mod Paper
 pub mod Order
 pub mod Accepted
 pub mod Whole
+pub mod Changes
 pub mod Refusals
 pub mod Times
 pub mod Same
