@@ -28,6 +28,7 @@ pub mod Rooms
 pub mod Reading
 pub mod Replies
 pub mod Report
+pub mod Cut
 pub mod ShutOut
 pub mod Worked
 mod Cases

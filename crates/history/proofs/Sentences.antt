@@ -1,6 +1,6 @@
 -- All the sentences, proved. Assumes nothing.
 use mathlib.Core.Path.{refl}
-use Rattle.history.specs.Sentences.{On-breaches, On-handles, On-buffers, On-lines, On-refusals, On-replies, Shut-out}
+use Rattle.history.specs.Sentences.{On-breaches, On-handles, On-buffers, On-lines, On-refusals, On-input, On-replies, Shut-out}
 use Rattle.history.proofs.Living.{living-are, local-alive, shared-alive}
 use Rattle.history.proofs.Acts.{enter-items, call-items, leave-items, return-items, enter-frames, enter-capacities, enter-pending, pop-frames, pop-nothing, pop-capacities, return-pending, call-pending, push-frames, enter-monitors, exit-monitors, other-status-frames, other-status-capacities, other-status-monitors}
 use Rattle.history.proofs.Changes.{nothing-at-start, items-kept, frames-kept, capacities-kept, pending-kept, monitors-kept}
@@ -19,6 +19,7 @@ use Rattle.history.proofs.Accepting.{accepted-before}
 use Rattle.history.proofs.Refusals.{refusal-is, seven-is-room, within-room, never-eight}
 use Rattle.history.proofs.Rooms.{run-more}
 use Rattle.history.proofs.Replies.{verdict-is, after-Z, heard-accepted, refusal-changes-nothing, refused-number, told-all, whole-run, run-told}
+use Rattle.history.proofs.Cut.{lines-joined, lines-cut}
 use Rattle.history.proofs.Report.{end-counts, refused-word, closed-word, open-word}
 use Rattle.history.proofs.ShutOut.{not-always-refused, not-one-reply, each-letter, not-first-only}
 
@@ -77,6 +78,9 @@ on-lines =
 pub on-refusals : On-refusals
 on-refusals =
     record { refusal-is = refusal-is; seven-is-room = seven-is-room; within-room = within-room; never-eight = never-eight; accepted-before = accepted-before; run-more = run-more }
+
+pub on-input : On-input
+on-input = record { lines-joined = lines-joined; lines-cut = lines-cut }
 
 pub on-replies : On-replies
 on-replies =

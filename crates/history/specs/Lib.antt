@@ -22,6 +22,7 @@ pub mod Times
 pub mod Same
 pub mod Verdicts
 pub mod Runs
+pub mod Cut
 pub mod Families
 pub mod Bounds
 pub mod Sentences

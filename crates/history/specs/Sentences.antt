@@ -8,7 +8,7 @@ use mathlib.Core.Option.{some}
 use lib.Dec.{eqb}
 use lib.IntN.{ℤ, pos}
 use lib.ListN.{length}
-use Rattle.words.specs.Lists.{any, count}
+use Rattle.words.specs.Lists.{any, count, joined}
 use Rattle.words.specs.Text.{bytes, line-feed}
 use Rattle.facts.specs.Table.{_/_, fact-of, is-function, families, family, is-critical}
 use Rattle.facts.specs.Named.{PushLocalFrame, PopLocalFrame, DeleteGlobalRef, DeleteLocalRef, EnsureLocalCapacity, MonitorEnter, MonitorExit, DeleteWeakGlobalRef}
@@ -27,7 +27,7 @@ use Rattle.history.specs.Acceptance.{Room, refusal}
 use Rattle.history.specs.Breaches.{breach}
 use Rattle.history.specs.Findings.{of-line, findings}
 use Rattle.history.specs.Replies.{verdict, accepted, not-accepted, reply, heard}
-use Rattle.history.specs.Report.{Run, last-field, end-word, run, shown}
+use Rattle.history.specs.Report.{Run, last-field, end-word, run, lines-of, shown}
 use Rattle.history.specs.declared.Finding.{Finding}
 use Rattle.history.specs.Lives.{Lives, Local-lives}
 use Rattle.history.specs.Paper.{Broken}
@@ -40,6 +40,7 @@ use Rattle.history.specs.Times.{Gets, Releases, got, released}
 use Rattle.history.specs.Same.{Same-for}
 use Rattle.history.specs.Verdicts.{Weighs}
 use Rattle.history.specs.Runs.{told, Runs, Roomier, program-room, line}
+use Rattle.history.specs.Cut.{Cut}
 use Rattle.history.specs.Families.{is-get, is-release}
 use Rattle.history.specs.Bounds.{Bounded}
 
@@ -171,6 +172,12 @@ pub record On-refusals : Type 0 where
   pub accepted-before : (room : Room) (newer past : History) → Accepted room (newer ++ past) → Accepted room past
   -- more room, and no 7 from the smaller: equal runs
   pub run-more : (a b : Room) → Roomier a b → (lines : List (List ℕ)) (past : History) → run a past lines .refusal ≢ 7 → run b past lines ≡ run a past lines
+
+pub record On-input : Type 0 where
+  -- joined again, the lines are the input
+  pub lines-joined : (input : List ℕ) → joined (lines-of input) (λ bs. bs) ≡ input
+  -- a line ends with its LF, and has no other; what is left at the end, if anything, is a line too, without its LF
+  pub lines-cut : (input : List ℕ) → Cut (lines-of input)
 
 pub record On-replies : Type 0 where
   -- a lent line after accepted lines is what document 01 says, in its order: line 1,000,001 is 1 whatever it holds; 1, 2 and 3 come before 4
