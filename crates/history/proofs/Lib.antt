@@ -21,6 +21,7 @@ pub mod Kept
 pub mod Accepting
 pub mod Stacks
 pub mod Once
+pub mod Leaks
 pub mod Turns
 pub mod Refusals
 pub mod Envs

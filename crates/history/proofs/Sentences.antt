@@ -8,6 +8,7 @@ use Rattle.history.proofs.Breaches.{breaches-are}
 use Rattle.history.proofs.Findings.{findings-are, findings-ordered, found-once}
 use Rattle.history.proofs.Most.{one-a-place, at-most}
 use Rattle.history.proofs.Once.{alive-once, local-placed, shared-kind}
+use Rattle.history.proofs.Leaks.{leaks-by-kind}
 use Rattle.history.proofs.Buffers.{gets-are, releases-are, got-and-released}
 use Rattle.history.proofs.Families.{families-agree, paired, of-its-thread, of-no-thread}
 use Rattle.history.proofs.Capacities.{capacities-fit}
@@ -25,7 +26,7 @@ use Rattle.history.proofs.ShutOut.{not-always-refused, not-one-reply, e
 
 pub on-breaches : On-breaches
 on-breaches =
-    record { breaches-are = breaches-are; findings-are = findings-are; findings-ordered = findings-ordered; found-once = found-once; one-a-place = one-a-place; at-most = at-most }
+    record { breaches-are = breaches-are; findings-are = findings-are; findings-ordered = findings-ordered; found-once = found-once; one-a-place = one-a-place; at-most = at-most; leaks-by-kind = leaks-by-kind }
 
 pub on-handles : On-handles
 on-handles =

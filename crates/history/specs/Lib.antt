@@ -12,6 +12,7 @@ pub mod Findings
 pub mod Replies
 pub mod Report
 pub mod Lives
+pub mod Kinds
 pub mod Paper
 pub mod Order
 pub mod Accepted

@@ -30,6 +30,7 @@ use Rattle.history.specs.Replies.{verdict, accepted, not-accepted, reply
 use Rattle.history.specs.Report.{Run, last-field, end-word, run, lines-of, shown}
 use Rattle.history.specs.declared.Finding.{Finding}
 use Rattle.history.specs.Lives.{Lives, Local-lives}
+use Rattle.history.specs.Kinds.{of-kind}
 use Rattle.history.specs.Paper.{Broken}
 use Rattle.history.specs.Order.{Breached, Ordered, most-findings}
 use Rattle.history.specs.Accepted.{Accepted}
@@ -57,6 +58,9 @@ pub record On-breaches : Type 0 where
   pub one-a-place : (past : History) (e : Line) (place r s v w : ℕ) → 1 ≤ place → Broken past e r place v → Broken past e s place w → (r ≡ s) × (v ≡ w)
   -- and a line at most six
   pub at-most : (line : ℕ) (e : Line) (v : Seen) → length (of-line line e v) ≤ most-findings e
+  -- on Z, 10 globals and weaks alive: as many as are of kind 2, and as many as are of kind 3
+  pub leaks-by-kind : (room : Room) (past : History) → Accepted room past → (k : ℕ)
+      → Broken past Z 10 0 k ↔ ((k ≡ count (of-kind 2) (living (Z ∷ past)) + count (of-kind 3) (living (Z ∷ past))) × (0 < k))
 
 pub record On-handles : Type 0 where
   -- alive: an earlier line made it and no line since has ended it
