@@ -1,10 +1,11 @@
 -- What lines do to a thread's stacks, pending exception and monitors, sentence by sentence. Assumes nothing.
-use Prim.Native.Nat.{ℕ, suc, pred, _+_, max}
-use mathlib.Core.Path.{_≡_, ap, _∙_}
+use Prim.Native.Nat.{ℕ, suc, pred, _+_, _-_, max}
+use mathlib.Core.Path.{_≡_, ap, ap₂, _∙_}
 use mathlib.Core.Bool.{Bool, false, _&&_, and-false}
 use mathlib.Core.List.{List, _∷_, tail}
 use lib.Dec.{eqb}
 use lib.IntN.{ℤ, pos}
+use lib.ListN.{length, drop}
 use Rattle.words.specs.Choice.{if_then_else_}
 use Rattle.facts.specs.Named.{PushLocalFrame, PopLocalFrame, EnsureLocalCapacity, MonitorEnter, MonitorExit}
 use Rattle.lines.specs.Line.{N, X, C, R, is-zero, above-zero}
@@ -16,6 +17,7 @@ use Rattle.history.specs.Capacities.{capacities, raised}
 use Rattle.history.specs.Thread.{pending, monitors}
 use Rattle.history.proofs.Tests.{eqb-self}
 use Rattle.history.proofs.Threads.{own-items, own-frames, own-capacities, own-pending, own-monitors}
+use Rattle.history.proofs.Capacities.{one-dropped}
 
 -- ---- N
 
@@ -71,6 +73,15 @@ pop-frames t env a b c n past below is = own-frames t (C t env PopLocalFrame a b
 pub pop-nothing : (t env a b c : ℕ) (n : ℤ) (past : History) (below : List Frame) → frames t past ≡ entered ∷ below
     → frames t (C t env PopLocalFrame a b c n ∷ past) ≡ entered ∷ below
 pop-nothing t env a b c n past below is = own-frames t (C t env PopLocalFrame a b c n) past (eqb-self t) ∙ ap without-pushed is
+
+-- the capacity of the frame that it ends goes with it
+pub pop-capacities : (t env a b c : ℕ) (n : ℤ) (past : History) (below : List Frame) → frames t past ≡ pushed ∷ below
+    → capacities t (C t env PopLocalFrame a b c n ∷ past) ≡ tail (capacities t past)
+unfolding depth
+pop-capacities t env a b c n past below is =
+    own-capacities t (C t env PopLocalFrame a b c n) past (eqb-self t)
+    ∙ ap₂ (λ (fs gs : List Frame). drop (length fs - length gs) (capacities t past)) is (pop-frames t env a b c n past below is)
+    ∙ one-dropped (length below) (capacities t past)
 
 -- ---- R
 

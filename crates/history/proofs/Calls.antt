@@ -1,5 +1,5 @@
 -- Whole calls: they leave a thread's open items as they were, and an X leaves its frames and locals as they were before its N. Assumes nothing.
-use Prim.Native.Nat.{ℕ, _≤_, _<_}
+use Prim.Native.Nat.{ℕ, _+_, _≤_, _<_, max}
 use mathlib.Core.Path.{_≡_, refl, ap, _∙_}
 use mathlib.Core.Bool.{Bool, true, false, _&&_}
 use mathlib.Core.List.{List, [], _∷_, _++_, tail, append-assoc, List·Memᴰ}
@@ -9,19 +9,19 @@ use lib.IntN.{ℤ, pos}
 use lib.ListN.{length}
 use borrow.Author.Tests.{ltb-false}
 use Rattle.words.specs.Choice.{if_then_else_}
-use Rattle.facts.specs.Named.{PushLocalFrame, PopLocalFrame}
+use Rattle.facts.specs.Named.{PushLocalFrame, PopLocalFrame, EnsureLocalCapacity}
 use Rattle.lines.specs.Line.{Line, N, X, C, R, is-zero, above-zero}
 use Rattle.history.specs.Past.{History}
 use Rattle.history.specs.Items.{Item, in-call, items, top-of, asked}
 use Rattle.history.specs.Frames.{Frame, entered, pushed, frames, without-native, without-pushed, depth}
-use Rattle.history.specs.Handles.{Alive, local, shared, living}
+use Rattle.history.specs.Handles.{Alive, local, shared, living, alive-in}
 use Rattle.history.specs.Capacities.{capacities}
 use Rattle.history.specs.Lives.{Makes, argument, local-result, global-result, weak-result, Lives}
 use Rattle.history.specs.Whole.{Whole, nothing-yet, another, native-call, function-call}
 use Rattle.history.proofs.Tests.{eqb-self}
 use Rattle.history.proofs.Threads.{own-items, other-items, own-frames, other-frames}
 use Rattle.history.proofs.Living.{frame-stands, unless-made, living-are}
-use Rattle.history.proofs.Acts.{push-capacities}
+use Rattle.history.proofs.Acts.{push-capacities, ensure-capacities}
 use Rattle.history.proofs.Capacities.{native-less}
 use Rattle.history.proofs.Others.{alive-beside}
 
@@ -53,6 +53,15 @@ pub matching-push : (t env a b c p : ℕ) (n : ℤ) (inside past : History) → 
 matching-push t env a b c p n inside past w =
     push-capacities t p (inside ++ (C t env PushLocalFrame a b c n ∷ past))
     ∙ ap (λ (is : List Item). asked (top-of is) ∷ capacities t (inside ++ (C t env PushLocalFrame a b c n ∷ past))) (matching-call t env PushLocalFrame a b c n inside past w)
+
+-- and 26 raises by the max(n,0) of its own
+pub matching-ensure : (t env a b c p : ℕ) (n : ℤ) (inside past : History) → Whole t inside → (old : ℕ) (lower : List ℕ)
+    → let before : History = inside ++ (C t env EnsureLocalCapacity a b c n ∷ past) in
+    capacities t before ≡ old ∷ lower → capacities t (R t EnsureLocalCapacity (pos 0) p ∷ before) ≡ max old (alive-in t (depth t before) before + above-zero n) ∷ lower
+matching-ensure t env a b c p n inside past w old lower is =
+    let before : History = inside ++ (C t env EnsureLocalCapacity a b c n ∷ past) in
+    ensure-capacities t p before old lower is
+    ∙ ap (λ (is : List Item). max old (alive-in t (depth t before) before + asked (top-of is)) ∷ lower) (matching-call t env EnsureLocalCapacity a b c n inside past w)
 
 -- ---- frames
 

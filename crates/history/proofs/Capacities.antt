@@ -2,7 +2,8 @@
 use Prim.Native.Nat.{ℕ, suc, _+_, _-_, _≤_}
 use mathlib.Core.Path.{_≡_, refl, ap, _∙_}
 use mathlib.Core.Bool.{Bool, true, false, not, _&&_}
-use mathlib.Core.List.{List, [], _∷_}
+use mathlib.Core.List.{List, [], _∷_, tail}
+use native.Mathlib.Nat.{sub-self}
 use native.Mathlib.Omega.{arith}
 use lib.Dec.{eqb}
 use lib.ListN.{length, drop, length-drop}
@@ -28,6 +29,20 @@ pushed-less (pushed ∷ fs) = omega arith
 
 dropped : (n m : ℕ) (cs : List ℕ) → length cs ≡ n → m ≤ n → length (drop (n - m) cs) ≡ m
 dropped n m cs h k = omega (arith, length-drop (n - m) cs, h)
+
+-- the capacities left where no frame goes, and where one goes
+pub nothing-dropped : (n : ℕ) (cs : List ℕ) → drop (n - n) cs ≡ cs
+nothing-dropped n cs = rw sub-self
+
+pub one-dropped : (n : ℕ) (cs : List ℕ) → drop (suc n - n) cs ≡ tail cs
+one-dropped n cs = ap (λ (k : ℕ). drop k cs) one ∙ go cs
+  where
+    one : suc n - n ≡ 1
+    one = omega arith
+
+    go : (cs : List ℕ) → drop 1 cs ≡ tail cs
+    go [] = refl
+    go (c ∷ cs) = refl
 
 raised-length : (k : ℕ) (cs : List ℕ) → length (raised k cs) ≡ length cs
 raised-length k [] = refl

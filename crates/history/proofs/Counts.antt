@@ -43,6 +43,19 @@ module _ {ℓ} {A : Type ℓ} where
   pub count-length : (f : A → Bool) (l : List A) → count f l ≤ length l
   count-length f l = omega (arith, count-le f (λ x. true) (λ x h. refl) l, count-all l)
 
+  -- those of f in two parts: those of g and those of h
+  pub count-parts : (f g h : A → Bool) (l : List A) → ((x : A) → List·Memᴰ x l → one (f x) ≡ one (g x) + one (h x)) → count f l ≡ count g l + count h l
+  count-parts f g h [] e = refl
+  count-parts f g h (x ∷ l) e =
+      omega (
+        arith,
+        count-cons f x l,
+        count-cons g x l,
+        count-cons h x l,
+        e x (List·Memᴰ·head refl),
+        count-parts f g h l (λ y m. e y (List·Memᴰ·tail m)),
+      )
+
   -- of those kept, as many pass as before, if none that passes was taken
   pub count-kept : (f g : A → Bool) → ((x : A) → f x ≡ true → g x ≡ true) → (l : List A) → count f (keep g l) ≡ count f l
   count-kept f g h l = count-keep f g l ∙ ap (λ (test : A → Bool). count test l) (fun-ext λ x. go (f x) (g x) (h x))

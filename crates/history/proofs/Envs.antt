@@ -15,7 +15,7 @@ use Rattle.history.specs.Seen.{seen}
 use Rattle.history.specs.Acceptance.{Room, env-right}
 use Rattle.history.specs.Accepted.{Accepted, at-start, and-line}
 use Rattle.history.specs.Refusals.{shared-env}
-use Rattle.history.proofs.Tests.{and-left, and-right, true-not-false, eqb-self}
+use Rattle.history.proofs.Tests.{and-left, and-right, true-not-false, whether, eqb-self}
 use Rattle.history.proofs.Threads.{own-env, other-env-of}
 use Rattle.history.proofs.Turns.{env-is}
 use Rattle.history.proofs.Accepting.{passed}
@@ -30,14 +30,10 @@ env-kept (R t f r p) v nz = refl
 env-kept Z v nz = refl
 
 unchanged : (t : ℕ) (e : Line) (past : History) → env-after e (env-of t past) ≡ env-of t past → env-of t (e ∷ past) ≡ env-of t past
-unchanged t e past h = go (is-of t e) refl
-  where
-    go : (q : Bool) → is-of t e ≡ q → env-of t (e ∷ past) ≡ env-of t past
-    go true o = own-env t e past o ∙ h
-    go false o = other-env-of t e past o
+unchanged t e past h = whether (is-of t e) (λ o. own-env t e past o ∙ h) (other-env-of t e past)
 
 -- without an N it has none
-no-env : (t : ℕ) (past : History) → ((env : ℕ) (hs : List ℕ) → ¬ List·Memᴰ (N t env hs) past) → env-of t past ≡ 0
+pub no-env : (t : ℕ) (past : History) → ((env : ℕ) (hs : List ℕ) → ¬ List·Memᴰ (N t env hs) past) → env-of t past ≡ 0
 unfolding env-of through
 no-env t [] h = refl
 no-env t (N s env hs ∷ past) h = go (eqb t s) refl (no-env t past (λ v gs m. h v gs (List·Memᴰ·tail m)))

@@ -19,7 +19,7 @@ use Rattle.history.specs.Whole.{Whole, nothing-yet, another, native-call
 use Rattle.history.proofs.Tests.{eqb-self}
 use Rattle.history.proofs.Threads.{own-frames, other-frames, own-capacities, other-capacities}
 use Rattle.history.proofs.Acts.{enter-frames, enter-capacities, leave-frames}
-use Rattle.history.proofs.Capacities.{native-less, capacities-fit}
+use Rattle.history.proofs.Capacities.{native-less, nothing-dropped, one-dropped, capacities-fit}
 use Rattle.history.proofs.Calls.{below-top, native-closes}
 
 -- the capacities of the frames that X leaves
@@ -48,24 +48,12 @@ lower-raised k fs (c ∷ cs) h = ap (λ (n : ℕ). drop n (max c k ∷ cs)) some
     some-gone : length fs - length (without-native fs) ≡ suc (length fs - length (without-native fs) - 1)
     some-gone = omega (arith, below-top fs (omega (arith, h)))
 
-nothing-dropped : (n : ℕ) (cs : List ℕ) → drop (n - n) cs ≡ cs
-nothing-dropped n cs = ap (λ (k : ℕ). drop k cs) none
-  where
-    none : n - n ≡ 0
-    none = omega arith
-
-one-dropped : (n c : ℕ) (cs : List ℕ) → drop (suc n - n) (c ∷ cs) ≡ cs
-one-dropped n c cs = ap (λ (k : ℕ). drop k (c ∷ cs)) one
-  where
-    one : suc n - n ≡ 1
-    one = omega arith
-
 called : (b : Bool) (fs : List Frame) (cs : List ℕ) → length cs ≡ length fs
     → lower (if b then without-pushed fs else fs) (drop (length fs - length (if b then without-pushed fs else fs)) cs) ≡ lower fs cs
 called true [] cs h = ap (lower []) (nothing-dropped 0 cs)
 called true (entered ∷ fs) cs h = ap (lower (entered ∷ fs)) (nothing-dropped (suc (length fs)) cs)
 called true (pushed ∷ fs) [] h = absurd (omega (arith, h))
-called true (pushed ∷ fs) (c ∷ cs) h = ap (lower fs) (one-dropped (length fs) c cs) ∙ sym (lower-pushed c fs cs)
+called true (pushed ∷ fs) (c ∷ cs) h = ap (lower fs) (one-dropped (length fs) (c ∷ cs)) ∙ sym (lower-pushed c fs cs)
 called false fs cs h = ap (lower fs) (nothing-dropped (length fs) cs)
 
 returned : (z q u : Bool) (held n : ℕ) (fs : List Frame) (cs : List ℕ) → length cs ≡ length fs

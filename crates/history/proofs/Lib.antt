@@ -4,6 +4,7 @@ pub mod Counts
 pub mod Order
 pub mod Threads
 pub mod Acts
+pub mod Changes
 pub mod Living
 pub mod OneMore
 pub mod Buffers
@@ -20,12 +21,14 @@ pub mod Kept
 pub mod Accepting
 pub mod Stacks
 pub mod Once
+pub mod Leaks
 pub mod Turns
 pub mod Refusals
 pub mod Envs
 pub mod Rooms
 pub mod Replies
 pub mod Report
+pub mod Cut
 pub mod ShutOut
 pub mod Worked
 mod Cases

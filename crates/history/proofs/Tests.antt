@@ -57,6 +57,10 @@ never-false false h = absurd (h refl)
 pub true-not-false : {A : Type 0} (b : Bool) → b ≡ true → b ≡ false → A
 true-not-false b h k = absurd (false≢true (sym k ∙ h))
 
+pub whether : {A : Type 0} (b : Bool) → (b ≡ true → A) → (b ≡ false → A) → A
+whether true x y = x refl
+whether false x y = y refl
+
 pub eqb-self : (n : ℕ) → eqb n n ≡ true
 eqb-self n = eq-eqb n n refl
 

@@ -3,12 +3,12 @@ use Prim.Native.Nat.{ℕ, suc, pred, _+_, _≤_, _<_, max}
 use mathlib.Core.Path.{_≡_}
 use mathlib.Core.Logic.{_⊎_, _≢_, _↔_}
 use mathlib.Core.Bool.{true, false}
-use mathlib.Core.List.{List, [], _∷_, _++_, List·Memᴰ}
+use mathlib.Core.List.{List, [], _∷_, _++_, tail, List·Memᴰ}
 use mathlib.Core.Option.{some}
 use lib.Dec.{eqb}
 use lib.IntN.{ℤ, pos}
 use lib.ListN.{length}
-use Rattle.words.specs.Lists.{any, count}
+use Rattle.words.specs.Lists.{any, count, joined}
 use Rattle.words.specs.Text.{bytes, line-feed}
 use Rattle.facts.specs.Table.{_/_, fact-of, is-function, families, family, is-critical}
 use Rattle.facts.specs.Named.{PushLocalFrame, PopLocalFrame, DeleteGlobalRef, DeleteLocalRef, EnsureLocalCapacity, MonitorEnter, MonitorExit, DeleteWeakGlobalRef}
@@ -16,7 +16,7 @@ use Rattle.facts.specs.Results.{is-buffer-result, is-buffer-place}
 use Rattle.lines.specs.Line.{Line, N, X, C, R, Z, kind, is-zero, above-zero}
 use Rattle.lines.specs.Reading.{Read, says, refused, read}
 use Rattle.history.specs.Past.{History, is-of}
-use Rattle.history.specs.Items.{in-call, items, top-of, asked}
+use Rattle.history.specs.Items.{in-native, in-call, items}
 use Rattle.history.specs.Frames.{Frame, entered, pushed, frames, depth}
 use Rattle.history.specs.Handles.{Alive, local, shared, is-local, is-shared, same-handle, living, alive-in}
 use Rattle.history.specs.Capacities.{capacities}
@@ -27,18 +27,21 @@ use Rattle.history.specs.Acceptance.{Room, refusal}
 use Rattle.history.specs.Breaches.{breach}
 use Rattle.history.specs.Findings.{of-line, findings}
 use Rattle.history.specs.Replies.{verdict, accepted, not-accepted, reply, heard}
-use Rattle.history.specs.Report.{Run, last-field, end-word, run, shown}
+use Rattle.history.specs.Report.{Run, last-field, end-word, run, lines-of, shown}
 use Rattle.history.specs.declared.Finding.{Finding}
 use Rattle.history.specs.Lives.{Lives, Local-lives}
+use Rattle.history.specs.Kinds.{of-kind}
 use Rattle.history.specs.Paper.{Broken}
 use Rattle.history.specs.Order.{Breached, Ordered, most-findings}
 use Rattle.history.specs.Accepted.{Accepted}
 use Rattle.history.specs.Whole.{Whole}
+use Rattle.history.specs.Changes.{Changes-items, Changes-frames, Changes-capacities, Changes-pending, Changes-monitors}
 use Rattle.history.specs.Refusals.{Exceeds, Given}
 use Rattle.history.specs.Times.{Gets, Releases, got, released}
 use Rattle.history.specs.Same.{Same-for}
 use Rattle.history.specs.Verdicts.{Weighs}
 use Rattle.history.specs.Runs.{told, Runs, Roomier, program-room, line}
+use Rattle.history.specs.Cut.{Cut}
 use Rattle.history.specs.Families.{is-get, is-release}
 use Rattle.history.specs.Bounds.{Bounded}
 
@@ -55,6 +58,9 @@ pub record On-breaches : Type 0 where
   pub one-a-place : (past : History) (e : Line) (place r s v w : ℕ) → 1 ≤ place → Broken past e r place v → Broken past e s place w → (r ≡ s) × (v ≡ w)
   -- and a line at most six
   pub at-most : (line : ℕ) (e : Line) (v : Seen) → length (of-line line e v) ≤ most-findings e
+  -- on Z, 10 globals and weaks alive: as many as are of kind 2, and as many as are of kind 3
+  pub leaks-by-kind : (room : Room) (past : History) → Accepted room past → (k : ℕ)
+      → Broken past Z 10 0 k ↔ ((k ≡ count (of-kind 2) (living (Z ∷ past)) + count (of-kind 3) (living (Z ∷ past))) × (0 < k))
 
 pub record On-handles : Type 0 where
   -- alive: an earlier line made it and no line since has ended it
@@ -90,6 +96,13 @@ pub record On-lines : Type 0 where
   -- the functions that do more than take places and give a result, by their numbers
   pub named : (PushLocalFrame ≡ 19) × (PopLocalFrame ≡ 20) × (DeleteGlobalRef ≡ 22) × (DeleteLocalRef ≡ 23) × (EnsureLocalCapacity ≡ 26)
       × (MonitorEnter ≡ 217) × (MonitorExit ≡ 218) × (DeleteWeakGlobalRef ≡ 227)
+  -- at a start a thread has nothing
+  pub nothing-at-start : (t : ℕ) → (items t [] ≡ []) × (frames t [] ≡ []) × (capacities t [] ≡ []) × (pending t [] ≡ 0) × (monitors t [] ≡ 0)
+  -- N opens a native, C a call; X and R close the top
+  pub enter-items : (t env : ℕ) (hs : List ℕ) (past : History) → items t (N t env hs ∷ past) ≡ in-native ∷ items t past
+  pub call-items : (t env f a b c : ℕ) (n : ℤ) (past : History) → items t (C t env f a b c n ∷ past) ≡ in-call f (above-zero n) ∷ items t past
+  pub leave-items : (t r : ℕ) (past : History) → items t (X t r ∷ past) ≡ tail (items t past)
+  pub return-items : (t f p : ℕ) (r : ℤ) (past : History) → items t (R t f r p ∷ past) ≡ tail (items t past)
   -- N opens a frame of capacity 16
   pub enter-frames : (t env : ℕ) (hs : List ℕ) (past : History) → frames t (N t env hs ∷ past) ≡ entered ∷ frames t past
   pub enter-capacities : (t env : ℕ) (hs : List ℕ) (past : History) → capacities t (N t env hs ∷ past) ≡ 16 ∷ capacities t past
@@ -100,6 +113,9 @@ pub record On-lines : Type 0 where
       → frames t (C t env PopLocalFrame a b c n ∷ past) ≡ below
   pub pop-nothing : (t env a b c : ℕ) (n : ℤ) (past : History) (below : List Frame) → frames t past ≡ entered ∷ below
       → frames t (C t env PopLocalFrame a b c n ∷ past) ≡ entered ∷ below
+  -- and its capacity with it
+  pub pop-capacities : (t env a b c : ℕ) (n : ℤ) (past : History) (below : List Frame) → frames t past ≡ pushed ∷ below
+      → capacities t (C t env PopLocalFrame a b c n ∷ past) ≡ tail (capacities t past)
   -- R sets pending, and no call clears it by itself
   pub return-pending : (t f p : ℕ) (r : ℤ) (past : History) → pending t (R t f r p ∷ past) ≡ p
   pub call-pending : (t env f a b c : ℕ) (n : ℤ) (past : History) → pending t (C t env f a b c n ∷ past) ≡ pending t past
@@ -108,9 +124,10 @@ pub record On-lines : Type 0 where
   pub matching-push : (t env a b c p : ℕ) (n : ℤ) (inside past : History) → Whole t inside
       → capacities t (R t PushLocalFrame (pos 0) p ∷ (inside ++ (C t env PushLocalFrame a b c n ∷ past)))
       ≡ above-zero n ∷ capacities t (inside ++ (C t env PushLocalFrame a b c n ∷ past))
-  -- 26 raises the top frame's capacity to max(old, locals alive in it + max(n,0))
-  pub ensure-capacities : (t p : ℕ) (past : History) (old : ℕ) (lower : List ℕ) → capacities t past ≡ old ∷ lower
-      → capacities t (R t EnsureLocalCapacity (pos 0) p ∷ past) ≡ max old (alive-in t (depth t past) past + asked (top-of (items t past))) ∷ lower
+  -- 26 raises the top frame's capacity to max(old, locals alive in it + max(n,0)), n being likewise that of the matching C
+  pub matching-ensure : (t env a b c p : ℕ) (n : ℤ) (inside past : History) → Whole t inside → (old : ℕ) (lower : List ℕ)
+      → let before : History = inside ++ (C t env EnsureLocalCapacity a b c n ∷ past) in
+      capacities t before ≡ old ∷ lower → capacities t (R t EnsureLocalCapacity (pos 0) p ∷ before) ≡ max old (alive-in t (depth t before) before + above-zero n) ∷ lower
   -- 217 adds one to the thread's monitors; 218 takes one if there is any
   pub enter-monitors : (t p : ℕ) (past : History) → monitors t (R t MonitorEnter (pos 0) p ∷ past) ≡ suc (monitors t past)
   pub exit-monitors : (t p : ℕ) (past : History) → monitors t (R t MonitorExit (pos 0) p ∷ past) ≡ pred (monitors t past)
@@ -118,6 +135,12 @@ pub record On-lines : Type 0 where
   pub other-status-frames : (t f p : ℕ) (r : ℤ) (past : History) → is-zero r ≡ false → frames t (R t f r p ∷ past) ≡ frames t past
   pub other-status-capacities : (t f p : ℕ) (r : ℤ) (past : History) → is-zero r ≡ false → capacities t (R t f r p ∷ past) ≡ capacities t past
   pub other-status-monitors : (t f p : ℕ) (r : ℤ) (past : History) → is-zero r ≡ false → monitors t (R t f r p ∷ past) ≡ monitors t past
+  -- no other line changes a thread's open items, its frames, their capacities, what is pending, its monitors
+  pub items-kept : (t : ℕ) (e : Line) (past : History) → ¬ Changes-items t e → items t (e ∷ past) ≡ items t past
+  pub frames-kept : (t : ℕ) (e : Line) (past : History) → ¬ Changes-frames t past e → frames t (e ∷ past) ≡ frames t past
+  pub capacities-kept : (t : ℕ) (e : Line) (past : History) → ¬ Changes-capacities t past e → capacities t (e ∷ past) ≡ capacities t past
+  pub pending-kept : (t : ℕ) (e : Line) (past : History) → ¬ Changes-pending t e → pending t (e ∷ past) ≡ pending t past
+  pub monitors-kept : (t : ℕ) (e : Line) (past : History) → ¬ Changes-monitors t e → monitors t (e ∷ past) ≡ monitors t past
   -- there is a capacity for each frame
   pub capacities-fit : (past : History) (t : ℕ) → length (capacities t past) ≡ depth t past
   -- the open call at an R is its matching C
@@ -135,6 +158,8 @@ pub record On-lines : Type 0 where
   -- a thread's env is that of its first N
   pub env-of-first : (t env : ℕ) (hs : List ℕ) (newer older : History) → env ≢ 0 → ((v : ℕ) (gs : List ℕ) → ¬ List·Memᴰ (N t v gs) older)
       → env-of t (newer ++ (N t env hs ∷ older)) ≡ env
+  -- before it there is none
+  pub no-env : (t : ℕ) (past : History) → ((env : ℕ) (hs : List ℕ) → ¬ List·Memᴰ (N t env hs) past) → env-of t past ≡ 0
   -- no two threads share one
   pub envs-apart : (room : Room) (past : History) → Accepted room past → (s t : ℕ) → s ≢ t → env-of s past ≢ 0 → env-of s past ≢ env-of t past
 
@@ -151,6 +176,12 @@ pub record On-refusals : Type 0 where
   pub accepted-before : (room : Room) (newer past : History) → Accepted room (newer ++ past) → Accepted room past
   -- more room, and no 7 from the smaller: equal runs
   pub run-more : (a b : Room) → Roomier a b → (lines : List (List ℕ)) (past : History) → run a past lines .refusal ≢ 7 → run b past lines ≡ run a past lines
+
+pub record On-input : Type 0 where
+  -- joined again, the lines are the input
+  pub lines-joined : (input : List ℕ) → joined (lines-of input) (λ bs. bs) ≡ input
+  -- a line ends with its LF, and has no other; what is left at the end, if anything, is a line too, without its LF
+  pub lines-cut : (input : List ℕ) → Cut (lines-of input)
 
 pub record On-replies : Type 0 where
   -- a lent line after accepted lines is what document 01 says, in its order: line 1,000,001 is 1 whatever it holds; 1, 2 and 3 come before 4
