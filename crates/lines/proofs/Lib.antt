@@ -12,8 +12,8 @@ pub mod Formed
 mod Cut
 mod Field
 mod Gathering
-mod Tested
-pub mod Makes
+mod RangeLaws
+pub mod FormLaws
 mod Signs
-pub mod Made
-mod Naming
+pub mod GatheredLaws
+mod SlotLaws

@@ -1,4 +1,4 @@
--- The reader's own bookkeeping: numbers as the code gathers them, and the line that they are; the law `made-numbers` (proofs/Made.antt) ties it to Reading.antt. Assumes nothing.
+-- The reader's own bookkeeping: numbers as the code gathers them, and the line that they are; the law `made-numbers` (proofs/GatheredLaws.antt) ties it to Reading.antt. Assumes nothing.
 use Prim.Native.Nat.{ℕ, suc, _+_, _%_}
 use mathlib.Core.Bool.{Bool, true, false, not, _&&_, _||_}
 use mathlib.Core.List.{List, [], _∷_}

@@ -29,8 +29,8 @@ use Rattle.lines.proofs.Event.{the-type}
 use Rattle.lines.proofs.Tests.{both}
 use Rattle.lines.proofs.Listed.{of-length}
 use Rattle.lines.proofs.Formed.{is-within}
-use Rattle.lines.proofs.Makes.{enter-in}
-use Rattle.lines.proofs.Made.{line-in-said}
+use Rattle.lines.proofs.FormLaws.{enter-in}
+use Rattle.lines.proofs.GatheredLaws.{line-in-said}
 use Rattle.writer.specs.Laid.{Writes, Answers}
 use Rattle.writer.specs.Apart.{are-empty, apart-return, apart}
 use Rattle.writer.specs.declared.apart.Taken.{Taken}

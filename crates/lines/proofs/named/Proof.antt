@@ -6,7 +6,7 @@ use native.Mathlib.Omega.{arith}
 use lib.ListN.{length, getD, set, take}
 use Rattle.lines.specs.Events.{padded}
 use Rattle.lines.specs.Sizes.{named}
-use Rattle.lines.proofs.Naming.{named-few, named-more, named-all, named-at, slot-put, slots-put}
+use Rattle.lines.proofs.SlotLaws.{named-few, named-more, named-all, named-at, slot-put, slots-put}
 use borrow.Author.Needs.{needs}
 use Rattle.lines.proofs.named.Statement.{statement}
 use Rattle.lines.proofs.named.Tie as tie

@@ -7,7 +7,7 @@ use Rattle.lines.specs.Events.{event-of, slots-of}
 use Rattle.lines.specs.Gathered.{fields-from, nothing-yet, no-values, Gathered, gathered-as, gathered, made}
 use Rattle.lines.specs.declared.forms.Counts.{Counts}
 use Rattle.lines.proofs.Content.{not-alone, alone, alone-some}
-use Rattle.lines.proofs.Made.{made-numbers}
+use Rattle.lines.proofs.GatheredLaws.{made-numbers}
 use borrow.Author.Needs.{needs}
 use Rattle.lines.proofs.take_content.Statement.{statement}
 use Rattle.lines.proofs.take_content.Tie as tie

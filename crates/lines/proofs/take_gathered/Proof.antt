@@ -3,7 +3,7 @@ use mathlib.Core.Path.{ap, sym, _∙_}
 use mathlib.Core.Bool.{Bool, _&&_}
 use Rattle.lines.specs.Events.{event-of, slots-of}
 use Rattle.lines.proofs.Tests.{both}
-use Rattle.lines.proofs.Made.{slots-made, out-made, in-made}
+use Rattle.lines.proofs.GatheredLaws.{slots-made, out-made, in-made}
 use borrow.Author.Needs.{needs}
 use Rattle.lines.proofs.take_gathered.Statement.{statement}
 use Rattle.lines.proofs.take_gathered.Tie as tie

@@ -5,7 +5,7 @@ use mir.Facts.{toZ-ofZ}
 use borrow.Author.Tests.{not-true, not-false}
 use Rattle.numbers.specs.Signed.{signed}
 use Rattle.lines.specs.declared.Event.the-variants as Event
-use Rattle.lines.proofs.Makes.{not-made, is-made, call-i32}
+use Rattle.lines.proofs.FormLaws.{not-made, is-made, call-i32}
 use Rattle.lines.specs.Line.{C}
 use borrow.Author.Needs.{needs}
 use Rattle.lines.proofs.forms.call.Statement.{statement}

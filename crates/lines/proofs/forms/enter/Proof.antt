@@ -5,7 +5,7 @@ use lib.ListN.{getD}
 use borrow.Author.Tests.{not-true, not-false}
 use Rattle.lines.specs.Forms.{most-fields}
 use Rattle.lines.proofs.Formed.{within-low, within-high}
-use Rattle.lines.proofs.Makes.{enter-line, not-made, enter-made}
+use Rattle.lines.proofs.FormLaws.{enter-line, not-made, enter-made}
 use borrow.Author.Needs.{needs}
 use Rattle.lines.proofs.forms.enter.Statement.{statement}
 use Rattle.lines.proofs.forms.enter.Tie as tie

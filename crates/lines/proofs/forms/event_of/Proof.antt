@@ -2,7 +2,7 @@
 use mathlib.Core.Path.{ap, sym, _∙_}
 use borrow.Author.Tests.{not-true, not-false}
 use Rattle.lines.specs.Events.{event-of}
-use Rattle.lines.proofs.Makes.{wrong-count, enter-right, enter-in, leave-in, call-in, return-in, end-in}
+use Rattle.lines.proofs.FormLaws.{wrong-count, enter-right, enter-in, leave-in, call-in, return-in, end-in}
 use borrow.Author.Needs.{needs}
 use Rattle.lines.proofs.forms.event_of.Statement.{statement}
 use Rattle.lines.proofs.forms.event_of.Tie as tie

@@ -1,6 +1,6 @@
 -- `lines::forms::leave` meets its contract. Assumes nothing.
 use borrow.Author.Tests.{not-true, not-false}
-use Rattle.lines.proofs.Makes.{not-made, is-made}
+use Rattle.lines.proofs.FormLaws.{not-made, is-made}
 use Rattle.lines.specs.Line.{X}
 use borrow.Author.Needs.{needs}
 use Rattle.lines.proofs.forms.leave.Statement.{statement}

@@ -4,7 +4,7 @@ use mir.Syntax.{w32}
 use mir.Facts.{toZ-ofZ}
 use borrow.Author.Tests.{not-true, not-false}
 use Rattle.lines.specs.Events.{is-status}
-use Rattle.lines.proofs.Makes.{not-made, return-i32, status-made, result-made}
+use Rattle.lines.proofs.FormLaws.{not-made, return-i32, status-made, result-made}
 use Rattle.lines.specs.Line.{R}
 use Rattle.numbers.specs.Signed.{signed}
 use borrow.Author.Needs.{needs}

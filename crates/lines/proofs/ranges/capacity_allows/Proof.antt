@@ -1,6 +1,6 @@
 -- `lines::ranges::capacity_allows` meets its contract. Assumes nothing.
 use mathlib.Core.Path.{_∙_}
-use Rattle.lines.proofs.Tested.{used-capacity, unused-capacity}
+use Rattle.lines.proofs.RangeLaws.{used-capacity, unused-capacity}
 use borrow.Author.Needs.{needs}
 use Rattle.lines.proofs.ranges.capacity_allows.Statement.{statement}
 use Rattle.lines.proofs.ranges.capacity_allows.Tie as tie

@@ -7,7 +7,7 @@ use borrow.Author.Tests.{le-leb}
 use Rattle.lines.specs.Line.{is-thread, is-env, most-handles}
 use Rattle.lines.specs.Sizes.{named}
 use Rattle.lines.proofs.Tests.{and-true}
-use Rattle.lines.proofs.Naming.{named-few}
+use Rattle.lines.proofs.SlotLaws.{named-few}
 use borrow.Author.Needs.{needs}
 use Rattle.lines.proofs.ranges.enter_allows.Statement.{statement}
 use Rattle.lines.proofs.ranges.enter_allows.Tie as tie

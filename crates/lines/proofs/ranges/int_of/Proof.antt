@@ -3,7 +3,7 @@ use mathlib.Core.Path.{sym, _∙_}
 use mathlib.Core.Bool.{false≢true}
 use mir.Syntax.{w32}
 use mir.Facts.{toZ-ofZ}
-use Rattle.lines.proofs.Tested.{value-i32, out-i32}
+use Rattle.lines.proofs.RangeLaws.{value-i32, out-i32}
 use borrow.Author.Needs.{needs}
 use Rattle.lines.proofs.ranges.int_of.Statement.{statement}
 use Rattle.lines.proofs.ranges.int_of.Tie as tie

@@ -1,6 +1,6 @@
 -- `lines::ranges::is_i32` meets its contract. Assumes nothing.
 use mathlib.Core.Path.{sym}
-use Rattle.lines.proofs.Tested.{value-i32, out-i32}
+use Rattle.lines.proofs.RangeLaws.{value-i32, out-i32}
 use borrow.Author.Needs.{needs}
 use Rattle.lines.proofs.ranges.is_i32.Statement.{statement}
 use Rattle.lines.proofs.ranges.is_i32.Tie as tie

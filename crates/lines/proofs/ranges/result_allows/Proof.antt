@@ -1,7 +1,7 @@
 -- `lines::ranges::result_allows` meets its contract. Assumes nothing.
 use mathlib.Core.Path.{ap₂, _∙_}
 use mathlib.Core.Bool.{_&&_}
-use Rattle.lines.proofs.Tested.{below-result, other-result}
+use Rattle.lines.proofs.RangeLaws.{below-result, other-result}
 use borrow.Author.Needs.{needs}
 use Rattle.lines.proofs.ranges.result_allows.Statement.{statement}
 use Rattle.lines.proofs.ranges.result_allows.Tie as tie

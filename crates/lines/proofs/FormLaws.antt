@@ -24,7 +24,7 @@ use Rattle.lines.proofs.Tests.{all4, all7}
 use Rattle.lines.proofs.Listed.{of-length}
 use Rattle.lines.proofs.Formed.{within-low, within-high, within-one, no-count}
 use Rattle.lines.proofs.Numbered.{enter-numbers}
-use Rattle.lines.proofs.Tested.{capacity-i32, status-i32, plain-result}
+use Rattle.lines.proofs.RangeLaws.{capacity-i32, status-i32, plain-result}
 
 -- ---- a line that is not allowed, and one that is
 

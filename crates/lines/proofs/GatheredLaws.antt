@@ -27,7 +27,7 @@ use Rattle.lines.proofs.Tests.{and-false}
 use Rattle.lines.proofs.Formed.{within-high, most-few}
 use Rattle.lines.proofs.Gathering.{any-wrong, counted-from, gathered-count, gathered-out, gathered-values}
 use Rattle.lines.proofs.Numbered.{never, if-allowed-said, line-said}
-use Rattle.lines.proofs.Makes.{enter-line, enter-in}
+use Rattle.lines.proofs.FormLaws.{enter-line, enter-in}
 use Rattle.lines.proofs.Signs.{wrong-refused, sizes-back}
 
 abbrev pub gathered-of : ℕ → List (List ℕ) → Gathered
