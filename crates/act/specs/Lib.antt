@@ -1,3 +1,4 @@
+-- computed: judge::step, called-is-acted, returned-is-acted, rows-of-locals
 pub mod Rows
 pub mod Books
 pub mod Calls

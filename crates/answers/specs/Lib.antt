@@ -1,2 +1,4 @@
+-- believed
 pub mod Answer
+-- computed: answers::findings, weigh: call-found
 pub mod Listed

@@ -1,4 +1,6 @@
+-- believed
 pub mod Layout
+-- believed of any tables
 pub mod Threads
 pub mod Moves
 pub mod Unfit

@@ -1,4 +1,6 @@
+-- believed
+pub mod Calls
+-- believed of any tables
 pub mod PastRows
 pub mod Tied
-pub mod Calls
 pub mod Demands

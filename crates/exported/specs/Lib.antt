@@ -1,1 +1,2 @@
+-- believed of any tables
 pub mod Told

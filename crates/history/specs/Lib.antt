@@ -1,29 +1,36 @@
+-- believed
 pub mod Past
 pub mod Items
 pub mod Frames
+-- from a start: living by living-are, alive-once
 pub mod Handles
 pub mod Capacities
 pub mod Buffers
 pub mod Thread
-pub mod Seen
-pub mod Acceptance
-pub mod Breaches
-pub mod Findings
-pub mod Replies
-pub mod Report
 pub mod Lives
-pub mod Kinds
 pub mod Paper
 pub mod Order
+-- from a start: refusal by refusal-is, heard-accepted
+pub mod Acceptance
 pub mod Accepted
+pub mod Refusals
+pub mod Replies
+pub mod Runs
+pub mod Report
+pub mod Sentences
+-- believed of any tables
+-- from a start: seen by told-all
+pub mod Seen
+pub mod Breaches
+-- from a start: findings, of-line by findings-are, findings-ordered, told-all
+pub mod Findings
+pub mod Verdicts
+-- words
+pub mod Kinds
 pub mod Whole
 pub mod Changes
-pub mod Refusals
 pub mod Times
 pub mod Same
-pub mod Verdicts
-pub mod Runs
 pub mod Cut
 pub mod Families
 pub mod Bounds
-pub mod Sentences

@@ -1,2 +1,4 @@
-pub mod Event
+-- believed of any tables
 pub mod Outcome
+-- computed: judge::step
+pub mod Event

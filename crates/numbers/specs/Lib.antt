@@ -1,4 +1,6 @@
+-- believed
 pub mod Decimal
-pub mod Reading
-pub mod Writing
 pub mod Signed
+pub mod Writing
+-- computed: lines::read_line
+pub mod Reading

@@ -1,2 +1,4 @@
+-- believed of any tables
 pub mod Pieces
+-- computed: program::judge_all
 pub mod Shifted

@@ -1,2 +1,3 @@
+-- believed
 pub mod Calls
 pub mod Promises

@@ -1,1 +1,2 @@
+-- believed
 pub mod Told

@@ -1,10 +1,13 @@
 -- What the lent rows and marks are, and what each function does to them.
-pub mod Scan
-pub mod Slots
+-- believed
 pub mod Marks
 pub mod Table
-pub mod View
-pub mod Exact
 pub mod References
 pub mod Pins
+-- believed of any tables
+pub mod Scan
+pub mod Slots
+pub mod View
+pub mod Exact
+-- computed: judge::step
 pub mod Sought

@@ -1,4 +1,7 @@
-pub mod Following
+-- believed of any tables
 pub mod Running
-pub mod Passing
+-- computed: run::run_lines
 pub mod Way
+-- words
+pub mod Following
+pub mod Passing

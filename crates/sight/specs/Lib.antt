@@ -1,3 +1,4 @@
+-- computed: judge::step
 pub mod Spots
 pub mod Returns
 pub mod Sights

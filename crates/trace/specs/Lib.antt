@@ -1,2 +1,4 @@
+-- believed
 pub mod Whole
+-- computed: trace::judge_trace
 pub mod Running

@@ -1,3 +1,4 @@
+-- computed: judge::step, call-found, leave-found, return-found, end-found
 pub mod Enter
 pub mod Leave
 pub mod Call

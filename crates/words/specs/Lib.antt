@@ -1,3 +1,4 @@
+-- believed
 pub mod Choice
 pub mod Lists
 pub mod Text

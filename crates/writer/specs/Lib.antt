@@ -1,2 +1,3 @@
+-- computed: writer::write_line, apart-meant
 pub mod Laid
 pub mod Apart
