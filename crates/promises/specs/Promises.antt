@@ -15,7 +15,7 @@ use Rattle.answers.specs.declared.Answer.{Answer}
 use Rattle.answers.specs.Answer.{refused-with, answered}
 use Rattle.tables.specs.Tables.{Tables}
 use Rattle.demands.specs.Calls.{room-of, Long, from-start, heard-by}
-use Rattle.promises.specs.Calls.{Reads, Writes, Starts, Steps, Called}
+use Rattle.promises.specs.Calls.{Reads, Writes, Steps, Called}
 
 pub record Promises : Type 0 where
   -- demand 1: "A refusal gives its number from document 01 and changes no table, no count and no finding", whatever the tables hold
