@@ -4,13 +4,12 @@
 mod exported;
 
 use plain::coverage::Coverage;
-use plain::findings::{Findings, MOST_FINDINGS};
 use plain::foreign::{is_over, line, make, Foreign};
-use plain::lent::reply::{reply, FINDING};
+use plain::lent::reply::{reply, MOST_NUMBERS, SHORT_FOUND};
 use plain::lent::slices::Slices;
 use plain::limits::{Number, Word, MOST_ROOM};
 use plain::random::Random;
-use std::fmt::Debug;
+use std::fmt::{self, Debug, Display, Formatter};
 use std::ops::{Deref, DerefMut, Range};
 use std::process::ExitCode;
 use std::time::{Duration, Instant};
@@ -19,8 +18,6 @@ const USAGE: &str = "usage: foreign [--seed S] [--cases N] [--seconds T]";
 
 /// The numbers before and after each slice, which are nobody's: a row of the book and more.
 const GUARD: usize = 300;
-/// The numbers of the most findings of a line, and some more.
-const MOST_FOUND: usize = MOST_FINDINGS * FINDING + 4;
 /// The most steps of a case, and of one with a great room.
 const STEPS: usize = 24;
 const GREAT_STEPS: usize = 8;
@@ -34,6 +31,32 @@ struct Wish {
     time: Duration,
 }
 
+/// What came up.
+struct Seen {
+    steps: Coverage,
+    /// Steps not taken, as there was no room for the most findings of a line.
+    short_found: u64,
+}
+
+impl Seen {
+    fn new() -> Seen {
+        Seen {
+            steps: Coverage::of_foreign(),
+            short_found: 0,
+        }
+    }
+
+    fn is_whole(&self) -> bool {
+        self.steps.is_whole() && self.short_found > 0
+    }
+}
+
+impl Display for Seen {
+    fn fmt(&self, out: &mut Formatter) -> fmt::Result {
+        write!(out, "{}; short found: {}", self.steps, self.short_found)
+    }
+}
+
 fn main() -> ExitCode {
     let arguments: Vec<String> = std::env::args().skip(1).collect();
     let Some(wish) = wish(&arguments) else {
@@ -41,19 +64,19 @@ fn main() -> ExitCode {
         return ExitCode::from(2);
     };
     let begun = Instant::now();
-    let mut coverage = Coverage::of_foreign();
+    let mut seen = Seen::new();
     let mut cases = 0;
     while cases < wish.cases && begun.elapsed() < wish.time {
         let seed = wish.seed.wrapping_add(cases);
-        if let Err(difference) = compare(seed, &mut coverage) {
+        if let Err(difference) = compare(seed, &mut seen) {
             println!("a difference: foreign --seed {seed} --cases 1");
             println!("{difference}");
             return ExitCode::FAILURE;
         }
         cases += 1;
     }
-    println!("foreign: {cases} cases; {coverage}");
-    if !coverage.is_whole() {
+    println!("foreign: {cases} cases; {seen}");
+    if !seen.is_whole() {
         println!("foreign: something of this never came up, so nothing is said");
         return ExitCode::FAILURE;
     }
@@ -89,7 +112,7 @@ fn wish(arguments: &[String]) -> Option<Wish> {
 }
 
 /// Both judges take the same steps over tables of their own, from the same numbers; what first differs.
-fn compare(seed: u64, coverage: &mut Coverage) -> Result<(), String> {
+fn compare(seed: u64, seen: &mut Seen) -> Result<(), String> {
     let mut random = Random::new(seed);
     let Foreign {
         profile,
@@ -113,13 +136,11 @@ fn compare(seed: u64, coverage: &mut Coverage) -> Result<(), String> {
         let (told, same) = if random.percent(4) {
             plain.start();
             exported::start(proved.lend());
-            coverage.add_start();
+            seen.steps.add_start();
             ("a start".to_string(), Ok(()))
         } else {
             let line = line(&plain.tables(), &mut lines, &mut random);
-            let stepped = plain.step(&line);
-            coverage.add(&plain.tables(), &line, &stepped);
-            let same = compare_replies(&mut proved, &line, &stepped, &mut random);
+            let same = compare_replies(&mut plain, &mut proved, &line, seen, &mut random);
             (shown(&line), same)
         };
         same.and_then(|()| compare_slices(&proved, &plain))
@@ -131,21 +152,28 @@ fn compare(seed: u64, coverage: &mut Coverage) -> Result<(), String> {
     Ok(())
 }
 
-/// Takes the proved step and holds its reply and its findings to what the plain step gave.
+/// Takes both steps and holds the reply and the findings of the proved one to those of the plain one.
 fn compare_replies(
+    plain: &mut Tables,
     proved: &mut Tables,
     line: &[u8],
-    stepped: &Result<Findings, u8>,
+    seen: &mut Seen,
     random: &mut Random,
 ) -> Result<(), String> {
-    let length = if random.percent(70) {
-        MOST_FOUND
+    let length = if random.percent(90) {
+        MOST_NUMBERS + random.below(6)
     } else {
-        random.below(MOST_FOUND)
+        random.below(MOST_NUMBERS)
     };
     let mut wanted_found = Guarded::new(vec![7; length], random);
     let mut found = wanted_found.clone();
-    let wanted = reply(stepped, &mut wanted_found);
+    let step = || {
+        let stepped = plain.step(line);
+        seen.steps.add(&plain.tables(), line, &stepped);
+        stepped
+    };
+    let wanted = reply(step, &mut wanted_found);
+    seen.short_found += u64::from(wanted == SHORT_FOUND);
     let wanted_line = Guarded::new(line.to_vec(), random);
     let line = wanted_line.clone();
     let given = exported::step(&line, proved.lend(), &mut found);
