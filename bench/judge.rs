@@ -1,5 +1,6 @@
 //! Holds the proved step to the plain judge's on every line of the given traces, then times both over the rows that the program lends.
 
+#[allow(dead_code)] // a whole trace is judged by tests/foreign.rs alone
 mod exported;
 
 use plain::judge::Judge;

@@ -1,7 +1,8 @@
-// The judge for C and Rust: a start and one step over lent slices, the findings as numbers.
+// The judge for C and Rust: a start and one step over lent slices, the findings as numbers; and a whole trace with its report.
 use answers::Answer;
 use history::Finding;
 use rows::Number;
+use trace::Reported;
 use words::Handle;
 ghost use mathlib.Core.Path.{_≡_};
 ghost use Prim.Native.Nat.{_+_, _*_, _≤_};
@@ -9,6 +10,8 @@ ghost use lib.ListN.{length, take};
 ghost use Rattle.answers.specs.Answer.{most-found};
 ghost use Rattle.tables.specs.Tables.{tables};
 ghost use Rattle.tables.specs.Stepping.{start-of};
+ghost use Rattle.trace.specs.Whole.{whole-outcome};
+ghost use Rattle.exported.specs.Judged.{length-told, judges, judged};
 ghost use Rattle.exported.specs.Told.{numbers, most-numbers, put-at, in-front, number-told, tells, step-told};
 
 // The numbers of a finding, and of the most findings of a line.
@@ -91,4 +94,33 @@ pub extern "C" fn weir_step(
     let answer = judge::step(line, rows, marks, pins, pinmarks, book);
     list(found, answer);
     number_told(answer.refusal, answer.count)
+}
+
+// How long the report is, written or not; 0 over a short book.
+fn length_told(reported: Reported) -> usize
+    ensures { λ r. ⌜ r ≡ length-told reported ⌝ }
+{
+    match reported {
+        Reported::Bytes(n) => n,
+        Reported::Needs(n) => n,
+        Reported::ShortBook => 0,
+    }
+}
+
+// Judges all lines of a trace from a start: how long the report is. It stands at the start of `out` where that is no shorter, else nothing
+// is written there; the tables are left as the run left them. Over a short book it is 0, which no report is long, and nothing is touched.
+#[no_mangle]
+pub extern "C" fn weir_judge(
+    trace: &[u8],
+    rows: &mut [Number],
+    marks: &mut [u64],
+    pins: &mut [Number],
+    pinmarks: &mut [u64],
+    book: &mut [u64],
+    out: &mut [u8],
+) -> usize
+    ensures { λ r. ⌜ judges r (tables (now (rows .exit)) (now (marks .exit)) (now (pins .exit)) (now (pinmarks .exit)) (now (book .exit))) (now (out .exit)) ≡ judged (whole-outcome (tables (now (rows .entry)) (now (marks .entry)) (now (pins .entry)) (now (pinmarks .entry)) (now (book .entry))) (now (trace .entry)) (now (out .entry))) ⌝ }
+{
+    let reported = trace::judge_trace(trace, rows, marks, pins, pinmarks, book, out);
+    length_told(reported)
 }
