@@ -32,6 +32,22 @@ extern "C" {
         found: *mut Number,
         found_length: usize,
     ) -> i32;
+    fn weir_judge(
+        trace: *const u8,
+        trace_length: usize,
+        rows: *mut Number,
+        rows_length: usize,
+        marks: *mut Word,
+        marks_length: usize,
+        pins: *mut Number,
+        pins_length: usize,
+        pin_marks: *mut Word,
+        pin_marks_length: usize,
+        book: *mut Word,
+        book_length: usize,
+        out: *mut u8,
+        out_length: usize,
+    ) -> usize;
 }
 
 pub fn start(lent: Lent) {
@@ -70,6 +86,28 @@ pub fn step(line: &[u8], lent: Lent, found: &mut [Number]) -> i32 {
             lent.book.len(),
             found.as_mut_ptr(),
             found.len(),
+        )
+    }
+}
+
+pub fn judge(trace: &[u8], lent: Lent, out: &mut [u8]) -> usize {
+    // SAFETY: each pointer is that of a slice of the length that follows it.
+    unsafe {
+        weir_judge(
+            trace.as_ptr(),
+            trace.len(),
+            lent.rows.as_mut_ptr(),
+            lent.rows.len(),
+            lent.marks.as_mut_ptr(),
+            lent.marks.len(),
+            lent.pins.as_mut_ptr(),
+            lent.pins.len(),
+            lent.pin_marks.as_mut_ptr(),
+            lent.pin_marks.len(),
+            lent.book.as_mut_ptr(),
+            lent.book.len(),
+            out.as_mut_ptr(),
+            out.len(),
         )
     }
 }

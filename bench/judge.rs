@@ -1,10 +1,10 @@
 //! Holds the proved step to the plain judge's on every line of the given traces, then times both over the rows that the program lends.
 
+#[allow(dead_code)] // a whole trace is judged by tests/foreign.rs alone
 mod exported;
 
-use plain::findings::MOST_FINDINGS;
 use plain::judge::Judge;
-use plain::lent::reply::{reply, FINDING};
+use plain::lent::reply::{reply, MOST_NUMBERS};
 use plain::lent::slices::Slices;
 use plain::limits::{Number, PIN_ROWS, REFERENCE_ROWS};
 use std::hint::black_box;
@@ -13,8 +13,6 @@ use std::process::ExitCode;
 
 /// The judges take turns after so many lines.
 const TURN: usize = 10_000;
-/// The numbers of the most findings of a line.
-const FOUND: usize = MOST_FINDINGS * FINDING;
 
 extern "C" {
     fn clock_gettime(clock: i32, time: *mut Time) -> i32;
@@ -68,9 +66,9 @@ fn compare(lines: &[&[u8]]) -> Result<usize, String> {
     let (mut proved, mut plain) = (Proved::new(), Judge::new(REFERENCE_ROWS, PIN_ROWS));
     let mut findings = 0;
     for (line, number) in lines.iter().zip(1..) {
-        let mut wanted_found = [0; FOUND];
-        let wanted = reply(&plain.step(line), &mut wanted_found);
-        proved.found = [0; FOUND];
+        let mut wanted_found = [0; MOST_NUMBERS];
+        let wanted = reply(|| plain.step(line), &mut wanted_found);
+        proved.found = [0; MOST_NUMBERS];
         let given = proved.step(line);
         if (given, proved.found) != (wanted, wanted_found) {
             let line = String::from_utf8_lossy(line);
@@ -117,7 +115,7 @@ fn median(mut numbers: Vec<f64>) -> f64 {
 /// The proved judge and its tables.
 struct Proved {
     slices: Slices,
-    found: [Number; FOUND],
+    found: [Number; MOST_NUMBERS],
 }
 
 impl Proved {
@@ -126,7 +124,7 @@ impl Proved {
         exported::start(slices.lend());
         Proved {
             slices,
-            found: [0; FOUND],
+            found: [0; MOST_NUMBERS],
         }
     }
 

@@ -1,16 +1,18 @@
-//! Holds the proved judge to the plain one over foreign tables: each reply, the findings, every number of every slice and those around it.
+//! Holds the proved judge to the plain one over foreign tables: each reply, the findings, the reports of whole traces, every number of every slice and those around it.
 
 #[path = "../bench/exported.rs"]
 mod exported;
 
 use plain::coverage::Coverage;
-use plain::findings::{Findings, MOST_FINDINGS};
-use plain::foreign::{is_over, line, make, Foreign};
-use plain::lent::reply::{reply, FINDING};
+use plain::foreign::{self, is_over, line, Foreign};
+use plain::lent::book::WHOLE;
+use plain::lent::reply::{reply, MOST_NUMBERS, SHORT_FOUND};
 use plain::lent::slices::Slices;
 use plain::limits::{Number, Word, MOST_ROOM};
+use plain::make::{make, PROFILES};
 use plain::random::Random;
-use std::fmt::Debug;
+use plain::report::report;
+use std::fmt::{self, Debug, Display, Formatter};
 use std::ops::{Deref, DerefMut, Range};
 use std::process::ExitCode;
 use std::time::{Duration, Instant};
@@ -19,11 +21,12 @@ const USAGE: &str = "usage: foreign [--seed S] [--cases N] [--seconds T]";
 
 /// The numbers before and after each slice, which are nobody's: a row of the book and more.
 const GUARD: usize = 300;
-/// The numbers of the most findings of a line, and some more.
-const MOST_FOUND: usize = MOST_FINDINGS * FINDING + 4;
 /// The most steps of a case, and of one with a great room.
 const STEPS: usize = 24;
 const GREAT_STEPS: usize = 8;
+/// The lines of a long trace, and a report's bytes beyond which its findings are copied in more pieces than one.
+const LONG_TRACE: usize = 4_000;
+const LONG_REPORT: usize = 4_096;
 
 /// Five slices, each guarded.
 type Tables = Slices<Guarded<Number>, Guarded<Word>>;
@@ -34,6 +37,52 @@ struct Wish {
     time: Duration,
 }
 
+/// What came up.
+struct Seen {
+    steps: Coverage,
+    /// Steps not taken, as there was no room for the most findings of a line.
+    short_found: u64,
+    /// Whole traces: their reports written, the long ones among them, slices short for them, and books short.
+    reports: u64,
+    long_reports: u64,
+    short_slices: u64,
+    short_books: u64,
+}
+
+impl Seen {
+    fn new() -> Seen {
+        Seen {
+            steps: Coverage::of_foreign(),
+            short_found: 0,
+            reports: 0,
+            long_reports: 0,
+            short_slices: 0,
+            short_books: 0,
+        }
+    }
+
+    fn is_whole(&self) -> bool {
+        let told = [
+            self.short_found,
+            self.reports,
+            self.long_reports,
+            self.short_slices,
+            self.short_books,
+        ];
+        self.steps.is_whole() && !told.contains(&0)
+    }
+}
+
+impl Display for Seen {
+    fn fmt(&self, out: &mut Formatter) -> fmt::Result {
+        write!(out, "{}; short found: {}", self.steps, self.short_found)?;
+        write!(out, "; whole traces: reports {}", self.reports)?;
+        write!(out, " (long {})", self.long_reports)?;
+        write!(out, ", short slices {}", self.short_slices)?;
+        write!(out, ", short books {}", self.short_books)
+    }
+}
+
 fn main() -> ExitCode {
     let arguments: Vec<String> = std::env::args().skip(1).collect();
     let Some(wish) = wish(&arguments) else {
@@ -41,19 +90,19 @@ fn main() -> ExitCode {
         return ExitCode::from(2);
     };
     let begun = Instant::now();
-    let mut coverage = Coverage::of_foreign();
+    let mut seen = Seen::new();
     let mut cases = 0;
     while cases < wish.cases && begun.elapsed() < wish.time {
         let seed = wish.seed.wrapping_add(cases);
-        if let Err(difference) = compare(seed, &mut coverage) {
+        if let Err(difference) = compare(seed, &mut seen) {
             println!("a difference: foreign --seed {seed} --cases 1");
             println!("{difference}");
             return ExitCode::FAILURE;
         }
         cases += 1;
     }
-    println!("foreign: {cases} cases; {coverage}");
-    if !coverage.is_whole() {
+    println!("foreign: {cases} cases; {seen}");
+    if !seen.is_whole() {
         println!("foreign: something of this never came up, so nothing is said");
         return ExitCode::FAILURE;
     }
@@ -89,13 +138,13 @@ fn wish(arguments: &[String]) -> Option<Wish> {
 }
 
 /// Both judges take the same steps over tables of their own, from the same numbers; what first differs.
-fn compare(seed: u64, coverage: &mut Coverage) -> Result<(), String> {
+fn compare(seed: u64, seen: &mut Seen) -> Result<(), String> {
     let mut random = Random::new(seed);
     let Foreign {
         profile,
         slices,
         mut lines,
-    } = make(&mut random);
+    } = foreign::make(&mut random);
     let most = if slices.rows.len() + slices.pins.len() > MOST_ROOM {
         GREAT_STEPS
     } else {
@@ -113,13 +162,14 @@ fn compare(seed: u64, coverage: &mut Coverage) -> Result<(), String> {
         let (told, same) = if random.percent(4) {
             plain.start();
             exported::start(proved.lend());
-            coverage.add_start();
+            seen.steps.add_start();
             ("a start".to_string(), Ok(()))
+        } else if random.percent(3) {
+            let same = compare_reports(&mut plain, &mut proved, seen, &mut random);
+            ("a whole trace".to_string(), same)
         } else {
             let line = line(&plain.tables(), &mut lines, &mut random);
-            let stepped = plain.step(&line);
-            coverage.add(&plain.tables(), &line, &stepped);
-            let same = compare_replies(&mut proved, &line, &stepped, &mut random);
+            let same = compare_replies(&mut plain, &mut proved, &line, seen, &mut random);
             (shown(&line), same)
         };
         same.and_then(|()| compare_slices(&proved, &plain))
@@ -131,21 +181,28 @@ fn compare(seed: u64, coverage: &mut Coverage) -> Result<(), String> {
     Ok(())
 }
 
-/// Takes the proved step and holds its reply and its findings to what the plain step gave.
+/// Takes both steps and holds the reply and the findings of the proved one to those of the plain one.
 fn compare_replies(
+    plain: &mut Tables,
     proved: &mut Tables,
     line: &[u8],
-    stepped: &Result<Findings, u8>,
+    seen: &mut Seen,
     random: &mut Random,
 ) -> Result<(), String> {
-    let length = if random.percent(70) {
-        MOST_FOUND
+    let length = if random.percent(90) {
+        MOST_NUMBERS + random.below(6)
     } else {
-        random.below(MOST_FOUND)
+        random.below(MOST_NUMBERS)
     };
     let mut wanted_found = Guarded::new(vec![7; length], random);
     let mut found = wanted_found.clone();
-    let wanted = reply(stepped, &mut wanted_found);
+    let step = || {
+        let stepped = plain.step(line);
+        seen.steps.add(&plain.tables(), line, &stepped);
+        stepped
+    };
+    let wanted = reply(step, &mut wanted_found);
+    seen.short_found += u64::from(wanted == SHORT_FOUND);
     let wanted_line = Guarded::new(line.to_vec(), random);
     let line = wanted_line.clone();
     let given = exported::step(&line, proved.lend(), &mut found);
@@ -154,6 +211,58 @@ fn compare_replies(
     }
     found.compare("found", &wanted_found)?;
     line.compare("line", &wanted_line)
+}
+
+/// Both judge a made trace over the tables; the proved report is held to the plain one, and the bytes behind it, or all where the slice is short, to what was there.
+fn compare_reports(
+    plain: &mut Tables,
+    proved: &mut Tables,
+    seen: &mut Seen,
+    random: &mut Random,
+) -> Result<(), String> {
+    let tables = plain.tables();
+    let (references, pins) = (tables.references.rows.room(), tables.pins.rows.room());
+    let profile = &PROFILES[random.below(PROFILES.len())];
+    let (fewest, most) = profile.usual_lines;
+    let lines = if random.percent(6) {
+        LONG_TRACE
+    } else {
+        random.between(fewest, most) as usize
+    };
+    let trace = make(profile, random.number(), lines, references, pins);
+    let report = report(&trace, references, pins);
+    let length = match random.below(4) {
+        0 => report.len(),
+        1 => report.len() + random.below(300),
+        2 => report.len() - 1,
+        _ => random.below(report.len()),
+    };
+    let mut wanted_out = Guarded::new(vec![b'.'; length], random);
+    let mut out = wanted_out.clone();
+    let wanted = if plain.book.len() < WHOLE {
+        seen.short_books += 1;
+        0
+    } else {
+        plain.start();
+        let mut lines = trace.split_inclusive(|&byte| byte == b'\n');
+        while lines.next().is_some_and(|line| plain.step(line).is_ok()) {}
+        if report.len() <= length {
+            wanted_out[..report.len()].copy_from_slice(&report);
+            seen.reports += 1;
+            seen.long_reports += u64::from(report.len() > LONG_REPORT);
+        } else {
+            seen.short_slices += 1;
+        }
+        report.len()
+    };
+    let wanted_trace = Guarded::new(trace, random);
+    let trace = wanted_trace.clone();
+    let given = exported::judge(&trace, proved.lend(), &mut out);
+    if given != wanted {
+        return Err(format!("the report has {given} bytes, not {wanted}"));
+    }
+    out.compare("out", &wanted_out)?;
+    trace.compare("trace", &wanted_trace)
 }
 
 /// A line as it is told, cut if it is very long.

@@ -1,16 +1,14 @@
 -- Findings put one behind another stand at the front. Assumes nothing.
-use Prim.Native.Nat.{ℕ, suc, _+_, _*_, _/_, _≤_, _<_}
+use Prim.Native.Nat.{ℕ, suc, _+_, _*_, _≤_, _<_}
 use mathlib.Core.Path.{_≡_, refl, sym, ap, ap₂, _∙_}
 use mathlib.Core.List.{List, [], _∷_, _++_}
 use native.Mathlib.Omega.{arith}
 use native.Mathlib.Numerals.{add-one}
-use native.Mathlib.Decide.{decLt}
-use borrow.Author.Tests.{lt-ltb, le-ltb}
-use lib.ListN.{length, take, drop, getD, length-append, length-take, length-drop}
-use lib.Seq.{sets, sets-eq, take-nil, take-suc, take-take, take-all, take-at, drop-drop, drop-append-add, length-take-le}
+use lib.ListN.{length, take, drop, getD, length-append, length-drop}
+use lib.Seq.{sets, sets-eq, take-suc, take-at, drop-drop, drop-append-add, length-take-le}
 use Rattle.words.specs.Lists.{joined}
 use Rattle.history.specs.declared.Finding.{Finding}
-use Rattle.exported.specs.Told.{numbers, numbers-of, with-room, over, in-front, put-at}
+use Rattle.exported.specs.Told.{numbers, numbers-of, over, in-front, put-at}
 
 length-numbers : (fs : List Finding) → length (joined fs numbers-of) ≡ length fs * numbers
 length-numbers [] = refl
@@ -28,30 +26,11 @@ over-next p ns vs h =
     ∙ ap₂ (λ (a b : List ℕ). (a ++ vs) ++ b) (take-at p (drop (length p) ns) (length p) refl)
     (drop-append-add p (drop (length p) ns) (length vs) ∙ drop-drop (length vs) (length p) ns ∙ ap (λ (n : ℕ). drop n ns) (sym (length-append p vs)))
 
-length-front : (fs : List Finding) (ns : List ℕ) → length (in-front fs ns) ≡ length ns
-unfolding in-front
-length-front fs ns =
-    let fits : length (with-room fs ns) ≤ length ns = omega (arith, length-numbers (take (length ns / numbers) fs), length-take (length ns / numbers) fs) in
-    simp (length-append, length-drop) (omega arith)
-
--- there is room for all of them
-all-fit : (fs : List Finding) (ns : List ℕ) (n : ℕ) → n * numbers ≤ length ns → with-room (take n fs) ns ≡ joined (take n fs) numbers-of
-all-fit fs ns n h =
-    ap (λ (l : List Finding). joined l numbers-of)
-    (take-all (length ns / numbers) (take n fs) (omega (arith, length-take n fs)))
-
--- there is room for no more: nothing is added
-none-added : (fs : List Finding) (ns : List ℕ) (n : ℕ) → length ns < n * numbers + numbers
-    → with-room (take n fs) ns ≡ with-room (take (suc n) fs) ns
-none-added fs ns n h =
-    ap (λ (l : List Finding). joined l numbers-of)
-    (take-take (length ns / numbers) n fs (omega arith) ∙ sym (take-take (length ns / numbers) (suc n) fs (omega arith)))
-
 pub none-put : (fs : List Finding) (ns : List ℕ) → ns ≡ in-front (take 0 fs) ns
 unfolding in-front
-none-put fs ns = sym (ap (λ (l : List Finding). over (joined l numbers-of) ns) (take-nil (length ns / numbers)))
+none-put fs ns = refl
 
-module _ (fs : List Finding) (ns : List ℕ) (at : ℕ) (d : Finding) (inside : at < length fs) where
+module _ (fs : List Finding) (ns : List ℕ) (at : ℕ) (d : Finding) (inside : at < length fs) (room : at * numbers + numbers ≤ length ns) where
   abbrev there : List ℕ
   there = joined (take at fs) numbers-of
 
@@ -61,32 +40,12 @@ module _ (fs : List Finding) (ns : List ℕ) (at : ℕ) (d : Finding) (inside : 
   one-more : joined (take (suc at) fs) numbers-of ≡ there ++ numbers-of (getD fs at d)
   one-more = ap (λ (l : List Finding). joined l numbers-of) (take-suc fs at d inside) ∙ joined-append (take at fs) (getD fs at d)
 
-  room : at * numbers + numbers ≤ length ns → put-at (in-front (take at fs) ns) at (getD fs at d) ≡ in-front (take (suc at) fs) ns
-  unfolding put-at
-  room h =
-      rw (length-front (take at fs) ns, le-ltb _ _ h)
-      (unfold in-front in
-      rw (all-fit fs ns at (omega arith), all-fit fs ns (suc at) (omega arith), one-more, ← length-there)
-      (over-next there ns (numbers-of (getD fs at d)) (omega (arith, length-there))))
-
-  no-room : length ns < at * numbers + numbers → put-at (in-front (take at fs) ns) at (getD fs at d) ≡ in-front (take (suc at) fs) ns
-  unfolding put-at
-  no-room h =
-      rw (length-front (take at fs) ns, lt-ltb _ _ h)
-      (unfold in-front in ap (λ (p : List ℕ). over p ns) (none-added fs ns at h))
-
   put-next : put-at (in-front (take at fs) ns) at (getD fs at d) ≡ in-front (take (suc at) fs) ns
-  put-next = go (decLt (length ns) (at * numbers + numbers))
-    where
-      go : Dec (length ns < at * numbers + numbers) → put-at (in-front (take at fs) ns) at (getD fs at d) ≡ in-front (take (suc at) fs) ns
-      go (yes h) = no-room h
-      go (no h) = room (omega (arith, h))
+  unfolding put-at in-front
+  put-next = rw (one-more, ← length-there) (over-next there ns (numbers-of (getD fs at d)) (omega (arith, length-there)))
 
   pub next-put : {l l' : List ℕ} → l ≡ in-front (take at fs) ns → l' ≡ put-at l at (getD fs at d) → l' ≡ in-front (take (at + 1) fs) ns
   next-put e h = h ∙ ap (λ (l : List ℕ). put-at l at (getD fs at d)) e ∙ put-next ∙ ap (λ (n : ℕ). in-front (take n fs) ns) (sym (add-one at))
 
 pub all-put : {l : List ℕ} (fs : List Finding) (ns : List ℕ) (at n : ℕ) → at ≡ n → l ≡ in-front (take at fs) ns → l ≡ in-front (take n fs) ns
 all-put fs ns at n e h = h ∙ ap (λ (m : ℕ). in-front (take m fs) ns) e
-
-pub of-length : {l : List ℕ} (fs : List Finding) (ns : List ℕ) → l ≡ in-front fs ns → length l ≡ length ns
-of-length fs ns e = ap length e ∙ length-front fs ns

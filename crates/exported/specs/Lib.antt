@@ -1,2 +1,3 @@
 -- believed of any tables
 pub mod Told
+pub mod Judged

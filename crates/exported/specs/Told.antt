@@ -1,5 +1,5 @@
 -- What C and Rust are told of a step: a number, the tables left, and the findings left as numbers. Assumes nothing.
-use Prim.Native.Nat.{ℕ, _+_, _*_, _/_}
+use Prim.Native.Nat.{ℕ, _*_}
 use mathlib.Core.List.{List, [], _∷_, _++_}
 use lib.Dec.{eqb, ltb}
 use lib.IntN.{ℤ, pos, negℤ}
@@ -8,8 +8,10 @@ use lib.Seq.{sets}
 use Rattle.words.specs.Choice.{if_then_else_}
 use Rattle.words.specs.Lists.{joined}
 use Rattle.history.specs.declared.Finding.{Finding}
+use Rattle.answers.specs.Answer.{most-found}
 use Rattle.tables.specs.Tables.{Tables}
 use Rattle.events.specs.Outcome.{Outcome}
+use Rattle.judge.specs.Outcome.{step-outcome}
 
 pub record Told : Type 0 where
   pub number : ℤ
@@ -27,19 +29,23 @@ number-told refusal count = if eqb refusal 0 then pos count else negℤ (pos ref
 abbrev pub numbers : ℕ
 numbers = 4
 
+-- those of the most findings of a line
+abbrev pub most-numbers : ℕ
+most-numbers = most-found * numbers
+
+-- told where there is no room for them; the numbers of the paper are told as -1 to -8
+abbrev pub short-found : ℤ
+short-found = negℤ (pos 100)
+
 abbrev pub numbers-of : Finding → List ℕ
 numbers-of f = f .line ∷ f .rule ∷ f .place ∷ f .thing ∷ []
-
--- of these findings those that there is room for, whole
-abbrev pub with-room : List Finding → List ℕ → List ℕ
-with-room fs ns = joined (take (length ns / numbers) fs) numbers-of
 
 -- these numbers at the front of others; what is behind them stays
 abbrev pub over : List ℕ → List ℕ → List ℕ
 over ms ns = ms ++ drop (length ms) ns
 
 unfoldable pub in-front : List Finding → List ℕ → List ℕ
-in-front fs ns = over (with-room fs ns) ns
+in-front fs ns = over (joined fs numbers-of) ns
 
 -- of what a step answers and leaves; a refusal has no findings, so nothing is written for it
 unfoldable pub told : Outcome → List ℕ → Told
@@ -49,6 +55,10 @@ told o ns =
     (o .left)
     (in-front (take (o .answer .count) (o .answer .found)) ns)
 
--- one finding more behind `at` others, if there is room for it
+-- of a line over these tables; where there is no room for the most findings, nothing is touched
+unfoldable pub step-told : Tables → List ℕ → List ℕ → Told
+step-told T line ns = if ltb (length ns) most-numbers then tells short-found T ns else told (step-outcome T line) ns
+
+-- one finding more behind `at` others
 unfoldable pub put-at : List ℕ → ℕ → Finding → List ℕ
-put-at ns at f = if ltb (length ns) (at * numbers + numbers) then ns else sets ns (at * numbers) (numbers-of f)
+put-at ns at f = sets ns (at * numbers) (numbers-of f)

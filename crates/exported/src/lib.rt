@@ -1,19 +1,26 @@
-// The judge for C and Rust: a start and one step over lent slices, the findings as numbers.
+// The judge for C and Rust: a start and one step over lent slices, the findings as numbers; and a whole trace with its report.
 use answers::Answer;
 use history::Finding;
 use rows::Number;
+use trace::Reported;
 use words::Handle;
 ghost use mathlib.Core.Path.{_≡_};
-ghost use Prim.Native.Nat.{_≤_};
-ghost use lib.ListN.{take};
+ghost use Prim.Native.Nat.{_+_, _*_, _≤_};
+ghost use lib.ListN.{length, take};
 ghost use Rattle.answers.specs.Answer.{most-found};
 ghost use Rattle.tables.specs.Tables.{tables};
 ghost use Rattle.tables.specs.Stepping.{start-of};
-ghost use Rattle.judge.specs.Outcome.{step-outcome};
-ghost use Rattle.exported.specs.Told.{put-at, in-front, number-told, tells, told};
+ghost use Rattle.trace.specs.Whole.{whole-outcome};
+ghost use Rattle.exported.specs.Judged.{length-told, judges, judged};
+ghost use Rattle.exported.specs.Told.{numbers, most-numbers, put-at, in-front, number-told, tells, step-told};
 
-// The numbers of a finding.
+// The numbers of a finding, and of the most findings of a line.
 const NUMBERS: usize = 4;
+
+const MOST_NUMBERS: usize = 24;
+
+// Told where there is no room for them.
+const SHORT_FOUND: i32 = -100;
 
 // Clears all rows, marks and book.
 #[no_mangle]
@@ -29,15 +36,12 @@ pub extern "C" fn weir_start(
     judge::start(rows, marks, pins, pinmarks, book)
 }
 
-// The four numbers of a finding at place `at`, if there is room for them.
+// The four numbers of a finding behind `at` others.
 fn put(found: &mut [Handle], at: usize, finding: Finding)
-    requires { ⌜ at ≤ most-found ⌝ }
+    requires { ⌜ at * numbers + numbers ≤ length (now found) ⌝ }
     ensures { λ _. ⌜ now (found .exit) ≡ put-at (now (found .entry)) at finding ⌝ }
 {
     let first = at * NUMBERS;
-    if found.len() < first + NUMBERS {
-        return;
-    }
     found[first] = finding.line;
     found[first + 1] = finding.rule;
     found[first + 2] = finding.place;
@@ -46,7 +50,7 @@ fn put(found: &mut [Handle], at: usize, finding: Finding)
 
 // The findings of an answer, one behind another.
 fn list(found: &mut [Handle], answer: Answer)
-    requires { ⌜ answer .count ≤ most-found ⌝ }
+    requires { ⌜ (answer .count ≤ most-found) × (most-numbers ≤ length (now found)) ⌝ }
     ensures { λ _. ⌜ now (found .exit) ≡ in-front (take (answer .count) (answer .found)) (now (found .entry)) ⌝ }
 {
     let count = answer.count;
@@ -70,7 +74,8 @@ fn number_told(refusal: u8, count: usize) -> i32
 }
 
 // One line of the trace, all its bytes with the LF: below zero the number given instead of it, or how many findings it has.
-// They are left at the front of `found`, line, rule, place and thing of each, as many as it has room for.
+// They are left at the front of `found`, line, rule, place and thing of each. Where `found` is short for the most that a line
+// has, below 24 numbers, it is -100, and nothing is touched.
 #[no_mangle]
 pub extern "C" fn weir_step(
     line: &[u8],
@@ -81,9 +86,41 @@ pub extern "C" fn weir_step(
     book: &mut [u64],
     found: &mut [Handle],
 ) -> i32
-    ensures { λ r. ⌜ tells r (tables (now (rows .exit)) (now (marks .exit)) (now (pins .exit)) (now (pinmarks .exit)) (now (book .exit))) (now (found .exit)) ≡ told (step-outcome (tables (now (rows .entry)) (now (marks .entry)) (now (pins .entry)) (now (pinmarks .entry)) (now (book .entry))) (now (line .entry))) (now (found .entry)) ⌝ }
+    ensures { λ r. ⌜ tells r (tables (now (rows .exit)) (now (marks .exit)) (now (pins .exit)) (now (pinmarks .exit)) (now (book .exit))) (now (found .exit)) ≡ step-told (tables (now (rows .entry)) (now (marks .entry)) (now (pins .entry)) (now (pinmarks .entry)) (now (book .entry))) (now (line .entry)) (now (found .entry)) ⌝ }
 {
+    if found.len() < MOST_NUMBERS {
+        return SHORT_FOUND;
+    }
     let answer = judge::step(line, rows, marks, pins, pinmarks, book);
     list(found, answer);
     number_told(answer.refusal, answer.count)
+}
+
+// How long the report is, written or not; 0 over a short book.
+fn length_told(reported: Reported) -> usize
+    ensures { λ r. ⌜ r ≡ length-told reported ⌝ }
+{
+    match reported {
+        Reported::Bytes(n) => n,
+        Reported::Needs(n) => n,
+        Reported::ShortBook => 0,
+    }
+}
+
+// Judges all lines of a trace from a start: how long the report is. It stands at the start of `out` where that is no shorter, else nothing
+// is written there; the tables are left as the run left them. Over a short book it is 0, which no report is long, and nothing is touched.
+#[no_mangle]
+pub extern "C" fn weir_judge(
+    trace: &[u8],
+    rows: &mut [Number],
+    marks: &mut [u64],
+    pins: &mut [Number],
+    pinmarks: &mut [u64],
+    book: &mut [u64],
+    out: &mut [u8],
+) -> usize
+    ensures { λ r. ⌜ judges r (tables (now (rows .exit)) (now (marks .exit)) (now (pins .exit)) (now (pinmarks .exit)) (now (book .exit))) (now (out .exit)) ≡ judged (whole-outcome (tables (now (rows .entry)) (now (marks .entry)) (now (pins .entry)) (now (pinmarks .entry)) (now (book .entry))) (now (trace .entry)) (now (out .entry))) ⌝ }
+{
+    let reported = trace::judge_trace(trace, rows, marks, pins, pinmarks, book, out);
+    length_told(reported)
 }

@@ -1,6 +1,7 @@
 -- That the promises of the exported judge are tight. Assumes nothing.
 use Rattle.exported.proofs as exported
 use Rattle.exported.specs.Told.{Told}
+use Rattle.exported.specs.Judged.{Judged}
 use Rattle.tight.specs.Tight.{given, Tight}
 use Rattle.tight.proofs.Shapes.{by, by-tables, with-tables}
 
@@ -9,3 +10,6 @@ weir-start-tight κs args = (tt, by-tables)
 
 pub weir-step-tight : Tight exported.weir_step.ended exported.weir_step.Reads.Asked exported.weir_step.Reads.Learnt
 weir-step-tight κs args = (tt, λ x y. by (λ (o : Told). given (o .number) (tt, with-tables (o .left) (o .found, tt))))
+
+pub weir-judge-tight : Tight exported.weir_judge.ended exported.weir_judge.Reads.Asked exported.weir_judge.Reads.Learnt
+weir-judge-tight κs args = (tt, λ x y. by (λ (o : Judged). given (o .number) (tt, with-tables (o .left) (o .out, tt))))

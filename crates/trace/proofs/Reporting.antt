@@ -7,8 +7,6 @@ use native.Mathlib.Omega.{arith}
 use borrow.Author.Tests.{lt-ltb, le-ltb, le-leb, lt-leb}
 use lib.ListN.{length, length-append}
 use Rattle.numbers.specs.Writing.{put}
-use Rattle.lines.specs.declared.Wrote.{Wrote}
-use Rattle.lines.specs.declared.Wrote.the-variants as Wrote
 use Rattle.history.specs.Report.{end-line, report}
 use Rattle.book.specs.Layout.{whole}
 use Rattle.book.specs.Threads.{lines-in, closed-in}
@@ -21,8 +19,9 @@ use Rattle.run.specs.Following.{Follows}
 use Rattle.run.specs.Running.{all-shown}
 use Rattle.run.proofs.Following.{start-follows}
 use Rattle.trace.specs.declared.Run.{Run}
+use Rattle.trace.specs.declared.Reported.the-variants as Reported
 use Rattle.trace.specs.Whole.{run-over, run-of, leaves, whole-outcome}
-use Rattle.trace.specs.Running.{put-fitting, Reported}
+use Rattle.trace.specs.Running.{put-fitting, Measured}
 use Rattle.trace.proofs.Going.{Going}
 use Rattle.trace.proofs.Putting.{put-behind}
 
@@ -44,8 +43,8 @@ module _ (T : Tables) {S0 S : Tables} {trace out out1 : List ℕ} {r : Run} (e :
       ap (λ (n : ℕ). all-shown (g .found) ++ end-line (closed-in (S .book)) (lines-in (S .book)) (r .refusal) n) (g .findings)
       ∙ ap printed (sym run-is)
 
-  pub reported : {w : ℕ} {out' : List ℕ} → (w ≡ r .bytes + length its-last) × (out' ≡ put-fitting out1 (r .bytes) its-last) → Reported T trace out w S out'
-  reported {w} {out'} last =
+  pub measured : {w : ℕ} {out' : List ℕ} → (w ≡ r .bytes + length its-last) × (out' ≡ put-fitting out1 (r .bytes) its-last) → Measured T trace out w S out'
+  measured {w} {out'} last =
       let long : w ≡ length (report-in T trace) =
       last .0 ∙ ap (λ (n : ℕ). n + length its-last) (g .bytes) ∙ sym (length-append (all-shown (g .found)) its-last) ∙ ap length both-are
       in
@@ -60,28 +59,28 @@ module _ (T : Tables) {S0 S : Tables} {trace out out1 : List ℕ} {r : Run} (e :
 -- ---- the outcome
 
 module _ (T : Tables) (trace out : List ℕ) where
-  pub book-short : length (T .book) < whole → leaves (Wrote.Refused 8) T out ≡ whole-outcome T trace out
+  pub book-short : length (T .book) < whole → leaves Reported.ShortBook T out ≡ whole-outcome T trace out
   unfolding whole-outcome
   book-short h = rw (lt-ltb (length (T .book)) whole h) refl
 
   -- the report was measured
-  module _ (long : whole ≤ length (T .book)) {S : Tables} {w : ℕ} {unused unused' : List ℕ} (first : Reported T trace unused w S unused') where
+  module _ (long : whole ≤ length (T .book)) {S : Tables} {w : ℕ} {unused unused' : List ℕ} (first : Measured T trace unused w S unused') where
     its-length : w ≡ length (report (room-of T) trace)
     its-length = first .long ∙ ap length (reports-are T long trace)
 
-    pub out-short : length out < w → leaves (Wrote.Refused 7) S out ≡ whole-outcome T trace out
+    pub out-short : length out < w → leaves (Reported.Needs w) S out ≡ whole-outcome T trace out
     unfolding whole-outcome
     out-short h =
         rw (le-ltb (length (T .book)) whole long, lt-leb (0 + length (report (room-of T) trace)) (length out) (omega (arith, h, its-length)))
-        (ap (λ (X : Tables). leaves (Wrote.Refused 7) X out) (first .left))
+        (λ i. leaves (Reported.Needs (its-length i)) (first .left i) out)
 
     -- a second run from a start is the first again
-    pub whole-printed : {S' : Tables} {out' : List ℕ} {n : ℕ} → w ≤ length out → Alike S T → Reported S trace out n S' out' → leaves (Wrote.Bytes w) S' out' ≡ whole-outcome T trace out
+    pub whole-printed : {S' : Tables} {out' : List ℕ} {n : ℕ} → w ≤ length out → Alike S T → Measured S trace out n S' out' → leaves (Reported.Bytes w) S' out' ≡ whole-outcome T trace out
     unfolding whole-outcome report-in run-over
     whole-printed {S'} {out'} {n} h alike second =
         let again : run-of S trace ≡ run-of T trace = ap (λ (X : Tables). run-over X trace) (start-is S T alike) in
         let its : report-in S trace ≡ report (room-of T) trace = ap printed again ∙ reports-are T long trace in
         rw (le-ltb (length (T .book)) whole long, le-leb (0 + length (report (room-of T) trace)) (length out) (omega (arith, h, its-length)))
         (λ i.
-        leaves (Wrote.Bytes (its-length i)) ((second .left ∙ ap (λ (x : Ran). x .left) again) i)
+        leaves (Reported.Bytes (its-length i)) ((second .left ∙ ap (λ (x : Ran). x .left) again) i)
         ((second .shown (omega (arith, h, second .long, its-length, ap length its)) ∙ ap (put out 0) its) i))

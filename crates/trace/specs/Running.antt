@@ -59,7 +59,7 @@ pub record Sums-fit (trace : List ℕ) (r : Run) (p : Passed) : Type 0 where
   pub put : p .put ≤ scratch-size
 
 -- the report is so long, and stands at the front of the bytes lent where it has room there
-pub record Reported (T : Tables) (trace out : List ℕ) (width : ℕ) (T' : Tables) (out' : List ℕ) : Type 0 where
+pub record Measured (T : Tables) (trace out : List ℕ) (width : ℕ) (T' : Tables) (out' : List ℕ) : Type 0 where
   pub long : width ≡ length (report-in T trace)
   pub left : T' ≡ run-of T trace .left
   pub shown : width ≤ length out → out' ≡ put out 0 (report-in T trace)

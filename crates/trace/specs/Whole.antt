@@ -5,13 +5,13 @@ use lib.Dec.{ltb}
 use lib.ListN.{length}
 use Rattle.words.specs.Choice.{if_then_else_}
 use Rattle.numbers.specs.Writing.{put, has-room}
-use Rattle.lines.specs.declared.Wrote.{Wrote}
-use Rattle.lines.specs.declared.Wrote.the-variants as Wrote
 use Rattle.history.specs.Report.{lines-of, report}
 use Rattle.book.specs.Layout.{whole}
 use Rattle.tables.specs.Tables.{Tables}
 use Rattle.tables.specs.Stepping.{start-of}
 use Rattle.demands.specs.Calls.{room-of, Ran, run-in}
+use Rattle.trace.specs.declared.Reported.{Reported}
+use Rattle.trace.specs.declared.Reported.the-variants as Reported
 
 -- the run of the trace over these tables
 unfoldable pub run-over : Tables → List ℕ → Ran
@@ -23,17 +23,17 @@ run-of T trace = run-over (start-of T) trace
 
 -- the reply, the tables left and the bytes left
 pub record Outcome : Type 0 where
-  pub reply : Wrote
+  pub reply : Reported
   pub tables : Tables
   pub out : List ℕ
 
-abbrev pub leaves : Wrote → Tables → List ℕ → Outcome
+abbrev pub leaves : Reported → Tables → List ℕ → Outcome
 leaves r T out = record { reply = r; tables = T; out = out }
 
--- 8 for a short book, and nothing is touched; 7 for a slice that is short for the report: nothing is written, and the tables are left as the run left them; else the history's report
+-- a short book, and nothing is touched; else the tables are left as the run left them, and the history's report stands at the start of the slice, or, where that is short, nothing is written and its length is told
 unfoldable pub whole-outcome : Tables → List ℕ → List ℕ → Outcome
 whole-outcome T trace out =
-    if ltb (length (T .book)) whole then leaves (Wrote.Refused 8) T out
+    if ltb (length (T .book)) whole then leaves Reported.ShortBook T out
     else if has-room out 0 (report (room-of T) trace) then
-    leaves (Wrote.Bytes (length (report (room-of T) trace))) (run-of T trace .left) (put out 0 (report (room-of T) trace))
-    else leaves (Wrote.Refused 7) (run-of T trace .left) out
+    leaves (Reported.Bytes (length (report (room-of T) trace))) (run-of T trace .left) (put out 0 (report (room-of T) trace))
+    else leaves (Reported.Needs (length (report (room-of T) trace))) (run-of T trace .left) out

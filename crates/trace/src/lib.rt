@@ -1,5 +1,5 @@
 // The judging of a whole lent trace: its report's bytes in a lent slice.
-use lines::Wrote;
+use rows::Number;
 use run::Passed;
 use run::Stop;
 ghost use mathlib.Core.Path.{_≡_};
@@ -12,12 +12,17 @@ ghost use Rattle.book.specs.Layout.{whole};
 ghost use Rattle.book.specs.Threads.{lines-in, closed-in};
 ghost use Rattle.tables.specs.Tables.{tables};
 ghost use Rattle.trace.specs.Whole.{leaves, whole-outcome};
-ghost use Rattle.trace.specs.Running.{put-fitting, scratch-size, Few, refusal-of, is-full, Sums-fit, Passes-on, Reported};
+ghost use Rattle.trace.specs.Running.{put-fitting, scratch-size, Few, refusal-of, is-full, Sums-fit, Passes-on, Measured};
 
-// The numbers for a book that is short, and for a slice that is short for the report.
-const UNFIT: u8 = 8;
-
-const NO_ROOM: u8 = 7;
+// What is answered of a whole trace. None of it is a refusal: that of a line is part of the report.
+pub enum Reported {
+    // The report has so many bytes, and stands at the start of the slice.
+    Bytes(usize),
+    // The slice is short for the report, which has so many bytes.
+    Needs(usize),
+    // The thread book is short.
+    ShortBook,
+}
 
 // Findings are put here before they are copied.
 const SCRATCH: usize = 4096;
@@ -113,15 +118,15 @@ fn put_last(run: Run, book: &[u64], out: &mut [u8]) -> usize
 // The report of the trace at the front of `out` where it has room there; how long it is.
 fn report_into(
     trace: &[u8],
-    rows: &mut [u32],
+    rows: &mut [Number],
     marks: &mut [u64],
-    pins: &mut [u32],
+    pins: &mut [Number],
     pinmarks: &mut [u64],
     book: &mut [u64],
     out: &mut [u8],
 ) -> usize
     requires { ⌜ whole ≤ length (now book) ⌝ }
-    ensures { λ r. ⌜ Reported (tables (now (rows .entry)) (now (marks .entry)) (now (pins .entry)) (now (pinmarks .entry)) (now (book .entry))) (now (trace .entry)) (now (out .entry)) r (tables (now (rows .exit)) (now (marks .exit)) (now (pins .exit)) (now (pinmarks .exit)) (now (book .exit))) (now (out .exit)) ⌝ }
+    ensures { λ r. ⌜ Measured (tables (now (rows .entry)) (now (marks .entry)) (now (pins .entry)) (now (pinmarks .entry)) (now (book .entry))) (now (trace .entry)) (now (out .entry)) r (tables (now (rows .exit)) (now (marks .exit)) (now (pins .exit)) (now (pinmarks .exit)) (now (book .exit))) (now (out .exit)) ⌝ }
 {
     judge::start(rows, marks, pins, pinmarks, book);
     let mut scratch = [0; SCRATCH];
@@ -150,26 +155,26 @@ fn report_into(
 }
 
 // Judges all lines of a trace from a start, and writes the report at the start of `out`: findings, then the `end` line.
-// 8 where the book is short, and nothing is touched; 7 where `out` is short: nothing is written, and the tables are left as the run left them.
+// Where `out` is short nothing is written there; the tables, its work room, are left as the run left them. Over a short book nothing is touched.
 pub fn judge_trace(
     trace: &[u8],
-    rows: &mut [u32],
+    rows: &mut [Number],
     marks: &mut [u64],
-    pins: &mut [u32],
+    pins: &mut [Number],
     pinmarks: &mut [u64],
     book: &mut [u64],
     out: &mut [u8],
-) -> Wrote
+) -> Reported
     ensures { λ r. ⌜ leaves r (tables (now (rows .exit)) (now (marks .exit)) (now (pins .exit)) (now (pinmarks .exit)) (now (book .exit))) (now (out .exit)) ≡ whole-outcome (tables (now (rows .entry)) (now (marks .entry)) (now (pins .entry)) (now (pinmarks .entry)) (now (book .entry))) (now (trace .entry)) (now (out .entry)) ⌝ }
 {
     if book.len() < book::WHOLE {
-        return Wrote::Refused(UNFIT);
+        return Reported::ShortBook;
     }
     let mut unused = [0];
     let w = report_into(trace, rows, marks, pins, pinmarks, book, &mut unused);
     if out.len() < w {
-        return Wrote::Refused(NO_ROOM);
+        return Reported::Needs(w);
     }
     report_into(trace, rows, marks, pins, pinmarks, book, out);
-    Wrote::Bytes(w)
+    Reported::Bytes(w)
 }

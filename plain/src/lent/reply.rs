@@ -1,16 +1,24 @@
 //! A step's reply as a C caller gets it.
 
-use crate::findings::{Finding, Findings};
+use crate::findings::{Finding, Findings, MOST_FINDINGS};
 use crate::limits::Number;
 use crate::refusal::Refusal;
 
 /// Numbers to a finding: line, rule, place, thing.
-pub const FINDING: usize = 4;
+const FINDING: usize = 4;
+/// The numbers of the most findings of a line.
+pub const MOST_NUMBERS: usize = MOST_FINDINGS * FINDING;
+/// The reply where there is no room for them.
+pub const SHORT_FOUND: i32 = -100;
 
-/// Minus the refusal's number, or the count of findings. Those that `found` has room for are written at its front.
-pub fn reply(stepped: &Result<Findings, Refusal>, found: &mut [Number]) -> i32 {
-    match stepped {
-        Err(refusal) => -i32::from(*refusal),
+/// Minus the refusal's number, or the count of findings. Their numbers are written at the front of `found`; where that is short for
+/// the most findings of a line, the step is not taken.
+pub fn reply(step: impl FnOnce() -> Result<Findings, Refusal>, found: &mut [Number]) -> i32 {
+    if found.len() < MOST_NUMBERS {
+        return SHORT_FOUND;
+    }
+    match step() {
+        Err(refusal) => -i32::from(refusal),
         Ok(findings) => {
             for (finding, written) in findings.iter().zip(found.chunks_exact_mut(FINDING)) {
                 let Finding {

@@ -2,7 +2,7 @@
 
 use crate::common::{line, Lent};
 use plain::lent::book::*;
-use plain::lent::reply::reply;
+use plain::lent::reply::{reply, MOST_NUMBERS, SHORT_FOUND};
 use plain::lent::rows::WORD;
 use plain::lent::slices::Slices;
 use plain::limits::{PIN_NUMBERS, REFERENCE_NUMBERS};
@@ -633,25 +633,28 @@ fn a_start_clears_every_number() {
 }
 
 #[test]
-fn a_reply_writes_the_findings_it_has_room_for() {
-    let mut lent = in_native();
-    let stepped = lent.tested_step(&line("C 1 101 31 6 0 0 0"));
-    for (length, written) in [
-        (0, vec![]),
-        (3, vec![9, 9, 9]),
-        (4, vec![2, 1, 0, 101]),
-        (7, vec![2, 1, 0, 101, 9, 9, 9]),
-        (8, vec![2, 1, 0, 101, 2, 10, 1, 6]),
-        (10, vec![2, 1, 0, 101, 2, 10, 1, 6, 9, 9]),
-    ] {
+fn a_reply_writes_the_findings_at_the_front() {
+    let condemned = line("C 1 101 31 6 0 0 0");
+    for length in [MOST_NUMBERS, MOST_NUMBERS + 2] {
+        let mut lent = in_native();
         let mut found = vec![9; length];
-        assert_eq!(reply(&stepped, &mut found), 2);
-        assert_eq!(found, written);
+        assert_eq!(reply(|| lent.tested_step(&condemned), &mut found), 2);
+        assert_eq!(found[..8], [2, 1, 0, 101, 2, 10, 1, 6]);
+        assert_eq!(found[8..], vec![9; length - 8]);
+        let refused = line("X 1 0");
+        let mut found = vec![9; length];
+        assert_eq!(reply(|| lent.tested_step(&refused), &mut found), -4);
+        assert_eq!(found, vec![9; length]);
     }
-    let mut found = [9; 24];
-    let refused = lent.tested_step(&line("X 1 0"));
-    assert_eq!(reply(&refused, &mut found), -4);
-    assert_eq!(found, [9; 24]);
+}
+
+#[test]
+fn no_step_is_taken_without_room_for_the_most_findings() {
+    for length in [0, 8, MOST_NUMBERS - 1] {
+        let mut found = vec![9; length];
+        assert_eq!(reply(|| unreachable!(), &mut found), SHORT_FOUND);
+        assert_eq!(found, vec![9; length]);
+    }
 }
 
 #[test]

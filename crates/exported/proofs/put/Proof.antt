@@ -2,7 +2,6 @@
 use native.Mathlib.Numerals.{towards-suc}
 use native.Mathlib.Omega.{arith}
 use lib.ListN.{length-set}
-use borrow.Author.Tests.{lt-ltb, le-ltb}
 use Rattle.exported.specs.Told.{put-at}
 use borrow.Author.Needs.{needs}
 use Rattle.exported.proofs.put.Statement.{statement}
@@ -14,8 +13,6 @@ put-spec =
     (tie.spec
     (λ c. search needs)
     (λ c. search needs)
-    (λ c. unfold put-at in simp (lt-ltb _ _ (c .if1 .taken)))
-    (λ c. search needs)
     (λ c. search needs)
     (λ c. search needs)
     (λ c. search needs)
@@ -27,4 +24,4 @@ put-spec =
     (λ c. search needs)
     (λ c. simp length-set (omega arith))
     (λ c. search needs)
-    (λ c. unfold put-at in rw (le-ltb _ _ (c .if1 .left)) (simp towards-suc)))
+    (λ c. unfold put-at in simp towards-suc))

@@ -7,7 +7,7 @@ use Rattle.tables.specs.Tables.{tables}
 use Rattle.demands.specs.Calls.{Alike}
 use Rattle.trace.specs.Running.{scratch-size}
 use Rattle.trace.proofs.Going.{Going, going-start, few-at-end, sums-fit, going-on, still, less}
-use Rattle.trace.proofs.Reporting.{started, reported}
+use Rattle.trace.proofs.Reporting.{started, measured}
 use Rattle.trace.proofs.report_into.Statement.{statement}
 use Rattle.trace.proofs.report_into.Tie as tie
 
@@ -65,7 +65,7 @@ returns : tie.Need-returns Inv-loop μ-loop
 returns c =
     let at-put = c .before .before in
     let at-test = at-put .before .before .before in
-    reported _ (at-test .before .before .before .before .before .before .before .before .before .before .before .before .start .ensures) (at-test .before .loop .inv .2) (at-test .loop-test .left) (at-put .put-last .ensures)
+    measured _ (at-test .before .before .before .before .before .before .before .before .before .before .before .before .start .ensures) (at-test .before .loop .inv .2) (at-test .loop-test .left) (at-put .put-last .ensures)
 
 pub report-into-spec : {M : Type 1} → statement M
 report-into-spec =
