@@ -1,4 +1,5 @@
 """Edits that plant an error: a heading `# what is wrong`, then `file:`, and `old:` and `new:` for each text that is changed in it."""
+from scratch import ROOT
 
 
 class Misfit(Exception):
@@ -32,3 +33,18 @@ def changed(text, pairs, name):
 
 def says(edit):
     return edit.splitlines()[0].removeprefix('# ')
+
+
+def of_definitions():
+    """The edits that plant an error in a definition, by name: where their paths begin, and their files."""
+    own = {f.stem: ('crates/history/', f) for f in (ROOT / 'crates' / 'history' / 'must-fail').glob('*.edit')}
+    return dict(own, **{f.stem: ('', f) for f in (ROOT / 'tests' / 'planted.d').glob('*.edit')})
+
+
+def plant(folder, start, file):
+    """Applies an edit in a folder; what it says it plants."""
+    edit = file.read_text()
+    for name, pairs in planted(edit).items():
+        path = folder / (start + name)
+        path.write_text(changed(path.read_text(), pairs, file.name))
+    return says(edit)

@@ -1,12 +1,13 @@
-"""A repository in a temporary folder with crates of this one, those of the definitions or all, for the prover to work in.
+"""A repository in a temporary folder for the prover to work in: crates of this one, or their definitions alone.
 
 Nothing is written in this repository. What is proved here already (target/) is not proved again there, as long as
 it is left unchanged.
 """
-import os, pathlib, shutil, subprocess, tempfile
+import os, pathlib, re, shutil, subprocess, tempfile
 
 ROOT = pathlib.Path(__file__).resolve().parent.parent
 DEFINITIONS = ['words', 'facts', 'numbers', 'lines', 'history']
+TYPE = re.compile(r'^use words::Handle;\n|^pub type [^\n]*\n|^(?:pub )?(?:enum|struct) .*?^}\n', re.M | re.S)
 
 
 class Stopped(Exception):
@@ -14,21 +15,23 @@ class Stopped(Exception):
 
 
 class Repository:
-    def __init__(self, crates=DEFINITIONS, crate=None):
-        """These crates, and one more, which sees them all and is empty."""
+    """Crates with their proofs, those of the definitions or others."""
+
+    def __init__(self, crates=DEFINITIONS):
         self.folder = pathlib.Path(tempfile.mkdtemp(prefix='scratch.'))
         self.crates = self.folder / 'crates'
         for name in crates:
-            shutil.copytree(ROOT / 'crates' / name, self.crates / name, ignore=shutil.ignore_patterns('must-fail'))
-        if (ROOT / 'target' / 'stamp').is_dir():
-            for part in ('rlib', 'stamp'):
-                shutil.copytree(ROOT / 'target' / part, self.folder / 'target' / part)
-        lines = [l for l in (ROOT / 'crates.txt').read_text().splitlines() if l.split(':')[0] in crates]
-        if crate:
-            (self.crates / crate / 'src').mkdir(parents=True)
-            (self.crates / crate / 'src' / 'lib.rt').write_text('// There is no code here.\n')
-            lines.append(crate + ': ' + ' '.join(crates))
-        (self.folder / 'crates.txt').write_text('\n'.join(lines) + '\n')
+            self.copy(name)
+        self.list = [l for l in (ROOT / 'crates.txt').read_text().splitlines() if l.split(':')[0] in crates]
+        (self.folder / 'crates.txt').write_text('\n'.join(self.list) + '\n')
+
+    def copy(self, name):
+        shutil.copytree(ROOT / 'crates' / name, self.crates / name, ignore=shutil.ignore_patterns('must-fail'))
+        stamp, rlib = pathlib.Path('target', 'stamp', name), pathlib.Path('target', 'rlib', name + '.rlib')
+        if (ROOT / stamp).is_file() and (ROOT / rlib).is_dir():
+            (self.folder / stamp).parent.mkdir(parents=True, exist_ok=True)
+            shutil.copy(ROOT / stamp, self.folder / stamp)
+            shutil.copytree(ROOT / rlib, self.folder / rlib)
 
     def write(self, crate, files):
         """The proofs of a crate: these texts by file name, and no others."""
@@ -47,3 +50,23 @@ class Repository:
 
     def remove(self):
         shutil.rmtree(self.folder)
+
+
+class Definitions(Repository):
+    """The definitions and the types that they name, without functions and proofs, and an empty crate that sees them all."""
+
+    def __init__(self, crate):
+        super().__init__()
+        (self.crates / crate / 'src').mkdir(parents=True)
+        (self.crates / crate / 'src' / 'lib.rt').write_text('// There is no code here.\n')
+        self.list.append(crate + ': ' + ' '.join(DEFINITIONS))
+        (self.folder / 'crates.txt').write_text('\n'.join(self.list) + '\n')
+
+    def copy(self, name):
+        shutil.copytree(ROOT / 'crates' / name / 'specs', self.crates / name / 'specs')
+        (self.crates / name / 'src').mkdir()
+        types = {f.stem: TYPE.findall(f.read_text()) for f in sorted((ROOT / 'crates' / name / 'src').glob('*.rt'))}
+        modules = [module for module in types if types[module] and module != 'lib']
+        types['lib'] += ['pub mod %s;\n' % module for module in modules]
+        for module in ['lib'] + modules:
+            (self.crates / name / 'src' / (module + '.rt')).write_text('// The types alone.\n' + '\n'.join(types[module]))

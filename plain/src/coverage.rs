@@ -1,10 +1,11 @@
-//! What a set of steps brings up: lines accepted, functions called, each refusal by its cause, each rule by line letter and place.
+//! What a set of steps brings up: lines accepted, functions called, numbers in unused places, each refusal by its cause, each
+//! rule by line letter and place.
 
-use crate::facts::{known, ResultKind, FIRST_FUNCTION, LAST_FUNCTION, PUSH_LOCAL_FRAME};
+use crate::facts::*;
 use crate::findings::Findings;
 use crate::form::{form, with_fields, Form, FORMS};
 use crate::judge::Judge;
-use crate::lent::book::Fault;
+use crate::lent::book::{Fault, Top};
 use crate::lent::Tables;
 use crate::limits::{Handle, Word, MOST_BYTES, MOST_FRAMES, MOST_ITEMS, THREADS};
 use crate::line::{self, Event};
@@ -90,6 +91,8 @@ enum What {
     Ended(&'static str),
     Accepted(&'static str),
     Called(u32),
+    /// A function, and an unused place of it that had a number, for which the line was refused.
+    Unused(u32, usize),
     Refused(Refusal, &'static str),
     /// A rule, a place and a line letter.
     Found(u8, u8, &'static str),
@@ -102,7 +105,13 @@ pub struct Coverage(BTreeMap<What, u64>);
 impl Coverage {
     /// Of whole traces.
     pub fn of_traces() -> Coverage {
-        Coverage::of([What::Ended("open"), What::Ended("closed")])
+        let functions = FIRST_FUNCTION..=LAST_FUNCTION;
+        let unused = functions.flat_map(|function| {
+            let places = known(function).places.into_iter().enumerate();
+            let unused = places.filter(|place| place.1 == PlaceKind::Unused);
+            unused.map(move |(place, _)| What::Unused(function, place))
+        });
+        Coverage::of(unused.chain([What::Ended("open"), What::Ended("closed")]))
     }
 
     /// Of steps over foreign tables.
@@ -144,7 +153,14 @@ impl Coverage {
                 }
             }
             // A refused line has left the tables as they were.
-            Err(refusal) => self.count(What::Refused(*refusal, cause(tables, line, *refusal))),
+            Err(refusal) => {
+                self.count(What::Refused(*refusal, cause(tables, line, *refusal)));
+                let unused =
+                    sole_unused(line).map(|(function, place)| What::Unused(function, place));
+                if let Some(count) = unused.and_then(|unused| self.0.get_mut(&unused)) {
+                    *count += 1;
+                }
+            }
         }
     }
 
@@ -173,15 +189,16 @@ impl Coverage {
 }
 
 impl fmt::Display for Coverage {
-    /// Each sort with its sum, and the counts of its parts.
+    /// Each sort with its sum, and the counts of its parts; of functions and places, how many came up of all.
     fn fmt(&self, out: &mut fmt::Formatter) -> fmt::Result {
-        let mut sorts: Vec<(String, u64, Vec<String>)> = Vec::new();
+        let mut sorts: Vec<(String, Vec<u64>, Vec<String>)> = Vec::new();
         for (what, count) in &self.0 {
             let (sort, part) = match what {
                 What::Start => ("starts".to_string(), None),
                 What::Ended(how) => ("ended".to_string(), Some(how.to_string())),
                 What::Accepted(letter) => ("accepted".to_string(), Some(letter.to_string())),
                 What::Called(_) => ("called".to_string(), None),
+                What::Unused(..) => ("in unused places".to_string(), None),
                 What::Refused(refusal, cause) => {
                     (format!("refusal {refusal}"), Some(cause.to_string()))
                 }
@@ -190,15 +207,20 @@ impl fmt::Display for Coverage {
                 }
             };
             if sorts.last().is_none_or(|(last, ..)| *last != sort) {
-                sorts.push((sort, 0, Vec::new()));
+                sorts.push((sort, Vec::new(), Vec::new()));
             }
-            let (_, sum, parts) = sorts.last_mut().expect("a sort");
-            *sum += count;
+            let (_, counts, parts) = sorts.last_mut().expect("a sort");
+            counts.push(*count);
             parts.extend(part.map(|part| format!("{part} {count}")));
         }
-        let told = sorts.iter().map(|(sort, sum, parts)| match &parts[..] {
-            [] => format!("{sort}: {sum}"),
-            parts => format!("{sort}: {sum} ({})", parts.join(", ")),
+        let told = sorts.iter().map(|(sort, counts, parts)| {
+            let sum: u64 = counts.iter().sum();
+            let came_up = counts.iter().filter(|&&count| count > 0).count();
+            match (&parts[..], counts.len()) {
+                ([], 1) => format!("{sort}: {sum}"),
+                ([], all) => format!("{sort}: {sum} ({came_up} of {all})"),
+                (parts, _) => format!("{sort}: {sum} ({})", parts.join(", ")),
+            }
         });
         write!(out, "{}", told.collect::<Vec<_>>().join("; "))
     }
@@ -209,6 +231,25 @@ fn letter(line: &[u8]) -> &'static str {
     form.map_or(NO_LETTER, Form::name)
 }
 
+/// The function of a call and its unused place, if a number there is all that is wrong with the line.
+fn sole_unused(line: &[u8]) -> Option<(u32, usize)> {
+    let fields: Vec<&str> = std::str::from_utf8(line).ok()?.split('\t').collect();
+    let &["C", _, _, function, a, b, c, _] = &fields[..] else {
+        return None;
+    };
+    let function = function.parse().ok()?;
+    let places = facts(function)?.places.into_iter().zip([a, b, c]);
+    let is_sole = |(place, (kind, number)): (usize, (PlaceKind, &str))| {
+        let mut mended = fields.clone();
+        mended[4 + place] = "0";
+        let is_mended = line::read(mended.join("\t").as_bytes()).is_ok();
+        let is_sole =
+            kind == PlaceKind::Unused && number.parse::<Handle>().is_ok_and(|number| number != 0);
+        (is_sole && is_mended).then_some((function, place))
+    };
+    places.enumerate().find_map(is_sole)
+}
+
 /// Why the line is refused with this number over these tables.
 fn cause(tables: &Tables, line: &[u8], refusal: Refusal) -> &'static str {
     match (refusal, line::read(line)) {
@@ -216,45 +257,80 @@ fn cause(tables: &Tables, line: &[u8], refusal: Refusal) -> &'static str {
         (NO_LINE, _) if line.len() > MOST_BYTES + 1 => "long",
         (NO_LINE, Err(NO_LINE)) => "no LF",
         (NO_LINE, _) => "lines",
-        (OUT_OF_STEP, _) if tables.book.is_closed() => "after Z",
-        (WRONG_ENV, Ok(Event::N { thread, env, .. })) => {
-            let own = tables.book.env(thread);
-            let has = |other| other != thread && tables.book.env(other) == Word::from(env);
-            sole(&[
-                ("changed", own != 0 && own != Word::from(env)),
-                ("shared", (1..=THREADS).any(has)),
-            ])
-        }
-        (
-            ALREADY_ALIVE,
-            Ok(Event::N {
-                thread,
-                count,
-                handles,
-                ..
-            }),
-        ) => {
-            let named = &handles[..count];
-            let is_alive = |&handle: &Handle| tables.references.is_alive(thread, handle);
-            let is_twice = |index: usize| named[..index].contains(&named[index]);
-            sole(&[
-                ("N alive", named.iter().any(is_alive)),
-                ("N twice", (0..count).any(is_twice)),
-            ])
-        }
-        (NO_ROOM, Ok(Event::N { thread, count, .. })) => sole(&[
-            ("N handles", count > tables.references.rows.free()),
-            ("N items", tables.book.items(thread) == MOST_ITEMS),
-            ("N frames", tables.book.frames(thread) == MOST_FRAMES),
-        ]),
-        (NO_ROOM, Ok(Event::C { .. })) => "C items",
-        (NO_ROOM, Ok(Event::R { function, .. })) if function == PUSH_LOCAL_FRAME => "R frames",
-        (NO_ROOM, Ok(Event::R { function, .. })) => match known(function).result {
-            ResultKind::Buffer(_) => "R buffers",
-            _ => "R handles",
-        },
+        (_, Ok(event)) => sole(&grounds(tables, &event), refusal),
         _ => letter(line),
     }
+}
+
+/// All that speaks against an event over these tables: refusals 4 to 7 with their causes.
+pub fn grounds(tables: &Tables, event: &Event) -> Vec<(Refusal, &'static str)> {
+    let (book, references) = (&tables.book, &tables.references);
+    let is_native = |thread| book.top(thread) == Top::Native;
+    let mut grounds = match *event {
+        Event::N {
+            thread,
+            env,
+            count,
+            handles,
+        } => {
+            let own = book.env(thread);
+            let has = |other| other != thread && book.env(other) == Word::from(env);
+            let named = &handles[..count];
+            let is_alive = |&handle: &Handle| references.is_alive(thread, handle);
+            let is_twice = |index: usize| named[..index].contains(&named[index]);
+            vec![
+                (OUT_OF_STEP, "N", is_native(thread)),
+                (WRONG_ENV, "changed", own != 0 && own != Word::from(env)),
+                (WRONG_ENV, "shared", (1..=THREADS).any(has)),
+                (ALREADY_ALIVE, "N alive", named.iter().any(is_alive)),
+                (ALREADY_ALIVE, "N twice", (0..count).any(is_twice)),
+                (NO_ROOM, "N handles", count > references.rows.free()),
+                (NO_ROOM, "N items", book.items(thread) == MOST_ITEMS),
+                (NO_ROOM, "N frames", book.frames(thread) == MOST_FRAMES),
+            ]
+        }
+        Event::X { thread, .. } => vec![(OUT_OF_STEP, "X", !is_native(thread))],
+        Event::C { thread, .. } => vec![
+            (OUT_OF_STEP, "C", !is_native(thread)),
+            (NO_ROOM, "C items", book.items(thread) == MOST_ITEMS),
+        ],
+        Event::R {
+            thread,
+            function,
+            result,
+            ..
+        } => {
+            let is_open =
+                matches!(book.top(thread), Top::Call { function: open, .. } if open == function);
+            let made = result as Handle;
+            let (makes, gets, pushes) = match known(function).result {
+                ResultKind::Local | ResultKind::Global | ResultKind::Weak => {
+                    (made != 0, false, false)
+                }
+                ResultKind::Buffer(_) => (false, made != 0, false),
+                _ => (false, false, function == PUSH_LOCAL_FRAME && result == 0),
+            };
+            let is_full = book.frames(thread) == MOST_FRAMES;
+            vec![
+                (OUT_OF_STEP, "R", !is_open),
+                (
+                    ALREADY_ALIVE,
+                    "R",
+                    makes && references.is_alive(thread, made),
+                ),
+                (NO_ROOM, "R handles", makes && references.rows.free() == 0),
+                (NO_ROOM, "R buffers", gets && tables.pins.rows.free() == 0),
+                (NO_ROOM, "R frames", pushes && is_full),
+            ]
+        }
+        Event::Z => Vec::new(),
+    };
+    if book.is_closed() {
+        grounds.retain(|ground| ground.0 != OUT_OF_STEP);
+        grounds.push((OUT_OF_STEP, "after Z", true));
+    }
+    let held = grounds.into_iter().filter(|ground| ground.2);
+    held.map(|(refusal, cause, _)| (refusal, cause)).collect()
 }
 
 fn fault(faults: &[Fault]) -> &'static str {
@@ -270,11 +346,11 @@ fn fault(faults: &[Fault]) -> &'static str {
     }
 }
 
-/// The one cause that holds.
-fn sole(causes: &[(&'static str, bool)]) -> &'static str {
-    let mut holding = causes.iter().filter(|(_, holds)| *holds);
-    match (holding.next(), holding.next()) {
-        (Some((name, _)), None) => name,
+/// The one cause of this refusal.
+fn sole(grounds: &[(Refusal, &'static str)], refusal: Refusal) -> &'static str {
+    let mut causes = grounds.iter().filter(|ground| ground.0 == refusal);
+    match (causes.next(), causes.next()) {
+        (Some((_, cause)), None) => cause,
         _ => SEVERAL,
     }
 }

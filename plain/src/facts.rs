@@ -10,6 +10,7 @@ pub const PUSH_LOCAL_FRAME: u32 = 19;
 pub const POP_LOCAL_FRAME: u32 = 20;
 pub const DELETE_GLOBAL_REF: u32 = 22;
 pub const DELETE_LOCAL_REF: u32 = 23;
+pub const IS_SAME_OBJECT: u32 = 24;
 pub const ENSURE_LOCAL_CAPACITY: u32 = 26;
 pub const MONITOR_ENTER: u32 = 217;
 pub const MONITOR_EXIT: u32 = 218;
@@ -86,6 +87,40 @@ pub struct Facts {
     pub uses_capacity: bool,
     pub allowed_pending: bool,
     pub allowed_critical: bool,
+}
+
+impl Facts {
+    /// The places and the result in the paper's letters.
+    pub fn letters(&self) -> (String, char) {
+        let place = |kind| match kind {
+            PlaceKind::Unused => '-',
+            PlaceKind::Handle => 'r',
+            PlaceKind::HandleOrNull => 'o',
+            PlaceKind::Local => 'l',
+            PlaceKind::Global => 'g',
+            PlaceKind::Weak => 'w',
+            PlaceKind::Identity => 'i',
+            PlaceKind::Buffer(_) => 'b',
+        };
+        let result = match self.result {
+            ResultKind::Nothing => '-',
+            ResultKind::Local => 'L',
+            ResultKind::Global => 'G',
+            ResultKind::Weak => 'W',
+            ResultKind::Identity => 'I',
+            ResultKind::Buffer(_) => 'B',
+            ResultKind::Status => 'S',
+        };
+        (self.places.map(place).iter().collect(), result)
+    }
+
+    /// The family of a get or a release.
+    pub fn family(&self) -> Option<Family> {
+        match (self.result, self.places[1]) {
+            (ResultKind::Buffer(family), _) | (_, PlaceKind::Buffer(family)) => Some(family),
+            _ => None,
+        }
+    }
 }
 
 /// The facts of a function, if there is one of that number.

@@ -1,9 +1,10 @@
 //! An independent judge of JNI traces in plain Rust, and the trace makers and tools that compare another judge with it.
 //!
 //! The programs: `plain` judges standard input, `traces` prints made traces, `compare` sets another judge program
-//! beside the plain one, `measure` times the reader and the judge.
+//! beside the plain one, `measure` times the reader and the judge, `facts` prints the facts of the functions.
 
 pub mod big;
+pub mod chosen;
 pub mod coverage;
 pub mod damage;
 pub mod edge;
@@ -20,3 +21,5 @@ pub mod random;
 pub mod refusal;
 pub mod report;
 pub mod shrink;
+pub mod sights;
+pub mod walk;

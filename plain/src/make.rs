@@ -13,6 +13,22 @@ use crate::line::{self, Event};
 use crate::random::Random;
 use crate::refusal::Refusal;
 
+/// A trace, how it is made, and the rows of the judge that it is for.
+#[derive(Clone, Debug)]
+pub struct Made {
+    pub name: String,
+    pub reference_rows: usize,
+    pub pin_rows: usize,
+    pub trace: Vec<u8>,
+}
+
+impl Made {
+    /// The lines, cut after each LF.
+    pub fn lines(&self) -> impl Iterator<Item = &[u8]> {
+        self.trace.split_inclusive(|&byte| byte == b'\n')
+    }
+}
+
 /// What sort of traces are made; chances are in percent.
 #[derive(Clone, Copy, Debug)]
 pub struct Profile {
@@ -27,6 +43,8 @@ pub struct Profile {
     at_ends: u32,
     /// A place, an env or a result is spoilt.
     spoilt: u32,
+    /// A handle's place has any of the numbers, alive or not.
+    stale: u32,
     /// A native is entered in an open call.
     nested: u32,
     /// A native returns rather than calls.
@@ -60,6 +78,7 @@ const MIXED: Profile = Profile {
     numbers: 30,
     at_ends: 5,
     spoilt: 8,
+    stale: 0,
     nested: 15,
     left: 8,
     crowded: 5,
@@ -236,8 +255,63 @@ pub const PROFILES: [Profile; 18] = [
     },
 ];
 
+const FEW: Profile = Profile {
+    name: "few",
+    usual_lines: (10, 40),
+    threads: (1, 2),
+    numbers: 2,
+    at_ends: 3,
+    spoilt: 15,
+    stale: 40,
+    nested: 20,
+    left: 12,
+    favoured: 97,
+    refusals: &[4, 5, 6, 7],
+    ..MIXED
+};
+
+/// Profiles of short traces in which the same few things come up again and again.
+pub const DENSE: [Profile; 5] = [
+    Profile {
+        name: "locals",
+        functions: &[6, 6, 6, 19, 19, 20, 20, 23, 23, 24, 26],
+        ..FEW
+    },
+    Profile {
+        name: "shared",
+        left: 6,
+        functions: &[21, 22, 23, 24, 24, 24, 226, 227],
+        ..FEW
+    },
+    Profile {
+        name: "pinned",
+        functions: &[6, 165, 165, 166, 166, 170, 222, 223, 223, 224, 225],
+        ..FEW
+    },
+    Profile {
+        name: "held",
+        pending: 30,
+        functions: &[6, 17, 24, 217, 217, 218, 218],
+        ..FEW
+    },
+    Profile {
+        name: "full",
+        usual_lines: (20, 60),
+        threads: (1, 1),
+        numbers: 40,
+        spoilt: 3,
+        stale: 3,
+        nested: 5,
+        left: 1,
+        crowded: 95,
+        functions: &[6, 6, 6, 6, 6, 6, 6, 6, 6, 19, 23, 26],
+        ..FEW
+    },
+];
+
 pub fn profile(name: &str) -> Option<&'static Profile> {
-    PROFILES.iter().find(|profile| profile.name == name)
+    let mut profiles = PROFILES.iter().chain(&DENSE);
+    profiles.find(|profile| profile.name == name)
 }
 
 /// Makes a trace of about that many lines, for a judge with those rows.
@@ -546,6 +620,15 @@ impl Maker<'_> {
     fn place(&mut self, thread: u32, kind: PlaceKind) -> Handle {
         if kind != PlaceKind::Unused && self.random.percent(self.profile.spoilt) {
             return self.spoilt_value(thread);
+        }
+        let is_handle = !matches!(
+            kind,
+            PlaceKind::Unused | PlaceKind::Identity | PlaceKind::Buffer(_)
+        );
+        // No number is drawn where there is no chance, so that a seed makes what it made before there was this one.
+        if self.profile.stale > 0 && is_handle && self.random.percent(self.profile.stale) {
+            let kind = self.random.pick(&[LOCAL, LOCAL, GLOBAL, WEAK]);
+            return self.number(kind);
         }
         let good = match kind {
             PlaceKind::Unused => Some(0),

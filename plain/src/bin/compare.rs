@@ -1,18 +1,21 @@
-//! Compares another judge program with the plain judge on made traces, and shrinks the first trace they differ on.
+//! Compares another judge program with the plain judge, on made traces or on the walk over all functions and bytes, and shrinks the
+//! first trace they differ on.
 
 use plain::coverage::Coverage;
 use plain::limits::{PIN_ROWS, REFERENCE_ROWS};
-use plain::make::{make, profile, Profile, PROFILES};
+use plain::make::{make, profile, Made, Profile, PROFILES};
 use plain::random::Random;
 use plain::report::report;
 use plain::shrink::shrink;
+use plain::walk::walk;
 use std::io::{self, Read, Write};
 use std::process::{Child, Command, ExitCode, Stdio};
 use std::sync::mpsc;
 use std::thread;
 use std::time::{Duration, Instant};
 
-const USAGE: &str = "usage: compare [--seed S] [--count N] [--seconds T] -- CMD ARG..";
+const USAGE: &str = "usage: compare [--seed S] [--count N] [--seconds T] -- CMD ARG..
+       compare --walk -- CMD ARG..";
 
 /// The longest one run of the other judge may take.
 const RUN_TIME: Duration = Duration::from_secs(60);
@@ -20,8 +23,7 @@ const RUN_TIME: Duration = Duration::from_secs(60);
 const SHRINK_TIME: Duration = Duration::from_secs(120);
 
 struct Wish {
-    seed: u64,
-    count: u64,
+    traces: Box<dyn Iterator<Item = Made>>,
     time: Duration,
     command: Vec<String>,
 }
@@ -32,7 +34,7 @@ fn main() -> ExitCode {
         eprintln!("{USAGE}");
         return ExitCode::from(2);
     };
-    match compare(&wish) {
+    match compare(wish) {
         Ok(true) => ExitCode::SUCCESS,
         Ok(false) => ExitCode::FAILURE,
         Err(error) => {
@@ -44,60 +46,77 @@ fn main() -> ExitCode {
 
 fn wish(arguments: &[String]) -> Option<Wish> {
     let split = arguments.iter().position(|argument| argument == "--")?;
-    let (options, command) = (&arguments[..split], &arguments[split + 1..]);
-    let mut wish = Wish {
-        seed: 1,
-        count: 1_000,
-        time: Duration::MAX,
-        command: command.to_vec(),
-    };
-    let mut counted = false;
+    let (options, command) = (&arguments[..split], arguments[split + 1..].to_vec());
+    if command.is_empty() {
+        return None;
+    }
+    if options == ["--walk"] {
+        return Some(Wish {
+            traces: Box::new(walk().into_iter()),
+            time: Duration::MAX,
+            command,
+        });
+    }
+    let (mut seed, mut count, mut time) = (1_u64, None, Duration::MAX);
     for option in options.chunks(2) {
         let [name, value] = option else {
             return None;
         };
         match name.as_str() {
-            "--seed" => wish.seed = value.parse().ok()?,
-            "--count" => {
-                wish.count = value.parse().ok()?;
-                counted = true;
-            }
-            "--seconds" => wish.time = Duration::from_secs(value.parse().ok()?),
+            "--seed" => seed = value.parse().ok()?,
+            "--count" => count = Some(value.parse().ok()?),
+            "--seconds" => time = Duration::from_secs(value.parse().ok()?),
             _ => return None,
         }
     }
-    if wish.time != Duration::MAX && !counted {
-        wish.count = u64::MAX;
-    }
-    (!command.is_empty()).then_some(wish)
+    let unsaid = if time == Duration::MAX {
+        1_000
+    } else {
+        u64::MAX
+    };
+    Some(Wish {
+        traces: Box::new((0..count.unwrap_or(unsaid)).map(move |index| made(seed, index))),
+        time,
+        command,
+    })
 }
 
 /// Compares trace after trace; whether all reports were equal.
-fn compare(wish: &Wish) -> io::Result<bool> {
+fn compare(wish: Wish) -> io::Result<bool> {
     let start = Instant::now();
     let mut coverage = Coverage::of_traces();
     let mut equal = true;
     let mut traces = 0;
-    for index in 0..wish.count {
+    for made in wish.traces {
         if start.elapsed() >= wish.time {
             break;
         }
-        let profile = profile_of(index);
-        let seed = wish.seed.wrapping_add(index);
-        let lines = lines_of(profile, seed);
-        let trace = make(profile, seed, lines, REFERENCE_ROWS, PIN_ROWS);
         traces += 1;
-        coverage.add_trace(&trace, REFERENCE_ROWS, PIN_ROWS);
-        if differs(&wish.command, &trace)? {
-            let name = profile.name;
-            println!("a difference: traces --seed {seed} --profile {name} --lines {lines}");
-            tell(&wish.command, &trace)?;
+        coverage.add_trace(&made.trace, REFERENCE_ROWS, PIN_ROWS);
+        if differs(&wish.command, &made.trace)? {
+            println!("a difference: {}", made.name);
+            tell(&wish.command, &made.trace)?;
             equal = false;
             break;
         }
     }
     println!("compared {traces} traces, {coverage}");
     Ok(equal)
+}
+
+fn made(seed: u64, index: u64) -> Made {
+    let profile = profile_of(index);
+    let seed = seed.wrapping_add(index);
+    let lines = lines_of(profile, seed);
+    Made {
+        name: format!(
+            "traces --seed {seed} --profile {} --lines {lines}",
+            profile.name
+        ),
+        reference_rows: REFERENCE_ROWS,
+        pin_rows: PIN_ROWS,
+        trace: make(profile, seed, lines, REFERENCE_ROWS, PIN_ROWS),
+    }
 }
 
 /// Every second trace is a single line at an edge, as it costs little; the others are of all profiles by turns.

@@ -1,8 +1,13 @@
-//! Prints made traces: one of a profile from a seed, or a big one of a kind.
+//! Prints made traces: one of a profile from a seed, a big one of a kind, or several with the plain judge's reports.
+//!
+//! Of several, each has a line `REFERENCE_ROWS PIN_ROWS BYTES REPORT_BYTES NAME`, then its bytes, then those of its report.
 
 use plain::big::{self, big, natives};
+use plain::chosen::chosen;
 use plain::limits::{MOST_LINES, PIN_ROWS, REFERENCE_ROWS};
-use plain::make::{make, profile, Profile, PROFILES};
+use plain::make::{make, profile, Made, Profile, DENSE, PROFILES};
+use plain::report::report;
+use plain::walk::walk;
 use std::io::{self, BufWriter, Write};
 use std::process::ExitCode;
 
@@ -22,6 +27,7 @@ enum Wish {
     Natives {
         lines: usize,
     },
+    Several(Vec<Made>),
 }
 
 fn main() -> ExitCode {
@@ -30,6 +36,8 @@ fn main() -> ExitCode {
     let wish = match arguments[..] {
         ["--big", "natives", lines] => natives_wish(lines),
         ["--big", kind, lines] => big_wish(kind, lines),
+        ["--walk"] => Some(Wish::Several(walk())),
+        ["--chosen", seed] => seed.parse().ok().map(chosen).map(Wish::Several),
         _ => made_wish(&arguments),
     };
     let Some(wish) = wish else {
@@ -106,6 +114,16 @@ fn print(wish: Wish) -> io::Result<()> {
         } => output.write_all(&make(profile, seed, lines, reference_rows, pin_rows))?,
         Wish::Big { kind, lines } => big(kind, lines, &mut output)?,
         Wish::Natives { lines } => natives(lines, &mut output)?,
+        Wish::Several(traces) => {
+            for made in traces {
+                let (rows, pins) = (made.reference_rows, made.pin_rows);
+                let report = report(&made.trace, rows, pins);
+                let (bytes, report_bytes) = (made.trace.len(), report.len());
+                writeln!(output, "{rows} {pins} {bytes} {report_bytes} {}", made.name)?;
+                output.write_all(&made.trace)?;
+                output.write_all(&report)?;
+            }
+        }
     }
     output.flush()
 }
@@ -116,7 +134,10 @@ fn usage() {
     );
     eprintln!("       traces --big KIND N, at most {MOST_LINES} lines, accepted to the last");
     eprintln!("       traces --big natives N, any number of lines, without a Z");
-    let profiles: Vec<&str> = PROFILES.iter().map(|profile| profile.name).collect();
+    eprintln!("       traces --walk, the walk over all functions and bytes");
+    eprintln!("       traces --chosen S, short ones that show much");
+    let profiles = PROFILES.iter().chain(&DENSE);
+    let profiles: Vec<&str> = profiles.map(|profile| profile.name).collect();
     eprintln!("profiles: {}", profiles.join(" "));
     let kinds: Vec<&str> = big::KINDS.iter().map(|kind| kind.name).collect();
     eprintln!("kinds: {}", kinds.join(" "));

@@ -52,27 +52,8 @@ fn functions() -> impl Iterator<Item = (u32, &'static Facts)> {
 }
 
 fn row(facts: &Facts) -> String {
-    let place = |kind| match kind {
-        PlaceKind::Unused => '-',
-        PlaceKind::Handle => 'r',
-        PlaceKind::HandleOrNull => 'o',
-        PlaceKind::Local => 'l',
-        PlaceKind::Global => 'g',
-        PlaceKind::Weak => 'w',
-        PlaceKind::Identity => 'i',
-        PlaceKind::Buffer(_) => 'b',
-    };
-    let result = match facts.result {
-        ResultKind::Nothing => '-',
-        ResultKind::Local => 'L',
-        ResultKind::Global => 'G',
-        ResultKind::Weak => 'W',
-        ResultKind::Identity => 'I',
-        ResultKind::Buffer(_) => 'B',
-        ResultKind::Status => 'S',
-    };
-    let [a, b, c] = facts.places.map(place);
-    format!("{a}{b}{c} {result}")
+    let (places, result) = facts.letters();
+    format!("{places} {result}")
 }
 
 #[test]

@@ -2,14 +2,19 @@
 
 use crate::common::trace;
 use plain::big::{big, natives, KINDS};
+use plain::chosen::{candidates, chosen};
 use plain::coverage::Coverage;
+use plain::facts::FAMILIES;
 use plain::judge::Judge;
 use plain::lent::rows::THREAD;
 use plain::limits::{PIN_ROWS, REFERENCE_ROWS};
-use plain::make::{make, PROFILES};
+use plain::make::{make, Made, PROFILES};
 use plain::random::Random;
 use plain::report::report;
 use plain::shrink::shrink;
+use plain::sights::sights;
+use plain::walk::walk;
+use std::collections::BTreeSet;
 
 #[test]
 fn every_refusal_rule_place_and_function_comes_up() {
@@ -22,7 +27,88 @@ fn every_refusal_rule_place_and_function_comes_up() {
             coverage.add_trace(&trace, REFERENCE_ROWS, PIN_ROWS);
         }
     }
+    for made in walk() {
+        coverage.add_trace(&made.trace, made.reference_rows, made.pin_rows);
+    }
     assert!(coverage.is_whole(), "{coverage}");
+}
+
+#[test]
+fn the_walk_shows_what_each_function_takes_and_gives_and_what_it_does_not() {
+    let (mut closed, mut refused) = (0, 0);
+    let of_functions =
+        |made: &Made| !["letter", "digit"].contains(&made.name.split(' ').next().unwrap());
+    for made in walk().into_iter().filter(of_functions) {
+        let report = report(&made.trace, made.reference_rows, made.pin_rows);
+        let report = String::from_utf8(report).unwrap();
+        let end: Vec<&str> = report.lines().last().unwrap().split('\t').collect();
+        let accepted = made.lines().count() - usize::from(end[1] == "refused");
+        assert_eq!(end[2], accepted.to_string(), "{}", made.name);
+        match (end[1], end[3]) {
+            ("closed", "0") => closed += 1,
+            ("refused", "3") => refused += 1,
+            _ => panic!("{}: {report}", made.name),
+        }
+    }
+    // A trace of each function and of each release; unused places and capacities, results of another kind.
+    assert_eq!(closed, 229 + 12);
+    let results = 168 * 4 + (37 + 6 + 1 + 1) * 3 + 12;
+    assert_eq!(refused, 300 + 227 + results);
+}
+
+#[test]
+fn each_release_ends_the_buffer_of_its_family_alone() {
+    let walk = walk();
+    let releases = walk.iter().filter(|made| made.name.starts_with("release "));
+    for (family, made) in releases.enumerate() {
+        let report = report(&made.trace, made.reference_rows, made.pin_rows);
+        let report = String::from_utf8(report).unwrap();
+        let things = report
+            .lines()
+            .filter_map(|line| line.split_once("\t8\t2\t"));
+        let things: Vec<usize> = things.map(|(_, thing)| thing.parse().unwrap()).collect();
+        let others = (0..FAMILIES.len()).filter(|&other| other != family);
+        assert_eq!(
+            things,
+            others.map(|other| 8_000 + other).collect::<Vec<_>>()
+        );
+    }
+}
+
+#[test]
+fn the_chosen_traces_show_all_that_the_candidates_show() {
+    let shown = |traces: &[Made]| -> BTreeSet<String> {
+        let sights = |made: &Made| sights(&made.trace, made.reference_rows, made.pin_rows);
+        traces.iter().flat_map(sights).collect()
+    };
+    let (candidates, chosen) = (candidates(3), chosen(3));
+    assert_eq!(shown(&chosen), shown(&candidates));
+    assert!(chosen.len() * 20 < candidates.len(), "{}", chosen.len());
+    let lines: usize = chosen.iter().map(|made| made.lines().count()).sum();
+    assert!(lines < 3_000, "{lines}");
+}
+
+#[test]
+fn a_sight_tells_what_came_before_a_judgement() {
+    let pushed = [
+        "N 1 100 5",
+        "C 1 100 19 0 0 0 1",
+        "R 1 19 0 0",
+        "C 1 100 6 0 0 0 0",
+        "R 1 6 9 0",
+        "C 1 100 20 9 0 0 0",
+        "R 1 20 0 0",
+        "C 1 100 24 5 9 0 0",
+    ];
+    let sights = sights(&trace(&pushed), REFERENCE_ROWS, PIN_ROWS);
+    for sight in [
+        "R: over false, pushed of one",
+        "20: pushed of one, of more frames",
+        "local alive true, not ended by 20, of its thread true, elsewhere false",
+        "local alive false, ended by 20, above false, elsewhere false",
+    ] {
+        assert!(sights.contains(sight), "{sight}: {sights:#?}");
+    }
 }
 
 #[test]

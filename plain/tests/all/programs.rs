@@ -4,6 +4,7 @@ use crate::common::trace;
 use plain::limits::{PIN_ROWS, REFERENCE_ROWS};
 use plain::make::{make, profile};
 use plain::report::report;
+use plain::walk::walk;
 use std::io::{ErrorKind, Read, Write};
 use std::process::{Command, Output, Stdio};
 
@@ -11,6 +12,7 @@ const PLAIN: &str = env!("CARGO_BIN_EXE_plain");
 const TRACES: &str = env!("CARGO_BIN_EXE_traces");
 const COMPARE: &str = env!("CARGO_BIN_EXE_compare");
 const MEASURE: &str = env!("CARGO_BIN_EXE_measure");
+const FACTS: &str = env!("CARGO_BIN_EXE_facts");
 
 fn run(program: &str, arguments: &[&str]) -> Output {
     Command::new(program)
@@ -118,11 +120,47 @@ fn traces_prints_what_the_maker_makes() {
 }
 
 #[test]
+fn traces_prints_several_with_their_reports() {
+    let printed = run(TRACES, &["--walk"]).stdout;
+    let made = &walk()[0];
+    let report = report(&made.trace, REFERENCE_ROWS, PIN_ROWS);
+    let head = format!(
+        "2048 256 {} {} {}\n",
+        made.trace.len(),
+        report.len(),
+        made.name
+    );
+    assert!(printed.starts_with(&[head.as_bytes(), &made.trace, &report].concat()));
+}
+
+#[test]
+fn facts_prints_the_facts_of_each_function() {
+    let printed = String::from_utf8(run(FACTS, &[]).stdout).unwrap();
+    let lines: Vec<&str> = printed.lines().collect();
+    assert_eq!(lines.len(), 229);
+    for line in [
+        "19\t---\tS\tnp\t-",
+        "223\trb-\t-\tpc\t10",
+        "229\t---\tL\t-\t-",
+    ] {
+        assert!(lines.contains(&line), "{line}");
+    }
+}
+
+#[test]
 fn compare_finds_no_difference_from_itself() {
-    let output = run(COMPARE, &["--seed", "9", "--count", "34", "--", PLAIN]);
-    let printed = String::from_utf8(output.stdout).unwrap();
-    assert!(output.status.success(), "{printed}");
-    assert!(printed.starts_with("compared 34 traces, "), "{printed}");
+    for (options, compared) in [
+        (
+            &["--seed", "9", "--count", "34"][..],
+            "compared 34 traces, ",
+        ),
+        (&["--walk"], "compared 2099 traces, "),
+    ] {
+        let output = run(COMPARE, &[options, &["--", PLAIN]].concat());
+        let printed = String::from_utf8(output.stdout).unwrap();
+        assert!(output.status.success(), "{printed}");
+        assert!(printed.starts_with(compared), "{printed}");
+    }
 }
 
 #[cfg(unix)]

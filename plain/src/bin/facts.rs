@@ -1,0 +1,29 @@
+//! Prints the facts of each function: its number, its places and its result in the paper's letters, its marks and its family.
+//!
+//! The marks: `n` it uses the capacity, `p` it is allowed with an exception pending, `c` inside a critical region.
+
+use plain::facts::{known, FIRST_FUNCTION, LAST_FUNCTION};
+
+fn main() {
+    for function in FIRST_FUNCTION..=LAST_FUNCTION {
+        let facts = known(function);
+        let (places, result) = facts.letters();
+        let marks = [
+            ('n', facts.uses_capacity),
+            ('p', facts.allowed_pending),
+            ('c', facts.allowed_critical),
+        ];
+        let marks: String = marks
+            .iter()
+            .filter(|mark| mark.1)
+            .map(|mark| mark.0)
+            .collect();
+        let family = facts.family().map(|family| family.0.to_string());
+        let or_none = |text: String| if text.is_empty() { "-".into() } else { text };
+        println!(
+            "{function}\t{places}\t{result}\t{}\t{}",
+            or_none(marks),
+            or_none(family.unwrap_or_default())
+        );
+    }
+}

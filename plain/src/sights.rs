@@ -1,0 +1,379 @@
+//! What a trace shows: each judgement of its lines with what came before it, each in a few words.
+//!
+//! Of two traces that show the same one is enough, where a trace costs much to judge. An act shows only where a later line
+//! is judged by it: so what last happened to a handle, a buffer, a thread or a frame is told when it is looked at.
+
+mod fields;
+mod past;
+
+use crate::coverage::grounds;
+use crate::facts::*;
+use crate::findings::Findings;
+use crate::judge::Judge;
+use crate::lent::book::Top;
+use crate::lent::pins::{self, BUFFER, FAMILY};
+use crate::lent::references::{FRAME, HANDLE};
+use crate::lent::rows::{Rows, THREAD};
+use crate::limits::*;
+use crate::line::{self, Event};
+use crate::refusal::{Refusal, ALREADY_ALIVE};
+use past::Past;
+use std::collections::BTreeSet;
+
+type Reference = [Number; REFERENCE_NUMBERS];
+type Pin = [Number; PIN_NUMBERS];
+
+/// What the lines of a trace show, up to the first that is refused.
+pub fn sights(trace: &[u8], reference_rows: usize, pin_rows: usize) -> BTreeSet<String> {
+    let mut watch = Watch {
+        judge: Judge::new(reference_rows, pin_rows),
+        past: Past::default(),
+        findings: 0,
+        sights: BTreeSet::new(),
+    };
+    let mut lines = trace.split_inclusive(|&byte| byte == b'\n');
+    let refusal = lines.find_map(|line| watch.line(line).err());
+    watch.end(refusal);
+    watch.sights
+}
+
+struct Watch {
+    judge: Judge,
+    past: Past,
+    findings: usize,
+    sights: BTreeSet<String>,
+}
+
+impl Watch {
+    fn show(&mut self, sight: String) {
+        self.sights.insert(sight);
+    }
+
+    fn line(&mut self, line: &[u8]) -> Result<(), Refusal> {
+        let event = match line::read(line) {
+            Ok(event) => event,
+            Err(refusal) => {
+                self.sights.extend(fields::of_unread(line, refusal));
+                return Err(refusal);
+            }
+        };
+        let against = grounds(&self.judge.tables(), &event);
+        if let Some(&(refusal, _)) = against.iter().min() {
+            self.refused(&event, refusal, &against);
+            return Err(refusal);
+        }
+        self.sights.extend(fields::of_read(&event));
+        self.judged(&event);
+        let tables = self.judge.tables();
+        let before = (used(&tables.references.rows), used(&tables.pins.rows));
+        let findings = self.judge.step(line).expect("nothing is against it");
+        self.found(letter(&event), &findings);
+        self.past.add(&event, before, &self.judge.tables());
+        Ok(())
+    }
+
+    fn end(&mut self, refusal: Option<Refusal>) {
+        let (is_refused, book) = (refusal.is_some(), self.judge.tables().book);
+        let (is_closed, lines) = (book.is_closed(), book.lines());
+        let digits = |count: String| count.len();
+        let (lines, findings) = (digits(lines.to_string()), digits(self.findings.to_string()));
+        self.show(format!("end: refused {is_refused}, closed {is_closed}"));
+        self.show(format!("end: lines of {lines} digits"));
+        self.show(format!("end: findings of {findings} digits"));
+    }
+
+    /// Each finding, how many there are, and what their order tells.
+    fn found(&mut self, letter: char, findings: &Findings) {
+        self.findings += findings.len();
+        self.show(format!("{letter}: {} findings", findings.len()));
+        for found in findings.iter() {
+            self.show(format!("{letter}: rule {} at {}", found.rule, found.place));
+        }
+        for pair in findings.windows(2) {
+            let rules = pair[0].rule.cmp(&pair[1].rule);
+            let places = pair[0].place.cmp(&pair[1].place);
+            self.show(format!("findings: rules {rules:?}, places {places:?}"));
+        }
+    }
+
+    /// Why it is refused and over what, and which later refusals this one goes before.
+    fn refused(&mut self, event: &Event, refusal: Refusal, against: &[(Refusal, &'static str)]) {
+        let (letter, top) = (letter(event), self.top(event));
+        let letter = match *event {
+            Event::R { function, .. } if refusal >= ALREADY_ALIVE => {
+                format!("R of {}", known(function).letters().1)
+            }
+            _ => letter.to_string(),
+        };
+        let book = self.judge.tables().book;
+        let is_sharer = |other: &u32| match *event {
+            Event::N { thread, env, .. } => *other != thread && book.env(*other) == Word::from(env),
+            _ => false,
+        };
+        let sharer = (1..=THREADS).find(is_sharer);
+        let is_idle = sharer.is_some_and(|sharer| book.top(sharer) == Top::Nothing);
+        for &(other, cause) in against {
+            self.show(match cause {
+                _ if other != refusal => format!("{refusal} before {other}: {letter}"),
+                "after Z" => format!("{refusal}: {letter} after Z"),
+                "shared" => format!("{refusal}: {letter} shared, sharer idle {is_idle}"),
+                _ => format!("{refusal}: {letter} {cause} over {top}"),
+            });
+        }
+    }
+
+    // ---- what is judged of an accepted event, before it acts
+
+    fn judged(&mut self, event: &Event) {
+        match *event {
+            Event::N {
+                thread,
+                count,
+                handles,
+                ..
+            } => self.enter(event, thread, &handles[..count]),
+            Event::X { thread, result } => {
+                let frames = self.past.frames(thread);
+                let pushed = frames.iter().rev().take_while(|frame| frame.is_pushed());
+                let (pushed, frames) = (few(pushed.count()), few(frames.len()));
+                self.show(format!("X: {pushed} pushed of {frames} frames"));
+                self.critical("X", thread, false);
+                self.place("X", thread, PlaceKind::HandleOrNull, result);
+            }
+            Event::C {
+                thread,
+                env,
+                function,
+                places,
+                ..
+            } => {
+                self.call(thread, env, function);
+                let facts = known(function);
+                for (index, letter) in facts.letters().0.char_indices() {
+                    let (kind, value) = (facts.places[index], places[index]);
+                    self.place(&letter.to_string(), thread, kind, value);
+                }
+            }
+            Event::R {
+                thread,
+                function,
+                result,
+                pending,
+            } => self.answer(thread, function, result, pending),
+            Event::Z => self.close(),
+        }
+    }
+
+    fn enter(&mut self, event: &Event, thread: u32, handles: &[Handle]) {
+        let top = self.top(event);
+        let tables = self.judge.tables();
+        let pending = tables.book.is_pending(thread);
+        let is_first = tables.book.env(thread) == 0;
+        let free = tables.references.rows.free();
+        self.show(format!("N over {top}, pending {pending}, first {is_first}"));
+        if handles.is_empty() || handles.len() == MOST_HANDLES {
+            self.show(format!(
+                "N of {} handles, {} free",
+                handles.len(),
+                free.min(1)
+            ));
+        } else if handles.len() == free {
+            self.show(format!(
+                "N takes the last rows, some ended {}",
+                self.past.has_ended()
+            ));
+        }
+        for &handle in handles {
+            let rows = self.judge.tables().references.rows;
+            let elsewhere = rows.has(|row| row[HANDLE] == handle);
+            let fate = self.past.of_handle(thread, handle);
+            self.show(format!("N names {fate}, elsewhere {elsewhere}"));
+        }
+    }
+
+    fn call(&mut self, thread: u32, env: Handle, function: u32) {
+        let facts = known(function);
+        let (pending_allowed, critical_allowed) = (facts.allowed_pending, facts.allowed_critical);
+        let book = self.judge.tables().book;
+        let others =
+            |test: &dyn Fn(u32) -> bool| (1..=THREADS).any(|other| other != thread && test(other));
+        let own_env = book.env(thread) == Word::from(env);
+        let others_env = others(&|other| book.env(other) == Word::from(env));
+        let pending = book.is_pending(thread);
+        let others_pending = others(&|other| book.is_pending(other));
+        let monitors = few(book.monitors(thread) as usize);
+        let others_monitors = others(&|other| book.monitors(other) > 0);
+        let (pending_by, monitors_by) = self.past.of_thread(thread);
+        self.show(format!("C: own env {own_env}, another's {others_env}"));
+        self.show(format!(
+            "C: pending {pending} {pending_by}, allowed {pending_allowed}"
+        ));
+        self.show(format!("C: pending {pending}, others {others_pending}"));
+        self.critical("C", thread, critical_allowed);
+        if function == MONITOR_EXIT {
+            self.show(format!(
+                "218: {monitors} monitors, others {others_monitors}"
+            ));
+            self.show(format!("218: {monitors} monitors, {monitors_by}"));
+        }
+        if let (POP_LOCAL_FRAME, Some(top)) = (function, self.past.frames(thread).last().cloned()) {
+            let (pushed, frames) = (top.is_pushed(), few(self.past.frames(thread).len()));
+            self.show(format!("20: {}, of {frames} frames", top.opened));
+            self.show(format!("20: pushed {pushed}, {}", top.since));
+        }
+    }
+
+    fn critical(&mut self, letter: &str, thread: u32, allowed: bool) {
+        let own = Number::from(thread);
+        let rows = self.judge.tables().pins.rows;
+        let count = rows.count(|row| row[THREAD] == own);
+        let others = rows.has(|row| row[THREAD] != 0 && row[THREAD] != own);
+        let ordinary = rows.has(|row| row[THREAD] == 0);
+        self.show(match few(count) {
+            "no" => format!("{letter}: not critical, others {others}, ordinary {ordinary}"),
+            few => format!("{letter}: {few} critical, allowed {allowed}"),
+        });
+    }
+
+    fn place(&mut self, letter: &str, thread: u32, kind: PlaceKind, value: Handle) {
+        let class = match value % 4 {
+            _ if value == 0 => "null",
+            LOCAL => "local",
+            GLOBAL => "global",
+            WEAK => "weak",
+            _ => "identity",
+        };
+        match kind {
+            PlaceKind::Unused => {}
+            PlaceKind::Identity => self.show(format!("i: {class}")),
+            PlaceKind::Buffer(family) => self.buffer(thread, family, value),
+            _ => {
+                let references = self.judge.tables().references;
+                let alive = value % 4 != 0 && references.is_alive(thread, value);
+                let elsewhere = !alive && references.rows.has(|row| row[HANDLE] == value);
+                self.show(format!("{letter}: {class}, alive {alive}"));
+                let fate = self.past.of_handle(thread, value);
+                self.show(format!(
+                    "{class} alive {alive}, {fate}, elsewhere {elsewhere}"
+                ));
+            }
+        }
+    }
+
+    fn buffer(&mut self, thread: u32, family: Family, buffer: Handle) {
+        let row = [pins::owner(thread, family), family.0.into(), buffer];
+        let rows = self.judge.tables().pins.rows;
+        let count = few(rows.count(|other| *other == row));
+        let is_equal = |other: &Pin| other[BUFFER] == buffer;
+        let is_its = |other: &Pin| other[FAMILY] == row[FAMILY];
+        let other_family = rows.has(|other| is_equal(other) && !is_its(other));
+        let other_thread = rows.has(|other| is_equal(other) && is_its(other) && *other != row);
+        let kind = if family.is_critical() {
+            "critical"
+        } else {
+            "ordinary"
+        };
+        let fate = self.past.of_buffer(&row);
+        self.show(format!("b: null {}, {count} {kind}, {fate}", buffer == 0));
+        self.show(format!(
+            "b: {count} {kind}, other family {other_family}, other thread {other_thread}"
+        ));
+    }
+
+    fn answer(&mut self, thread: u32, function: u32, result: Field, pending: u32) {
+        let (_, kind) = known(function).letters();
+        let makes = result > 0 && kind != 'S';
+        let tables = self.judge.tables();
+        let was = tables.book.is_pending(thread);
+        let frame = tables.book.frames(thread);
+        let held = tables.references.locals_alive_in(thread, frame) as Word;
+        let capacity = tables.book.capacity(thread, frame);
+        let is_others =
+            |row: &Reference| row[FRAME] as usize == frame && row[THREAD] != Number::from(thread);
+        let others = tables.references.rows.has(is_others);
+        let below = (1..frame).any(|below| tables.references.locals_alive_in(thread, below) > 0);
+        let is_last = match kind {
+            'L' | 'G' | 'W' => tables.references.rows.free() == 1,
+            'B' => tables.pins.rows.free() == 1,
+            _ => false,
+        };
+        self.show(format!("R: pending {was}, then {pending}"));
+        if kind == 'S' {
+            self.show(format!("R of {function}: {}", result.signum()));
+        }
+        if kind == 'L' && makes && (held == capacity || held + 1 == capacity) {
+            let over = held == capacity;
+            let top = self.past.frames(thread).last().expect("a frame").clone();
+            self.show(format!("R: over {over}, {}", top.opened));
+            self.show(format!(
+                "R: over {over}, pushed {}, {}",
+                top.is_pushed(),
+                top.since
+            ));
+            self.show(format!("R: over {over}, others {others}, below {below}"));
+        } else if held == capacity && "LGWB".contains(kind) {
+            self.show(format!("R: {kind} in a full frame, made {makes}"));
+        }
+        if makes && is_last {
+            self.show(format!(
+                "R: {kind} takes the last row, some ended {}",
+                self.past.has_ended()
+            ));
+        }
+    }
+
+    fn close(&mut self) {
+        let tables = self.judge.tables();
+        let buffers = few(tables.pins.rows.used());
+        let critical = few(tables.pins.rows.count(|row| row[THREAD] != 0));
+        let monitors = |thread| tables.book.monitors(thread) as usize;
+        let (first, last) = (few(monitors(1)), few(monitors(THREADS)));
+        let all = few((1..=THREADS).map(monitors).sum());
+        let items = (1..=THREADS).any(|thread| tables.book.items(thread) > 0);
+        let of_kind = |kind| few(tables.references.rows.count(|row| row[HANDLE] % 4 == kind));
+        let (locals, globals, weaks) = (of_kind(LOCAL), of_kind(GLOBAL), of_kind(WEAK));
+        self.show(format!("Z: {buffers} buffers, {critical} critical"));
+        self.show(format!(
+            "Z: {all} monitors, {first} of thread 1, {last} of thread 16"
+        ));
+        self.show(format!("Z: {globals} globals, {weaks} weaks"));
+        self.show(format!("Z: {locals} locals, items {items}"));
+    }
+
+    fn top(&mut self, event: &Event) -> &'static str {
+        match self.judge.tables().book.top(thread(event)) {
+            Top::Nothing => "nothing",
+            Top::Native => "native",
+            Top::Call { .. } => "call",
+        }
+    }
+}
+
+fn letter(event: &Event) -> char {
+    let (letter, _) = event.parts().expect("an event that was read");
+    letter.into()
+}
+
+/// The thread of an event; Z is of none.
+fn thread(event: &Event) -> u32 {
+    match *event {
+        Event::N { thread, .. }
+        | Event::X { thread, .. }
+        | Event::C { thread, .. }
+        | Event::R { thread, .. } => thread,
+        Event::Z => 0,
+    }
+}
+
+fn few(count: usize) -> &'static str {
+    match count {
+        0 => "no",
+        1 => "one",
+        _ => "more",
+    }
+}
+
+fn used<const NUMBERS: usize>(rows: &Rows<NUMBERS>) -> Vec<[Number; NUMBERS]> {
+    let used = (0..rows.room()).filter(|&index| rows.is_used(index));
+    used.map(|index| rows.all()[index]).collect()
+}

@@ -1,0 +1,195 @@
+//! What last happened to each handle, buffer and thread, and to the frames of a thread.
+
+use super::{few, letter, thread, used, Pin, Reference};
+use crate::facts::*;
+use crate::lent::pins::BUFFER;
+use crate::lent::references::{self, FRAME, HANDLE};
+use crate::lent::rows::THREAD;
+use crate::lent::Tables;
+use crate::limits::{Handle, Number};
+use crate::line::Event;
+use std::collections::BTreeMap;
+
+const EXCEPTION_CLEAR: u32 = 17;
+
+#[derive(Default)]
+pub struct Past {
+    /// By the thread in its row, and the handle.
+    handles: BTreeMap<(Number, Handle), String>,
+    /// By its row.
+    buffers: BTreeMap<Pin, String>,
+    threads: BTreeMap<u32, Thread>,
+}
+
+#[derive(Clone, Default)]
+struct Thread {
+    pending: String,
+    monitors: String,
+    /// The lowest first.
+    frames: Vec<Frame>,
+}
+
+#[derive(Clone)]
+pub struct Frame {
+    pub opened: String,
+    pub since: String,
+}
+
+impl Frame {
+    fn new(opened: String) -> Frame {
+        Frame {
+            opened,
+            since: String::new(),
+        }
+    }
+
+    pub fn is_pushed(&self) -> bool {
+        self.opened != "native"
+    }
+}
+
+impl Past {
+    pub fn of_handle(&self, thread: u32, handle: Handle) -> &str {
+        let happened = self
+            .handles
+            .get(&(references::owner(thread, handle), handle));
+        happened.map_or("never made", String::as_str)
+    }
+
+    pub fn of_buffer(&self, row: &Pin) -> &str {
+        self.buffers.get(row).map_or("never got", String::as_str)
+    }
+
+    /// What set its pending exception, and its monitors.
+    pub fn of_thread(&self, thread: u32) -> (String, String) {
+        let happened = self.threads.get(&thread).cloned().unwrap_or_default();
+        (happened.pending, happened.monitors)
+    }
+
+    pub fn frames(&self, thread: u32) -> &[Frame] {
+        self.threads
+            .get(&thread)
+            .map_or(&[], |happened| &happened.frames)
+    }
+
+    /// Whether some handle has ended.
+    pub fn has_ended(&self) -> bool {
+        self.handles
+            .values()
+            .any(|happened| happened.starts_with("ended"))
+    }
+
+    /// Adds an event over rows that were these, and which has left these tables.
+    pub fn add(&mut self, event: &Event, before: (Vec<Reference>, Vec<Pin>), after: &Tables) {
+        self.add_to_handles(event, &before.0, after);
+        self.add_to_buffers(event, &before.1, &used(&after.pins.rows));
+        self.add_to_thread(event, after);
+    }
+
+    fn add_to_handles(&mut self, event: &Event, before: &[Reference], after: &Tables) {
+        let own = thread(event);
+        let depth = if own == 0 { 0 } else { after.book.frames(own) };
+        let happened = self.threads.entry(own).or_default();
+        let act = match *event {
+            Event::C { function, .. } => function.to_string(),
+            Event::X { .. } => format!("X of {} frames", few(happened.frames.len() - depth)),
+            _ => letter(event).to_string(),
+        };
+        let after = used(&after.references.rows);
+        for row in &after {
+            let might_end = match *event {
+                Event::X { .. } => true,
+                Event::C {
+                    function, places, ..
+                } => match function {
+                    POP_LOCAL_FRAME => true,
+                    DELETE_LOCAL_REF | DELETE_GLOBAL_REF | DELETE_WEAK_GLOBAL_REF => {
+                        places[0] == row[HANDLE]
+                    }
+                    _ => false,
+                },
+                _ => false,
+            };
+            let key = (row[THREAD], row[HANDLE]);
+            if !before.contains(row) {
+                let again = self.handles.contains_key(&key);
+                self.handles
+                    .insert(key, format!("made by {act}, again {again}"));
+            } else if might_end {
+                let is_own = row[THREAD] == Number::from(own);
+                self.handles
+                    .insert(key, format!("not ended by {act}, of its thread {is_own}"));
+            }
+        }
+        for row in before.iter().filter(|row| !after.contains(row)) {
+            let above = row[FRAME] as usize > depth + 1;
+            self.handles.insert(
+                (row[THREAD], row[HANDLE]),
+                format!("ended by {act}, above {above}"),
+            );
+            if let Some(top) = happened.frames.last_mut() {
+                top.since = "one ended".into();
+            }
+        }
+    }
+
+    fn add_to_buffers(&mut self, event: &Event, before: &[Pin], after: &[Pin]) {
+        let own = Number::from(thread(event));
+        for row in before.iter().chain(after) {
+            let count = |rows: &[Pin]| rows.iter().filter(|other| *other == row).count();
+            let happened = match (count(before), count(after), event) {
+                (was, is, _) if was < is => format!("got, {} before", few(was)),
+                (was, is, _) if was > is => format!("released, {} left", few(is)),
+                (_, _, Event::X { .. }) if row[THREAD] == own || row[THREAD] == 0 => "X".into(),
+                (_, _, Event::C { places, .. }) if places[1] == row[BUFFER] => {
+                    "not released".into()
+                }
+                _ => continue,
+            };
+            self.buffers.insert(*row, happened);
+        }
+    }
+
+    fn add_to_thread(&mut self, event: &Event, after: &Tables) {
+        let own = thread(event);
+        let happened = self.threads.entry(own).or_default();
+        let depth = if own == 0 { 0 } else { after.book.frames(own) };
+        let is_uncovered = happened.frames.len() > depth;
+        happened.frames.truncate(depth);
+        match *event {
+            Event::N { .. } => {
+                happened.pending = "by N".into();
+                happened.frames.push(Frame::new("native".into()));
+            }
+            Event::R {
+                function,
+                result,
+                pending,
+                ..
+            } => {
+                let clears = if function == EXCEPTION_CLEAR {
+                    " of ExceptionClear"
+                } else {
+                    ""
+                };
+                happened.pending = format!("by R {pending}{clears}");
+                let status = format!("{function} {}", result.signum());
+                match (function, happened.frames.last_mut()) {
+                    (MONITOR_ENTER | MONITOR_EXIT, _) => happened.monitors = status,
+                    (PUSH_LOCAL_FRAME, _) if result == 0 => {
+                        let capacity = few(after.book.capacity(own, depth) as usize);
+                        happened
+                            .frames
+                            .push(Frame::new(format!("pushed of {capacity}")));
+                    }
+                    (PUSH_LOCAL_FRAME | ENSURE_LOCAL_CAPACITY, Some(top)) => top.since = status,
+                    _ => {}
+                }
+            }
+            Event::X { .. } | Event::C { .. } | Event::Z => {}
+        }
+        if let (true, Some(top)) = (is_uncovered, happened.frames.last_mut()) {
+            top.since = format!("uncovered by {}", letter(event));
+        }
+    }
+}

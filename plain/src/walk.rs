@@ -1,0 +1,148 @@
+//! The walk: traces that show all facts of each function, which buffers each release ends, and what each byte is.
+
+use crate::facts::*;
+use crate::limits::{PIN_ROWS, REFERENCE_ROWS};
+use crate::line;
+use crate::make::Made;
+use crate::refusal::OUT_OF_RANGE;
+
+/// After these lines a local 5, a global 6 and a weak 7 are alive.
+const OPENING: [&str; 5] = [
+    "N 1 100 5",
+    "C 1 100 21 5 0 0 0",
+    "R 1 21 6 0",
+    "C 1 100 226 5 0 0 0",
+    "R 1 226 7 0",
+];
+/// Null, an identity, a local and a global that are not alive; then those that are, which a delete may end.
+const VALUES: [u32; 7] = [0, 8, 9, 10, 5, 6, 7];
+/// A local, a global, a weak and an identity, each of which may be a buffer or a status too; a status alone is below zero.
+const RESULTS: [i64; 5] = [1_001, 1_002, 1_003, 1_004, -1];
+/// A critical region with an exception pending.
+const REGION: [&str; 2] = ["C 1 100 222 5 0 0 0", "R 1 222 8000 1"];
+
+/// Of each function a trace that is accepted and one for each line that must be refused; a trace of each release; of each byte
+/// two lines, in which it stands for a letter and for a digit.
+pub fn walk() -> Vec<Made> {
+    let mut walk = Vec::new();
+    for function in FIRST_FUNCTION..=LAST_FUNCTION {
+        walk.push(made(format!("function {function}"), &accepted(function)));
+        for line in refused(function) {
+            walk.push(made(format!("function {function}: {line}"), &[line]));
+        }
+    }
+    for (_, release) in FAMILIES {
+        walk.push(made(format!("release {release}"), &releases(release)));
+    }
+    for byte in 0..=u8::MAX {
+        walk.push(of_bytes(format!("letter {byte}"), vec![byte, b'\n']));
+        let digit = [b"X\t1", &[byte][..], b"\t0\n"].concat();
+        walk.push(of_bytes(format!("digit {byte}"), digit));
+    }
+    walk
+}
+
+/// Calls with each value in all places that are used, results of each kind that there may be, and a call in the region.
+fn accepted(function: u32) -> Vec<String> {
+    let facts = known(function);
+    let used = facts.places.map(|kind| kind != PlaceKind::Unused);
+    let results = results(function);
+    let values = if used.contains(&true) {
+        VALUES.len()
+    } else {
+        1
+    };
+    let mut lines = owned(&OPENING);
+    for index in 0..values.max(results.len()) {
+        let places = used.map(|used| if used { VALUES[index] } else { 0 });
+        lines.push(call(function, places, facts.uses_capacity.into()));
+        lines.push(answer(function, results.get(index).copied().unwrap_or(0)));
+    }
+    // Which are alive now; of the results one, if there is any.
+    let result = results.first().map_or(0, |&result| result as u32);
+    for places in [[5, 6, 0], [7, result, 0]] {
+        lines.push(call(IS_SAME_OBJECT, places, 0));
+        lines.push(answer(IS_SAME_OBJECT, 0));
+    }
+    lines.extend(owned(&REGION));
+    lines.push(call(function, [0; 3], 0));
+    lines.push(answer(function, 0));
+    lines.push("Z".to_string());
+    lines
+}
+
+/// A number in each unused place or as an unused capacity, and results of each kind that there may not be.
+fn refused(function: u32) -> Vec<String> {
+    let facts = known(function);
+    let mut lines = Vec::new();
+    for (place, kind) in facts.places.into_iter().enumerate() {
+        if kind == PlaceKind::Unused {
+            let mut places = [0; 3];
+            places[place] = 5;
+            lines.push(call(function, places, 0));
+        }
+    }
+    if !facts.uses_capacity {
+        lines.push(call(function, [0; 3], 1));
+    }
+    let results = results(function);
+    for result in RESULTS {
+        // Below zero is tried only where it tells a buffer from a status.
+        if !results.contains(&result) && (result > 0 || results.len() == RESULTS.len() - 1) {
+            lines.push(answer(function, result));
+        }
+    }
+    lines
+}
+
+/// A buffer of each family, and the release called with each of them.
+fn releases(release: u32) -> Vec<String> {
+    let mut lines = owned(&OPENING[..1]);
+    for ((get, _), buffer) in FAMILIES.into_iter().zip(8_000..) {
+        lines.push(call(get, [5, 0, 0], 0));
+        lines.push(answer(get, buffer));
+    }
+    for (_, buffer) in FAMILIES.into_iter().zip(8_000..) {
+        lines.push(call(release, [5, buffer, 0], 0));
+        lines.push(answer(release, 0));
+    }
+    lines.push("Z".to_string());
+    lines
+}
+
+/// The results that the function may have.
+fn results(function: u32) -> Vec<i64> {
+    let read = |result: &i64| line::read(&bytes(&answer(function, *result)));
+    let is_result = |result: &i64| read(result) != Err(OUT_OF_RANGE);
+    RESULTS.into_iter().filter(is_result).collect()
+}
+
+fn call(function: u32, [a, b, c]: [u32; 3], n: i32) -> String {
+    format!("C 1 100 {function} {a} {b} {c} {n}")
+}
+
+fn answer(function: u32, result: i64) -> String {
+    format!("R 1 {function} {result} 0")
+}
+
+fn owned(lines: &[&str]) -> Vec<String> {
+    lines.iter().map(|line| line.to_string()).collect()
+}
+
+fn made(name: String, lines: &[String]) -> Made {
+    of_bytes(name, lines.iter().flat_map(|line| bytes(line)).collect())
+}
+
+fn of_bytes(name: String, trace: Vec<u8>) -> Made {
+    Made {
+        name,
+        reference_rows: REFERENCE_ROWS,
+        pin_rows: PIN_ROWS,
+        trace,
+    }
+}
+
+/// A line written with spaces for tabs.
+fn bytes(line: &str) -> Vec<u8> {
+    (line.replace(' ', "\t") + "\n").into_bytes()
+}
