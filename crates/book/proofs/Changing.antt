@@ -7,20 +7,20 @@ use mathlib.Core.List.{List, [], _∷_, tail}
 use native.Mathlib.Decide.{decLt, ℕ-discrete}
 use native.Mathlib.Omega.{arith}
 use lib.ListN.{length}
-use lib.Dec.{eqb, ltb}
+use lib.Dec.{ltb}
 use borrow.Author.Tests.{lt-ltb, le-ltb, ne-eqb}
-use Rattle.words.specs.Choice.{if_then_else_, one}
+use Rattle.words.specs.Choice.{if_then_else_}
 use Rattle.history.specs.Items.{Item, in-native, in-call}
 use Rattle.history.specs.Frames.{without-native, without-pushed}
 use Rattle.history.specs.Acceptance.{deepest}
 use Rattle.history.specs.Replies.{most-lines}
 use Rattle.book.specs.Layout.{width, lines-at, closed-at, env-at, pending-at, monitors-at, frames-at, capacity-at, items-at, natives-at, cell, Write, into, wrote, Stands}
-use Rattle.book.specs.Threads.{Row, Thread, thread-of, thread-in, frame-is, top-capacity, no-function, item-bound, item-is, items-of, items-in, natives-of, natives, top-is, lines-in, closed-in}
+use Rattle.book.specs.Threads.{Row, Thread, thread-of, thread-in, frame-is, top-capacity, no-function, item-bound, item-is, items-of, items-in, top-is, lines-in, closed-in}
 use Rattle.book.specs.declared.Top.{Top}
 use Rattle.book.specs.declared.Top.the-variants as Top
 use Rattle.book.specs.Moves.{push-frame, frame-pushed, leave-native, native-left, pop-frame, frame-popped, raise-capacity, capacity-raised, push-item, item-pushed, pop-item, item-popped, env-set, pending-set, monitor-added, monitor-taken}
 use Rattle.book.specs.Unfit.{overdone-in}
-use Rattle.book.specs.Changes.{with-frame, cut-to, with-raised, with-pending, with-monitors, with-env, stay, Kept, Changes}
+use Rattle.book.specs.Changes.{with-frame, cut-to, with-raised, with-pending, with-monitors, with-env, pushed-item, stay, Kept, Changes}
 use Rattle.book.proofs.Rows.{after, Among, none, more, wider, after-apart, length-wrote, cell-wrote, cell-elsewhere, cell-apart}
 use Rattle.book.proofs.Frames.{depth-most, length-frames, thread-by, thread-left, left-within, thread-popped, popped-within, pushing-among, thread-pushed, thread-raised, thread-pending, thread-monitors, thread-env}
 use Rattle.book.proofs.Items.{opened-most, length-items, items-by, opening-among, items-pushed, closing-among, items-popped, pushed-kept, popped-kept}
@@ -35,18 +35,17 @@ unfolding items-in
 items-within b t = omega (arith, length-items (cell b t), opened-most (cell b t))
 
 -- ---- what any writes to one row leave
-pub kept-by : (c e : Row) → c items-at ≡ e items-at → c frames-at ≡ e frames-at → c natives-at ≡ e natives-at → items-of c ≡ items-of e → Kept c → Kept e
-kept-by c e x y z i k =
-    record { items-fit = omega (arith, k .items-fit); frames-fit = omega (arith, k .frames-fit); natives-are = sym z ∙ k .natives-are ∙ ap natives i }
+pub kept-by : (c e : Row) → c items-at ≡ e items-at → c frames-at ≡ e frames-at → Kept c → Kept e
+kept-by c e x y k = record { items-fit = omega (arith, k .items-fit); frames-fit = omega (arith, k .frames-fit) }
 
 module _ {ws : List Write} (b : List ℕ) (t : ℕ) (w : Among 0 width ws) where
   fit-elsewhere : (s : ℕ) → (s ≡ t → ⊥) → overdone-in (wrote b t ws) s ≡ overdone-in b s
-  unfolding overdone-in
+  unfolding overdone-in items-in
   fit-elsewhere s n =
       rw (
         cell-elsewhere b t s items-at w n (omega arith),
         cell-elsewhere b t s frames-at w n (omega arith),
-        cell-elsewhere b t s natives-at w n (omega arith),
+        items-by (cell (wrote b t ws) s) (cell b s) (λ i x y. cell-elsewhere b t s i w n y),
         cell-elsewhere b t s monitors-at w n (omega arith),
       )
 
@@ -54,10 +53,9 @@ module _ {ws : List Write} (b : List ℕ) (t : ℕ) (w : Among 0 width ws) where
   kept-after h g s (yes e) k =
       rw e
       (kept-by (after (cell b t) ws) (cell (wrote b t ws) t) (sym (cell-wrote b t items-at w h (omega arith))) (sym (cell-wrote b t frames-at w h (omega arith)))
-      (sym (cell-wrote b t natives-at w h (omega arith))) (items-by _ _ (λ i x y. sym (cell-wrote b t i w h y))) (g (rw e at k)))
+      (g (rw e at k)))
   kept-after h g s (no n) k =
-      kept-by (cell b s) (cell (wrote b t ws) s) (sym (cell-elsewhere b t s items-at w n (omega arith))) (sym (cell-elsewhere b t s frames-at w n (omega arith)))
-      (sym (cell-elsewhere b t s natives-at w n (omega arith))) (items-by _ _ (λ i x y. sym (cell-elsewhere b t s i w n y))) k
+      kept-by (cell b s) (cell (wrote b t ws) s) (sym (cell-elsewhere b t s items-at w n (omega arith))) (sym (cell-elsewhere b t s frames-at w n (omega arith))) k
 
 -- the trace's own numbers stand before those of threads
 module _ {ws : List Write} (b : List ℕ) (t : ℕ) (m : Among env-at width ws) where
@@ -91,16 +89,8 @@ changes {ws} b t to m h e g =
       as-fit = fit-elsewhere b t w;
     }
   where
-    apart : (k : ℕ) → items-at ≤ k → cell b t k ≡ after (cell b t) ws k
-    apart k x = sym (after-apart (cell b t) k m (inr x))
-
     same-items : Kept (cell b t) → Kept (after (cell b t) ws)
-    same-items k =
-        record {
-          items-fit = omega (arith, k .items-fit, apart items-at (omega arith));
-          frames-fit = g (k .frames-fit);
-          natives-are = sym (apart natives-at (omega arith)) ∙ k .natives-are ∙ ap natives (items-by _ _ (λ i x y. apart i x));
-        }
+    same-items k = record { items-fit = omega (arith, k .items-fit, after-apart (cell b t) items-at m (inr (omega arith))); frames-fit = g (k .frames-fit) }
 
 module _ (c : Row) (n : ℕ) (p : Bool) where
   push-among : Dec (length (thread-of c .frames) < deepest) → Among env-at items-at (push-frame (thread-of c) n p)
@@ -191,32 +181,32 @@ turns {ws} b t turn m h e g =
       as-fit = fit-elsewhere b t w;
     }
 
-push-items-among : (c : Row) (k f n : ℕ) → Dec (length (items-of c) < deepest) → Among items-at width (push-item (items-of c) k f n)
+push-items-among : (c : Row) (f n : ℕ) → Dec (length (items-of c) < deepest) → Among items-at width (push-item (items-of c) (c natives-at) f n)
 unfolding push-item
-push-items-among c k f n (yes l) = rw (lt-ltb (length (items-of c)) deepest l) (opening-among f n (k + one (eqb f no-function)) (length (items-of c)) l)
-push-items-among c k f n (no l) = rw (le-ltb (length (items-of c)) deepest (omega arith)) none
+push-items-among c f n (yes l) = rw (lt-ltb (length (items-of c)) deepest l) (opening-among f n _ (length (items-of c)) l)
+push-items-among c f n (no l) = rw (le-ltb (length (items-of c)) deepest (omega arith)) none
 
 pub item-pushed-changes : (b : List ℕ) (t f n : ℕ) → Stands b t → length (items-in b t) < deepest
-    → Changes b (item-pushed b t f n) t stay (λ is. item-is f n ∷ is)
+    → Changes b (item-pushed b t f n) t stay (λ is. pushed-item f n ∷ is)
 unfolding item-pushed items-in
 item-pushed-changes b t f n h r =
     let c = cell b t in
-    turns b t (λ is. item-is f n ∷ is) (push-items-among c (natives-of c) f n (decLt (length (items-of c)) deepest)) h
-    (items-pushed c (natives-of c) f n r) (λ k. pushed-kept c f n r k)
+    turns b t (λ is. pushed-item f n ∷ is) (push-items-among c f n (decLt (length (items-of c)) deepest)) h
+    (items-pushed c f n r) (λ k. pushed-kept c f n r k)
 
 pub item-popped-changes : (b : List ℕ) (t : ℕ) → Stands b t → Changes b (item-popped b t) t stay tail
 unfolding item-popped items-in
 item-popped-changes b t h =
     let c = cell b t in
-    turns b t tail (unfold pop-item in closing-among _ _) h (items-popped c (natives-of c)) (λ k. popped-kept c k)
+    turns b t tail (unfold pop-item in closing-among _) h (items-popped c) (λ k. popped-kept c k)
 
 -- what is pushed as a native, or as a call, is one
-pub pushed-native : (n : ℕ) → item-is no-function n ≡ in-native
-unfolding item-is
+pub pushed-native : (n : ℕ) → pushed-item no-function n ≡ in-native
+unfolding pushed-item item-is
 pushed-native n = refl
 
-pub pushed-call : (f n : ℕ) → 0 < f → f < item-bound → n < item-bound → item-is f n ≡ in-call f n
-unfolding item-is
+pub pushed-call : (f n : ℕ) → 0 < f → f < item-bound → n < item-bound → pushed-item f n ≡ in-call f n
+unfolding pushed-item item-is
 pushed-call f n z a b =
     let x : f % item-bound ≡ f = omega arith in
     let y : n % item-bound ≡ n = omega arith in

@@ -1,21 +1,21 @@
 -- For callers: when a book is fit, and what a fit one has. Assumes nothing.
-use Prim.Native.Nat.{ℕ, _≤_, min}
+use Prim.Native.Nat.{ℕ, _≤_, _<_, min}
 use mathlib.Core.Path.{_≡_, refl, ap, _∙_}
-use mathlib.Core.Bool.{Bool, false, _||_}
+use mathlib.Core.Bool.{Bool, false, _&&_, _||_, and-false}
 use mathlib.Core.List.{List, []}
-use native.Mathlib.Decide.{ℕ-discrete}
+use native.Mathlib.Decide.{decLt, ℕ-discrete}
 use native.Mathlib.Omega.{arith}
 use lib.ListN.{length}
-use lib.Dec.{ltb}
-use borrow.Author.Tests.{le-ltb, ltb-false}
+use lib.Dec.{eqb, ltb}
+use borrow.Author.Tests.{le-ltb, ltb-false, ne-eqb}
 use Rattle.words.specs.Lists.{any, sum}
 use Rattle.lines.specs.Line.{threads}
 use Rattle.history.specs.Items.{Item}
 use Rattle.history.specs.Acceptance.{deepest}
 use Rattle.history.specs.Replies.{most-lines}
 use Rattle.history.specs.Thread.{all-threads}
-use Rattle.book.specs.Layout.{whole, lines-at, monitors-at, frames-at, items-at, natives-at, cell, Stands}
-use Rattle.book.specs.Threads.{Row, Thread, depth, thread-of, thread-in, opened, items-of, items-in, lines-in, all-monitors}
+use Rattle.book.specs.Layout.{whole, lines-at, monitors-at, frames-at, items-at, cell, Stands}
+use Rattle.book.specs.Threads.{Row, Thread, depth, thread-of, thread-in, opened, items-of, items-in, natives, lines-in, all-monitors}
 use Rattle.book.specs.Moves.{cleared}
 use Rattle.book.specs.Unfit.{overdone, overdone-in, unfit, overdoes}
 use Rattle.book.specs.Changes.{blank, Kept, Changes, Traced}
@@ -23,6 +23,16 @@ use Rattle.book.proofs.AllThreads.{any-same, any-none, any-each, sum-sa
 use Rattle.book.proofs.Frames.{length-frames}
 use Rattle.book.proofs.Items.{length-items}
 use Rattle.book.proofs.Tracing.{cleared-blank, cleared-long}
+
+-- ---- no limit is passed
+pub not-overdone : (items frames natives monitors : ℕ) → items ≤ deepest → frames ≤ deepest → natives ≤ frames → (0 < items → 0 < frames) → monitors ≤ most-lines
+    → overdone items frames natives monitors ≡ false
+not-overdone items frames natives monitors i f n framed m =
+    rw (le-ltb deepest items i, le-ltb deepest frames f, le-ltb frames natives n, le-ltb most-lines monitors m) (go (decLt 0 items))
+  where
+    go : Dec (0 < items) → ((ltb 0 items && eqb frames 0) || false) ≡ false
+    go (yes l) = rw (ne-eqb frames 0 (λ z. omega (arith, framed l, z)), and-false (ltb 0 items))
+    go (no l) = rw (le-ltb 0 items (omega arith))
 
 -- ---- refusal 8 by the lists
 opened-is : (c : Row) → c items-at ≤ deepest → opened c ≡ c items-at
@@ -33,10 +43,10 @@ depth-is : (c : Row) → c frames-at ≤ deepest → depth c ≡ c frames-at
 unfolding depth
 depth-is c h = omega arith
 
-overdone-row : (c : Row) → Kept c → overdone (c items-at) (c frames-at) (c natives-at) (c monitors-at) ≡ overdoes (thread-of c) (items-of c)
+overdone-row : (c : Row) → Kept c → overdone (c items-at) (c frames-at) (natives (items-of c)) (c monitors-at) ≡ overdoes (thread-of c) (items-of c)
 unfolding overdoes
 overdone-row c k =
-    rw (length-items c ∙ opened-is c (k .items-fit), length-frames c ∙ depth-is c (k .frames-fit), k .natives-are) (unfold thread-of in refl)
+    rw (length-items c ∙ opened-is c (k .items-fit), length-frames c ∙ depth-is c (k .frames-fit)) (unfold thread-of in refl)
 
 -- one thread, where its counts are kept
 pub overdone-is : (b : List ℕ) (t : ℕ) → Kept (cell b t) → overdone-in b t ≡ overdoes (thread-in b t) (items-in b t)

@@ -6,4 +6,6 @@ pub mod Changing
 pub mod AllThreads
 pub mod Tracing
 pub mod Fitness
+mod UnfitCases
+mod Natives
 pub mod Steps

@@ -1,5 +1,5 @@
 -- From what the code did to the words of the definitions: one law for each return. Assumes nothing.
-use Prim.Native.Nat.{ℕ, zero, suc, pred, _+_, _-_, _*_, _≤_, _<_, min, max}
+use Prim.Native.Nat.{ℕ, zero, suc, pred, _+_, _-_, _*_, _%_, _^_, _≤_, _<_, min, max}
 use mathlib.Core.Path.{_≡_, refl, sym, ap, ap₂, _∙_}
 use mathlib.Core.Bool.{Bool, true, false, not, _&&_, _||_}
 use mathlib.Core.List.{List, [], _∷_, _++_, append-nil}
@@ -7,27 +7,33 @@ use mathlib.Core.Option.{Option, some}
 use native.Mathlib.Nat.{not-suc-le-zero, le-of-suc-le-suc}
 use native.Mathlib.Omega.{arith}
 use borrow.Author.Fill.{fill-none, fill-more}
-use borrow.Author.Tests.{lt-ltb, le-ltb, not-true, not-false}
+use borrow.Author.Tests.{lt-ltb, le-ltb, ltb-false, eqb-true, not-true, not-false}
 use lib.ListN.{length, getD, set, replicate, drop, List·getD-eq-default}
 use lib.Seq.{drop-length}
 use lib.Dec.{eqb, ltb}
+use lib.Bits.{bitAnd, bitOr}
 use Rattle.words.specs.Choice.{one}
 use Rattle.words.specs.Lists.{any, sum}
 use Rattle.lines.specs.Line.{threads}
-use Rattle.history.specs.Items.{Item, top-of, is-native}
+use Rattle.history.specs.Items.{Item, top-of}
 use Rattle.history.specs.Frames.{Frame, entered, pushed, top-pushed, without-native, without-pushed}
 use Rattle.history.specs.Acceptance.{deepest}
 use Rattle.history.specs.Replies.{most-lines}
+use Rattle.rows.specs.Scan.{how-many}
+use Rattle.rows.specs.Marks.{bit}
 use Rattle.book.specs.Layout.{width, whole, lines-at, closed-at, env-at, pending-at, monitors-at, frames-at, capacity-at, pushed-at, items-at, natives-at, function-at, asked-at, cell, put, wrote}
-use Rattle.book.specs.Threads.{stack, depth, frame-is, is-pushed, thread-of, thread-in, top-capacity, opened, no-function, item-is, items-of, items-in, natives-of, top-is, lines-in, closed-in, env-elsewhere, all-monitors}
+use Rattle.book.specs.Threads.{Row, stack, depth, frame-is, is-pushed, thread-of, thread-in, top-capacity, opened, no-function, item-is, items-of, items-in, natives, top-is, lines-in, closed-in, env-elsewhere, all-monitors}
 use Rattle.book.specs.declared.Top.{Top}
 use Rattle.book.specs.declared.Top.the-variants as Top
-use Rattle.book.specs.Moves.{push-frame, frame-pushed, leave-native, native-left, pop-frame, frame-popped, raise-capacity, capacity-raised, push-item, item-pushed, pop-item, item-popped, env-set, pending-set, monitor-added, monitor-taken, line-counted, closed-set, cleared}
-use Rattle.book.specs.Unfit.{overdone-in, unfit}
-use Rattle.book.proofs.AllThreads.{rest, any-first, any-next, any-last, sum-first, sum-next, sum-last}
+use Rattle.book.specs.Moves.{push-frame, frame-pushed, leave-native, native-left, pop-frame, frame-popped, raise-capacity, capacity-raised, with-mark, push-item, item-pushed, pop-item, item-popped, env-set, pending-set, monitor-added, monitor-taken, line-counted, closed-set, cleared}
+use Rattle.book.specs.Turns.{By-turns}
+use Rattle.book.specs.Unfit.{overdone, overdone-in, unfit}
+use Rattle.book.proofs.AllThreads.{rest, rest-none, rest-more, or-left, or-right, any-first, any-next, any-last, sum-first, sum-next, sum-last}
 use Rattle.book.proofs.Stacks.{length-stack}
 use Rattle.book.proofs.Frames.{frame-in, length-frames}
-use Rattle.book.proofs.Items.{item-in, length-items, length-tail}
+use Rattle.book.proofs.Items.{item-in, same-item, length-items, length-tail}
+use Rattle.book.proofs.Fitness.{not-overdone}
+use Rattle.book.proofs.Natives.{natives-are, all-calls, in-turn, turns-left, turns-right, half-at-most}
 
 -- ---- a number of the book
 pub number-past : (b : List ℕ) (t j : ℕ) → length b ≤ t * width + j → 0 ≡ cell b t j
@@ -160,28 +166,27 @@ pub item-none : (b : List ℕ) (t d : ℕ) → d ≡ length (items-in b t) → d
 unfolding top-is
 item-none b t d e z = rw (items-stand b t d e, z)
 
-pub item-some : (b : List ℕ) (t d f n : ℕ) (r : Top) → d ≡ length (items-in b t) → (d ≡ 0 → ⊥) → f ≡ cell b t (function-at (d - 1)) → n ≡ cell b t (asked-at (d - 1))
-    → top-is r ≡ some (item-is f n) → top-is r ≡ top-of (items-in b t)
-item-some b t zero f n r e z p q i = absurd (z refl)
-item-some b t (suc d) f n r e z p q i =
+pub item-some : (b : List ℕ) (t d w f n : ℕ) (p : Bool) (r : Top) → d ≡ length (items-in b t) → (d ≡ 0 → ⊥) → w ≡ cell b t natives-at → p ≡ bit w (d - 1)
+    → f ≡ cell b t (function-at (d - 1)) → n ≡ cell b t (asked-at (d - 1)) → top-is r ≡ some (item-is p f n) → top-is r ≡ top-of (items-in b t)
+item-some b t zero w f n p r e z m o x y i = absurd (z refl)
+item-some b t (suc d) w f n p r e z m o x y i =
     let k : suc d - 1 ≡ d = omega arith in
     rw (items-stand b t (suc d) e)
-    (i ∙ ap {B = Option Item} (λ x. some x) (ap₂ item-is (p ∙ ap (λ (j : ℕ). cell b t (function-at j)) k) (q ∙ ap (λ (j : ℕ). cell b t (asked-at j)) k)))
+    (i ∙ ap {B = Option Item} (λ x. some x)
+    (same-item (o ∙ ap₂ bit m k) (x ∙ ap (λ (j : ℕ). cell b t (function-at j)) k) (y ∙ ap (λ (j : ℕ). cell b t (asked-at j)) k)))
 
 pub item-full : (b : List ℕ) (t f n d : ℕ) → d ≡ length (items-in b t) → deepest ≤ d → b ≡ item-pushed b t f n
 unfolding item-pushed push-item wrote
 item-full b t f n d e h = rw (le-ltb (length (items-in b t)) deepest (omega arith))
 
-pub item-room : (b b₁ b₂ b₃ b₄ : List ℕ) (t f n d k o : ℕ) → d ≡ length (items-in b t) → d < deepest → k ≡ natives-of (cell b t) → o ≡ one (eqb f no-function)
-    → b₁ ≡ put b t (function-at d) f → b₂ ≡ put b₁ t (asked-at d) n → b₃ ≡ put b₂ t items-at (d + 1) → b₄ ≡ put b₃ t natives-at (k + o)
-    → b₄ ≡ item-pushed b t f n
+pub item-room : (b b₁ b₂ b₃ b₄ : List ℕ) (t f n d k w : ℕ) → d ≡ length (items-in b t) → d < deepest → k ≡ cell b t natives-at → w ≡ with-mark k d (eqb f no-function)
+    → b₁ ≡ put b t (function-at d) f → b₂ ≡ put b₁ t (asked-at d) n → b₃ ≡ put b₂ t items-at (d + 1) → b₄ ≡ put b₃ t natives-at w → b₄ ≡ item-pushed b t f n
 unfolding item-pushed push-item wrote
-item-room b b₁ b₂ b₃ b₄ t f n d k o e h p q x y z u = rw (lt-ltb (length (items-in b t)) deepest (omega arith), ← e, ← p, ← q) (cc)
+item-room b b₁ b₂ b₃ b₄ t f n d k w e h p q x y z u = rw (lt-ltb (length (items-in b t)) deepest (omega arith), ← e, ← p, ← q) (cc)
 
-pub item-off : (b b₁ b₂ : List ℕ) (t d k g x y : ℕ) (r : Top) → d ≡ length (items-in b t) → k ≡ natives-of (cell b t) → top-is r ≡ top-of (items-in b t)
-    → g ≡ one (is-native (top-is r)) → x ≡ d - 1 → b₁ ≡ put b t items-at x → y ≡ k - g → b₂ ≡ put b₁ t natives-at y → b₂ ≡ item-popped b t
+pub item-off : (b b₁ : List ℕ) (t d x : ℕ) → d ≡ length (items-in b t) → x ≡ d - 1 → b₁ ≡ put b t items-at x → b₁ ≡ item-popped b t
 unfolding item-popped pop-item wrote
-item-off b b₁ b₂ t d k g x y r e p q o u v w z = rw (length-tail (items-in b t), ← e, ← p, ← q, ← o, ← u, ← w) (cc)
+item-off b b₁ t d x e u v = rw (length-tail (items-in b t), ← e, ← u) v
 
 -- ---- the rest of a thread
 pub env-stored : (b b₁ : List ℕ) (t v : ℕ) → b₁ ≡ put b t env-at v → b₁ ≡ env-set b t v
@@ -248,7 +253,41 @@ pub closed-stored : (b b₁ : List ℕ) → b₁ ≡ put b 0 closed-at 1 → b�
 unfolding closed-set wrote
 closed-stored b b₁ x = x
 
--- ---- a book that is not fit, looked for from thread t on
+-- ---- a book that is not fit
+pub row-overdone : (b : List ℕ) (t items frames marks n natives monitors : ℕ) (r : Bool) → items ≡ getD b (t * width + items-at) 0
+    → frames ≡ getD b (t * width + frames-at) 0 → marks ≡ getD b (t * width + natives-at) 0 → n ≡ min items deepest → natives ≡ how-many (bit marks) n
+    → monitors ≡ getD b (t * width + monitors-at) 0 → r ≡ overdone items frames natives monitors → r ≡ overdone-in b t
+unfolding overdone-in items-in
+row-overdone b t items frames marks n natives monitors r p q w m k s e =
+    let i : items ≡ cell b t items-at = unfold cell in p in
+    let f : frames ≡ cell b t frames-at = unfold cell in q in
+    let v : marks ≡ cell b t natives-at = unfold cell in w in
+    let o : monitors ≡ cell b t monitors-at = unfold cell in s in
+    e ∙ rw (k, m, natives-are (cell b t), ← i, ← f, ← v, ← o)
+
+not-doubted : (c : Row) → (ltb deepest (max (c items-at) (c frames-at)) || ltb ((c frames-at + c frames-at) % 2 ^ 64) (c items-at) || ltb most-lines (c monitors-at)) ≡ false
+    → By-turns (c natives-at) → overdone (c items-at) (c frames-at) (natives (items-of c)) (c monitors-at) ≡ false
+not-doubted c h turns =
+    let x = ltb deepest (max (c items-at) (c frames-at)) in
+    let y = ltb ((c frames-at + c frames-at) % 2 ^ 64) (c items-at) in
+    let two = or-left (x || y) (ltb most-lines (c monitors-at)) h in
+    let few : max (c items-at) (c frames-at) ≤ deepest = ltb-false deepest (max (c items-at) (c frames-at)) (or-left x y two) in
+    let framed : c items-at ≤ (c frames-at + c frames-at) % 2 ^ 64 = ltb-false ((c frames-at + c frames-at) % 2 ^ 64) (c items-at) (or-right x y two) in
+    not-overdone (c items-at) (c frames-at) (natives (items-of c)) (c monitors-at) (omega (arith, few)) (omega (arith, few))
+    (omega (arith, half-at-most c turns, few, framed)) (λ o. omega (arith, o, few, framed))
+    (ltb-false most-lines (c monitors-at) (or-right (x || y) (ltb most-lines (c monitors-at)) h))
+
+pub no-doubt : (b : List ℕ) (t items frames monitors m n : ℕ) (r : Bool) → m ≡ max items frames → n ≡ (frames + frames) % 2 ^ 64
+    → items ≡ getD b (t * width + items-at) 0 → frames ≡ getD b (t * width + frames-at) 0 → monitors ≡ getD b (t * width + monitors-at) 0
+    → r ≡ (ltb deepest m || ltb n items || ltb most-lines monitors) → r ≡ false → By-turns (cell b t natives-at) → overdone-in b t ≡ false
+unfolding overdone-in items-in
+no-doubt b t items frames monitors m n r g a p q s e h =
+    let i : items ≡ cell b t items-at = unfold cell in p in
+    let f : frames ≡ cell b t frames-at = unfold cell in q in
+    let o : monitors ≡ cell b t monitors-at = unfold cell in s in
+    not-doubted (cell b t) (rw (← i, ← f, ← o, ← g, ← a) (sym e ∙ h))
+
+-- looked for from thread t on
 unfoldable pub overdone-from : List ℕ → ℕ → Bool
 overdone-from b t = any (overdone-in b) (rest t)
 
@@ -267,6 +306,24 @@ unfit-next b t r x i h p = i ∙ any-next (overdone-in b) t r x h p
 pub unfit-last : (b : List ℕ) (t : ℕ) (r : Bool) → unfit b ≡ (r || overdone-from b t) → threads < t → r ≡ unfit b
 unfolding overdone-from
 unfit-last b t r i h = any-last (overdone-in b) t r h ∙ sym i
+
+-- where no thread before t is in doubt, by the marks of these threads together
+pub doubt-first : (b : List ℕ) (k w : ℕ) → whole ≤ length b → k ≡ getD b 0 0 → ltb most-lines k ≡ false → By-turns w → unfit b ≡ overdone-from b 1
+doubt-first b k w h e f turns = unfit-first b k h e ∙ rw f
+
+pub doubt-next : (b : List ℕ) (t v w : ℕ) (r x : Bool) → (r ≡ false → By-turns v → unfit b ≡ overdone-from b t) → t ≤ threads
+    → (x ≡ false → By-turns (cell b t natives-at) → overdone-in b t ≡ false) → w ≡ getD b (t * width + natives-at) 0
+    → (r || x) ≡ false → By-turns (bitOr v w) → unfit b ≡ overdone-from b (t + 1)
+unfolding overdone-from cell
+doubt-next b t v w r x i h p q e turns =
+    i (or-left r x e) (turns-left v w turns) ∙ rw (rest-more t h, p (or-right r x e) (rw (← q) (turns-right v w turns)))
+
+pub doubt-none : (b : List ℕ) (t w : ℕ) (r : Bool) → (r ≡ false → By-turns w → unfit b ≡ overdone-from b t) → threads < t
+    → (r || not (eqb (bitAnd w all-calls) 0)) ≡ false → false ≡ unfit b
+unfolding overdone-from
+doubt-none b t w r i h e =
+    let z : bitAnd w all-calls ≡ 0 = eqb-true (bitAnd w all-calls) 0 (not-false (eqb (bitAnd w all-calls) 0) (or-right r (not (eqb (bitAnd w all-calls) 0)) e)) in
+    sym (i (or-left r (not (eqb (bitAnd w all-calls) 0)) e) (in-turn w z) ∙ rw (rest-none t h))
 
 -- ---- a list filled from the front
 unfoldable pub filled : List ℕ → ℕ → ℕ → List ℕ

@@ -9,8 +9,8 @@ use native.Mathlib.Omega.{arith}
 use lib.ListN.{length, getD, replicate, getD-replicate, length-replicate, List·getD-eq-default}
 use lib.Dec.{eqb}
 use Rattle.history.specs.Replies.{most-lines}
-use Rattle.book.specs.Layout.{width, lines-at, closed-at, env-at, monitors-at, frames-at, items-at, natives-at, cell, Write, into, wrote, Stands}
-use Rattle.book.specs.Threads.{depth, thread-of, thread-in, opened, items-of, items-in, natives, lines-in, closed-in}
+use Rattle.book.specs.Layout.{width, lines-at, closed-at, env-at, monitors-at, frames-at, items-at, cell, Write, into, wrote, Stands}
+use Rattle.book.specs.Threads.{depth, thread-of, thread-in, opened, items-of, items-in, lines-in, closed-in}
 use Rattle.book.specs.Moves.{line-counted, closed-set, cleared}
 use Rattle.book.specs.Unfit.{overdone-in}
 use Rattle.book.specs.Changes.{blank, Traced, Blank}
@@ -33,13 +33,12 @@ traces {ws} b n over m l z =
       end-mark = z;
       as-long = length-wrote ws b 0;
       kept =
-          λ s k. kept-by (cell b s) (cell (wrote b 0 ws) s) (sym (at s items-at (omega arith) (omega arith))) (sym (at s frames-at (omega arith) (omega arith)))
-          (sym (at s natives-at (omega arith) (omega arith))) (sym (is s)) k;
+          λ s k. kept-by (cell b s) (cell (wrote b 0 ws) s) (sym (at s items-at (omega arith) (omega arith))) (sym (at s frames-at (omega arith) (omega arith))) k;
       as-fit =
           λ s. rw (
             at s items-at (omega arith) (omega arith),
             at s frames-at (omega arith) (omega arith),
-            at s natives-at (omega arith) (omega arith),
+            is s,
             at s monitors-at (omega arith) (omega arith),
           );
     }
@@ -92,12 +91,7 @@ cleared-blank b =
       items = items-cleared b;
       lines = cell-cleared b 0 lines-at;
       end-mark = ap (λ (x : ℕ). not (eqb x 0)) (cell-cleared b 0 closed-at);
-      kept =
-          λ t. record {
-            items-fit = omega (arith, cell-cleared b t items-at);
-            frames-fit = omega (arith, cell-cleared b t frames-at);
-            natives-are = cell-cleared b t natives-at ∙ ap natives (sym (items-cleared b t));
-          };
+      kept = λ t. record { items-fit = omega (arith, cell-cleared b t items-at); frames-fit = omega (arith, cell-cleared b t frames-at) };
     }
 
 pub cleared-long : (b : List ℕ) → length (cleared b) ≡ length b

@@ -3,13 +3,14 @@ use Prim.Native.Nat.{ℕ, _-_, _≤_}
 use mathlib.Core.Bool.{Bool, false}
 use mathlib.Core.List.{List, [], _∷_}
 use mathlib.Core.Path.{_≡_}
+use lib.Dec.{eqb}
 use lib.ListN.{length, drop}
 use Rattle.history.specs.Items.{Item}
 use Rattle.history.specs.Frames.{Frame}
 use Rattle.history.specs.Capacities.{raised}
 use Rattle.history.specs.Acceptance.{deepest}
-use Rattle.book.specs.Layout.{frames-at, items-at, natives-at, cell}
-use Rattle.book.specs.Threads.{Row, Thread, thread-in, items-of, items-in, natives, lines-in, closed-in}
+use Rattle.book.specs.Layout.{frames-at, items-at, cell}
+use Rattle.book.specs.Threads.{Row, Thread, thread-in, no-function, item-is, items-in, lines-in, closed-in}
 use Rattle.book.specs.Unfit.{overdone-in}
 
 -- ---- a thread after each move
@@ -49,6 +50,10 @@ unfoldable pub with-env : ℕ → Thread → Thread
 with-env v x =
     record { frames = x .frames; capacities = x .capacities; pending = x .pending; monitors = x .monitors; env = v }
 
+-- an item more: a native where there is no function
+unfoldable pub pushed-item : ℕ → ℕ → Item
+pushed-item f n = item-is (eqb f no-function) f n
+
 -- nothing changes here
 abbrev pub stay {ℓ} : {A : Type ℓ} → A → A
 stay x = x
@@ -59,7 +64,6 @@ stay x = x
 pub record Kept (c : Row) : Type 0 where
   pub items-fit : c items-at ≤ deepest
   pub frames-fit : c frames-at ≤ deepest
-  pub natives-are : c natives-at ≡ natives (items-of c)
 
 -- from b to e thread t changes so, its open items so, and nothing else does; counts that were kept are kept
 pub record Changes (b e : List ℕ) (t : ℕ) (to : Thread → Thread) (turn : List Item → List Item) : Type 0 where

@@ -5,3 +5,5 @@ pub mod Threads
 pub mod Moves
 pub mod Unfit
 pub mod Changes
+-- computed: book::unfit
+pub mod Turns

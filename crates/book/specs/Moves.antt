@@ -1,16 +1,18 @@
 -- The book after each move: what is written to one row. Assumes nothing.
-use Prim.Native.Nat.{ℕ, pred, _+_, _-_, min, max}
+use Prim.Native.Nat.{ℕ, pred, _+_, _-_, _^_, min, max}
 use mathlib.Core.Bool.{Bool}
 use mathlib.Core.List.{List, [], _∷_, tail}
 use lib.Dec.{eqb, ltb}
+use lib.Bits.{bitAnd, bitOr}
 use lib.ListN.{length, replicate}
 use Rattle.words.specs.Choice.{if_then_else_, one}
-use Rattle.history.specs.Items.{Item, top-of, is-native}
+use Rattle.history.specs.Items.{Item}
 use Rattle.history.specs.Frames.{without-native, without-pushed}
 use Rattle.history.specs.Acceptance.{deepest}
 use Rattle.history.specs.Replies.{most-lines}
+use Rattle.rows.specs.Marks.{word}
 use Rattle.book.specs.Layout.{lines-at, closed-at, env-at, pending-at, monitors-at, frames-at, capacity-at, pushed-at, items-at, natives-at, function-at, asked-at, cell, Write, into, wrote}
-use Rattle.book.specs.Threads.{Thread, thread-in, top-capacity, no-function, items-in, natives-of, lines-in}
+use Rattle.book.specs.Threads.{Thread, thread-in, top-capacity, no-function, items-in, lines-in}
 
 -- ---- frames
 
@@ -48,25 +50,29 @@ raise-capacity x k =
 unfoldable pub capacity-raised : List ℕ → ℕ → ℕ → List ℕ
 capacity-raised b t k = wrote b t (raise-capacity (thread-in b t) k)
 
--- ---- open items; k of them are natives
+-- ---- open items
+
+-- the marks with item i's set, or cleared
+unfoldable pub with-mark : ℕ → ℕ → Bool → ℕ
+with-mark w i native = if native then bitOr w (2 ^ i) else bitAnd w (2 ^ word - 1 - 2 ^ i)
 
 -- an item more, if there is room
 unfoldable pub push-item : List Item → ℕ → ℕ → ℕ → List Write
-push-item is k f n =
+push-item is w f n =
     if ltb (length is) deepest then
     into (function-at (length is)) f
-    ∷ into (asked-at (length is)) n ∷ into items-at (length is + 1) ∷ into natives-at (k + one (eqb f no-function)) ∷ []
+    ∷ into (asked-at (length is)) n ∷ into items-at (length is + 1) ∷ into natives-at (with-mark w (length is) (eqb f no-function)) ∷ []
     else []
 
 unfoldable pub item-pushed : List ℕ → ℕ → ℕ → ℕ → List ℕ
-item-pushed b t f n = wrote b t (push-item (items-in b t) (natives-of (cell b t)) f n)
+item-pushed b t f n = wrote b t (push-item (items-in b t) (cell b t natives-at) f n)
 
 -- without the top item
-unfoldable pub pop-item : List Item → ℕ → List Write
-pop-item is k = into items-at (length (tail is)) ∷ into natives-at (k - one (is-native (top-of is))) ∷ []
+unfoldable pub pop-item : List Item → List Write
+pop-item is = into items-at (length (tail is)) ∷ []
 
 unfoldable pub item-popped : List ℕ → ℕ → List ℕ
-item-popped b t = wrote b t (pop-item (items-in b t) (natives-of (cell b t)))
+item-popped b t = wrote b t (pop-item (items-in b t))
 
 -- ---- the rest of a thread
 

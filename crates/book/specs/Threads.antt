@@ -11,6 +11,7 @@ use Rattle.history.specs.Frames.{Frame, entered, pushed}
 use Rattle.history.specs.Acceptance.{deepest}
 use Rattle.history.specs.Replies.{most-lines}
 use Rattle.history.specs.Thread.{all-threads}
+use Rattle.rows.specs.Marks.{bit}
 use Rattle.book.specs.Layout.{lines-at, closed-at, env-at, pending-at, monitors-at, frames-at, capacity-at, pushed-at, items-at, natives-at, function-at, asked-at, cell}
 use Rattle.book.specs.declared.Top.{Top}
 use Rattle.book.specs.declared.Top.the-variants as Top
@@ -70,27 +71,23 @@ top-capacity (k ∷ ks) = k
 unfoldable pub opened : Row → ℕ
 opened c = min (c items-at) deepest
 
--- the function of a native
+-- the function of a native, to push one
 abbrev pub no-function : ℕ
 no-function = 0
 
--- an item's two numbers are read as unsigned 32-bit ones
+-- a call's two numbers are read as unsigned 32-bit ones
 abbrev pub item-bound : ℕ
 item-bound = 4294967296
 
-unfoldable pub item-is : ℕ → ℕ → Item
-item-is f n = if eqb f no-function then in-native else in-call (f % item-bound) (n % item-bound)
+unfoldable pub item-is : Bool → ℕ → ℕ → Item
+item-is native f n = if native then in-native else in-call (f % item-bound) (n % item-bound)
 
 unfoldable pub items-of : Row → List Item
-items-of c = stack (λ i. item-is (c (function-at i)) (c (asked-at i))) (opened c)
+items-of c = stack (λ i. item-is (bit (c natives-at) i) (c (function-at i)) (c (asked-at i))) (opened c)
 
 -- top first
 unfoldable pub items-in : List ℕ → ℕ → List Item
 items-in b t = items-of (cell b t)
-
--- how many of them the book says are natives, at most 64
-unfoldable pub natives-of : Row → ℕ
-natives-of c = min (c natives-at) deepest
 
 -- how many of them are natives
 abbrev pub natives : List Item → ℕ

@@ -2,16 +2,20 @@
 use lines::ranges::THREADS;
 ghost use Prim.Native.Nat.{_-_, _<_, _≤_, min, max};
 ghost use mathlib.Core.Path.{_≡_};
+ghost use mathlib.Core.Bool.{false};
 ghost use mathlib.Core.Option.{some};
 ghost use lib.ListN.{length};
 ghost use Rattle.words.specs.Choice.{one};
 ghost use Rattle.lines.specs.Line.{threads};
-ghost use Rattle.history.specs.Items.{is-native, top-of};
+ghost use Rattle.history.specs.Items.{top-of};
 ghost use Rattle.history.specs.Frames.{top-pushed, without-native};
 ghost use Rattle.history.specs.Acceptance.{deepest};
-ghost use Rattle.book.specs.Layout.{width, whole, cell, put};
-ghost use Rattle.book.specs.Threads.{thread-in, is-pushed, top-capacity, item-is, items-in, natives-of, top-is, lines-in, closed-in, env-elsewhere, all-monitors};
-ghost use Rattle.book.specs.Moves.{frame-pushed, native-left, frame-popped, capacity-raised, item-pushed, item-popped, env-set, pending-set, monitor-added, monitor-taken, line-counted, closed-set, cleared};
+ghost use Rattle.rows.specs.Scan.{how-many};
+ghost use Rattle.rows.specs.Marks.{bit};
+ghost use Rattle.book.specs.Layout.{width, whole, natives-at, cell, put};
+ghost use Rattle.book.specs.Threads.{thread-in, is-pushed, top-capacity, item-is, items-in, top-is, lines-in, closed-in, env-elsewhere, all-monitors};
+ghost use Rattle.book.specs.Moves.{frame-pushed, native-left, frame-popped, capacity-raised, with-mark, item-pushed, item-popped, env-set, pending-set, monitor-added, monitor-taken, line-counted, closed-set, cleared};
+ghost use Rattle.book.specs.Turns.{By-turns};
 ghost use Rattle.book.specs.Unfit.{overdone, overdone-in, unfit};
 
 // The top of a thread's open items. A call has its function, and max(n,0) of its C.
@@ -57,8 +61,11 @@ const FUNCTIONS: usize = 136;
 
 const ASKED: usize = 200;
 
-// An item's two numbers are read as u32.
+// A call's two numbers are read as u32.
 const ITEM_BOUND: u64 = 4294967296;
+
+// The marks of every second item: lines open natives and calls by turns, and these are the calls' places.
+const AT_CALLS: u64 = 12297829382473034410;
 
 // The function of a native, to push one.
 pub const NO_FUNCTION: u32 = 0;
@@ -289,16 +296,18 @@ pub fn items_of(book: &[u64], t: u32) -> u32
     lesser(number(book, t, ITEMS), DEEPEST) as u32
 }
 
-fn natives_of(book: &[u64], t: u32) -> u64
-    ensures { λ r. ⌜ (r ≡ natives-of (cell (now (book .entry)) t)) × (r ≤ deepest) ⌝ }
+// Item i is a native.
+fn is_marked(marks: u64, i: u32) -> bool
+    requires { ⌜ i < deepest ⌝ }
+    ensures { λ r. ⌜ r ≡ bit marks i ⌝ }
 {
-    lesser(number(book, t, NATIVES), DEEPEST)
+    (marks >> i) % 2 == 1
 }
 
-fn item_is(f: u64, n: u64) -> Top
-    ensures { λ r. ⌜ top-is r ≡ some (item-is f n) ⌝ }
+fn item_is(native: bool, f: u64, n: u64) -> Top
+    ensures { λ r. ⌜ top-is r ≡ some (item-is native f n) ⌝ }
 {
-    if f == NO_FUNCTION as u64 {
+    if native {
         return Top::Native;
     }
     Top::Call((f % ITEM_BOUND) as u32, (n % ITEM_BOUND) as u32)
@@ -312,9 +321,21 @@ pub fn top_item(book: &[u64], t: u32) -> Top
         return Top::Nothing;
     }
     item_is(
+        is_marked(number(book, t, NATIVES), d - 1),
         number(book, t, FUNCTIONS + (d - 1) as usize),
         number(book, t, ASKED + (d - 1) as usize),
     )
+}
+
+// The marks with item i's set, or cleared.
+fn with_mark(marks: u64, i: u32, native: bool) -> u64
+    requires { ⌜ i < deepest ⌝ }
+    ensures { λ r. ⌜ r ≡ with-mark marks i native ⌝ }
+{
+    if native {
+        return marks | (1 << i);
+    }
+    marks & !(1 << i)
 }
 
 // An item more, if there is room.
@@ -325,21 +346,11 @@ pub fn push_item(book: &mut [u64], t: u32, f: u32, n: u32)
     if DEEPEST as u32 <= d {
         return;
     }
-    let k = natives_of(book, t) + one_if(f == NO_FUNCTION);
+    let marks = with_mark(number(book, t, NATIVES), d, f == NO_FUNCTION);
     store(book, t, FUNCTIONS + d as usize, f as u64);
     store(book, t, ASKED + d as usize, n as u64);
     store(book, t, ITEMS, d as u64 + 1);
-    store(book, t, NATIVES, k);
-}
-
-fn one_if_native(top: Top) -> u64
-    ensures { λ r. ⌜ r ≡ one (is-native (top-is top)) ⌝ }
-{
-    match top {
-        Top::Nothing => 0,
-        Top::Native => 1,
-        Top::Call(f, n) => 0,
-    }
+    store(book, t, NATIVES, marks);
 }
 
 // The top item ends.
@@ -347,10 +358,7 @@ pub fn pop_item(book: &mut [u64], t: u32)
     ensures { λ _. ⌜ now (book .exit) ≡ item-popped (now (book .entry)) t ⌝ }
 {
     let d = items_of(book, t);
-    let k = natives_of(book, t);
-    let gone = one_if_native(top_item(book, t));
     store(book, t, ITEMS, less(d as u64, 1));
-    store(book, t, NATIVES, less(k, gone));
 }
 
 // ---- the trace and the whole book
@@ -381,6 +389,20 @@ pub fn set_closed(book: &mut [u64])
     store(book, 0, CLOSED, 1);
 }
 
+// How many of the lowest n items are natives.
+fn natives_below(marks: u64, n: u32) -> u64
+    requires { ⌜ n ≤ deepest ⌝ }
+    ensures { λ r. ⌜ r ≡ how-many (bit marks) n ⌝ }
+{
+    let mut natives = 0;
+    let mut d = 0;
+    while d < n {
+        natives += one_if(is_marked(marks, d));
+        d += 1;
+    }
+    natives
+}
+
 fn overdone(items: u64, frames: u64, natives: u64, monitors: u64) -> bool
     ensures { λ r. ⌜ r ≡ overdone items frames natives monitors ⌝ }
 {
@@ -397,21 +419,17 @@ fn row_overdone(book: &[u64], t: u32) -> bool
     ensures { λ r. ⌜ r ≡ overdone-in (now (book .entry)) t ⌝ }
 {
     let row = t as usize * WIDTH;
-    overdone(
-        book[row + ITEMS],
-        book[row + FRAMES],
-        book[row + NATIVES],
-        book[row + MONITORS],
-    )
+    let items = book[row + ITEMS];
+    let frames = book[row + FRAMES];
+    let natives = natives_below(book[row + NATIVES], lesser(items, DEEPEST) as u32);
+    overdone(items, frames, natives, book[row + MONITORS])
 }
 
-// Refusal 8. No thread's test ends it early: a fit book, which is the common one, has them all.
-pub fn unfit(book: &[u64]) -> bool
+// A thread of a book that is not short, or its line count.
+fn some_overdone(book: &[u64]) -> bool
+    requires { do ⌜ whole ≤ (← ⟦book.len()⟧) ⌝ }
     ensures { λ r. ⌜ r ≡ unfit (now (book .entry)) ⌝ }
 {
-    if book.len() < WHOLE {
-        return true;
-    }
     let mut found = MOST_LINES < book[LINES];
     let mut t = 1;
     while t <= THREADS {
@@ -419,6 +437,40 @@ pub fn unfit(book: &[u64]) -> bool
         t += 1;
     }
     found
+}
+
+// Thread t may be overdone. No native is counted: by turns with calls, they are half of the items.
+fn in_doubt(book: &[u64], t: u32) -> bool
+    requires { do ⌜ (t ≤ threads) × (whole ≤ (← ⟦book.len()⟧)) ⌝ }
+    ensures { λ r. ⌜ (r ≡ false → By-turns (cell (now (book .entry)) t natives-at) → overdone-in (now (book .entry)) t ≡ false) ⌝ }
+{
+    let row = t as usize * WIDTH;
+    let items = book[row + ITEMS];
+    let frames = book[row + FRAMES];
+    (DEEPEST < greater(items, frames))
+        | (std::num::wrapping_add_u64(frames, frames) < items)
+        | (MOST_LINES < book[row + MONITORS])
+}
+
+// Refusal 8. Nothing ends the first look early: the common book, which lines have left, has no thread in doubt.
+pub fn unfit(book: &[u64]) -> bool
+    ensures { λ r. ⌜ r ≡ unfit (now (book .entry)) ⌝ }
+{
+    if book.len() < WHOLE {
+        return true;
+    }
+    let mut doubt = MOST_LINES < book[LINES];
+    let mut marks = 0;
+    let mut t = 1;
+    while t <= THREADS {
+        doubt = doubt | in_doubt(book, t);
+        marks = marks | book[t as usize * WIDTH + NATIVES];
+        t += 1;
+    }
+    if doubt | (marks & AT_CALLS != 0) {
+        return some_overdone(book);
+    }
+    false
 }
 
 // A start: all numbers are 0.

@@ -25,9 +25,9 @@ use Rattle.history.proofs.Accepting.{passed}
 use Rattle.history.proofs.Threads.{own-items, other-items}
 use Rattle.history.proofs.Stacks.{monitors-in-lines}
 use Rattle.book.specs.Layout.{whole, cell, Stands}
-use Rattle.book.specs.Threads.{Thread, thread-in, items-in, lines-in, closed-in, no-function, item-is}
+use Rattle.book.specs.Threads.{Thread, thread-in, items-in, lines-in, closed-in, no-function}
 use Rattle.book.specs.Moves.{line-counted, closed-set}
-use Rattle.book.specs.Changes.{stay, Kept, Changes, Traced}
+use Rattle.book.specs.Changes.{pushed-item, stay, Kept, Changes, Traced}
 use Rattle.book.proofs.Changing.{item-pushed-changes, pushed-native, pushed-call, item-popped-changes}
 use Rattle.book.proofs.Tracing.{line-counted-traces, closed-set-traces}
 use Rattle.tables.specs.Tables.{Tables, handles-in}
@@ -214,14 +214,14 @@ module _ (b : List ℕ) (past : History) (long : whole ≤ length b) (opened : I
   unfolding items-moved
   items-acted room (N t env hs) fine fits =
       let e = N t env hs in
-      moved e t _ (λ is. item-is no-function 0 ∷ is) (λ s. refl) (ap (λ (i : Item). i ∷ items t past) (pushed-native 0))
+      moved e t _ (λ is. pushed-item no-function 0 ∷ is) (λ s. refl) (ap (λ (i : Item). i ∷ items t past) (pushed-native 0))
       (item-pushed-changes b t no-function 0 (row-stands e t (eqb-self t) fine) (some-room t (fits .items-few)))
   items-acted room (X t r) fine fits =
       moved (X t r) t _ tail (λ s. refl) refl (item-popped-changes b t (row-stands (X t r) t (eqb-self t) fine))
   items-acted room (C t env f a d c n) fine fits =
       let e = C t env f a d c n in
       let k = asks t env f a d c n fine in
-      moved e t _ (λ is. item-is f (above-zero n) ∷ is) (λ s. refl)
+      moved e t _ (λ is. pushed-item f (above-zero n) ∷ is) (λ s. refl)
       (ap (λ (i : Item). i ∷ items t past) (pushed-call f (above-zero n) (omega (arith, k .function-from)) (omega (arith, k .function-to)) (omega (arith, k .size-to))))
       (item-pushed-changes b t f (above-zero n) (row-stands e t (eqb-self t) fine) (some-room t (fits .items-few)))
   items-acted room (R t f r p) fine fits =

@@ -1,20 +1,16 @@
 -- A start ties the tables to no line at all; and tied tables have a fit book. Assumes nothing.
-use Prim.Native.Nat.{ℕ, _≤_, _<_}
+use Prim.Native.Nat.{ℕ, _≤_}
 use mathlib.Core.Path.{_≡_, refl, ap, _∙_}
-use mathlib.Core.Bool.{false, _&&_, _||_, and-false}
+use mathlib.Core.Bool.{false}
 use mathlib.Core.List.{[]}
-use native.Mathlib.Decide.{decLt}
 use native.Mathlib.Omega.{arith}
-use lib.Dec.{eqb, ltb}
 use lib.ListN.{length}
-use borrow.Author.Tests.{le-ltb, ne-eqb}
 use Rattle.history.specs.Past.{History, through, closed}
 use Rattle.history.specs.Items.{items}
 use Rattle.history.specs.Frames.{frames, depth}
 use Rattle.history.specs.Capacities.{capacities}
 use Rattle.history.specs.Thread.{pending, monitors, env-of}
-use Rattle.history.specs.Acceptance.{Room, deepest}
-use Rattle.history.specs.Replies.{most-lines}
+use Rattle.history.specs.Acceptance.{Room}
 use Rattle.history.specs.Accepted.{Accepted}
 use Rattle.history.proofs.Stacks.{natives-in-frames, framed-items, monitors-in-lines, at-most-a-million}
 use Rattle.rows.specs.Table.{room}
@@ -22,11 +18,11 @@ use Rattle.rows.specs.References.{references}
 use Rattle.rows.specs.Pins.{pins}
 use Rattle.book.specs.Layout.{whole}
 use Rattle.book.specs.Threads.{Thread, thread-in, items-in, natives}
-use Rattle.book.specs.Unfit.{overdone, overdoes, unfit}
+use Rattle.book.specs.Unfit.{overdoes, unfit}
 use Rattle.book.specs.Changes.{blank}
 use Rattle.book.proofs.Changing.{frames-within, items-within}
 use Rattle.book.proofs.Tracing.{cleared-blank, cleared-long}
-use Rattle.book.proofs.Fitness.{stays-fit}
+use Rattle.book.proofs.Fitness.{not-overdone, stays-fit}
 use Rattle.tables.specs.Tables.{Tables, reference-of, pin-row-of}
 use Rattle.tables.specs.Stepping.{start-of}
 use Rattle.demands.specs.PastRows.{reference-rows, pin-rows}
@@ -58,15 +54,6 @@ unfolding start-of items through
 items-started T = let clear = cleared-blank (T .book) in record { open-items = clear .items; counts = clear .kept }
 
 -- ---- fitness
-
-not-overdone : (items frames natives monitors : ℕ) → items ≤ deepest → frames ≤ deepest → natives ≤ frames → (0 < items → 0 < frames) → monitors ≤ most-lines
-    → overdone items frames natives monitors ≡ false
-not-overdone items frames natives monitors i f n framed m =
-    rw (le-ltb deepest items i, le-ltb deepest frames f, le-ltb frames natives n, le-ltb most-lines monitors m) (go (decLt 0 items))
-  where
-    go : Dec (0 < items) → ((ltb 0 items && eqb frames 0) || false) ≡ false
-    go (yes l) = rw (ne-eqb frames 0 (λ z. omega (arith, framed l, z)), and-false (ltb 0 items))
-    go (no l) = rw (le-ltb 0 items (omega arith))
 
 pub fit : (room : Room) (T : Tables) (past : History) → Tied room T past → Items-tied (T .book) past → Accepted room past → unfit (T .book) ≡ false
 fit room T past tied opened so-far =

@@ -25,11 +25,11 @@ two : (n : ℕ) → n % 2 < 2
 two n = omega arith
 
 -- the lowest digit, and the others
-bit-zero : (w : ℕ) → bit w 0 ≡ eqb (w % 2) 1
+pub bit-zero : (w : ℕ) → bit w 0 ≡ eqb (w % 2) 1
 unfolding bit
 bit-zero w = ap (λ (n : ℕ). eqb (n % 2) 1) (div-one w)
 
-bit-suc : (w i : ℕ) → bit w (suc i) ≡ bit (w / 2) i
+pub bit-suc : (w i : ℕ) → bit w (suc i) ≡ bit (w / 2) i
 unfolding bit
 bit-suc w i = ap (λ (n : ℕ). eqb (n % 2) 1) (ap (λ (k : ℕ). w / 2 ^ k) (sym (one-add i)) ∙ sym (shr-shr w 1 i))
 

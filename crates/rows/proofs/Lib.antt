@@ -1,7 +1,7 @@
--- `ViewLaws` and `ExactLaws` have what a caller cites; the others serve the proofs of this crate.
-mod ScanLaws
-mod BitLaws
-mod MarkLaws
+-- `ViewLaws` and `ExactLaws` have what a caller cites; `ScanLaws`, `BitLaws` and `MarkLaws` what any word of marks obeys; the others serve the proofs of this crate.
+pub mod ScanLaws
+pub mod BitLaws
+pub mod MarkLaws
 mod CellLaws
 mod TableLaws
 mod SlotLaws

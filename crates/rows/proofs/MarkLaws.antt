@@ -146,18 +146,18 @@ and-false : (a : Bool) → (a && false) ≡ false
 and-false true = refl
 and-false false = refl
 
-set-same : (w j : ℕ) → bit (bitOr w (2 ^ j)) j ≡ true
+pub set-same : (w j : ℕ) → bit (bitOr w (2 ^ j)) j ≡ true
 set-same w j = bit-or w (2 ^ j) j ∙ ap (λ (x : Bool). bit w j || x) (bit-pow j j ∙ eq-eqb j j refl) ∙ or-true (bit w j)
 
-set-other : (w j i : ℕ) → (i ≡ j → ⊥) → bit (bitOr w (2 ^ j)) i ≡ bit w i
+pub set-other : (w j i : ℕ) → (i ≡ j → ⊥) → bit (bitOr w (2 ^ j)) i ≡ bit w i
 set-other w j i n = bit-or w (2 ^ j) i ∙ ap (λ (x : Bool). bit w i || x) (bit-pow j i ∙ ne-eqb i j n) ∙ or-false (bit w i)
 
-clear-same : (w j : ℕ) → j < word → bit (bitAnd w (2 ^ word - 1 - 2 ^ j)) j ≡ false
+pub clear-same : (w j : ℕ) → j < word → bit (bitAnd w (2 ^ word - 1 - 2 ^ j)) j ≡ false
 clear-same w j h =
     bit-and w (2 ^ word - 1 - 2 ^ j) j
     ∙ ap (λ (x : Bool). bit w j && x) (bit-not word (2 ^ j) j (pow-lt h) h ∙ ap not (bit-pow j j ∙ eq-eqb j j refl)) ∙ and-false (bit w j)
 
-clear-other : (w j i : ℕ) → j < word → i < word → (i ≡ j → ⊥) → bit (bitAnd w (2 ^ word - 1 - 2 ^ j)) i ≡ bit w i
+pub clear-other : (w j i : ℕ) → j < word → i < word → (i ≡ j → ⊥) → bit (bitAnd w (2 ^ word - 1 - 2 ^ j)) i ≡ bit w i
 clear-other w j i h k n =
     bit-and w (2 ^ word - 1 - 2 ^ j) i
     ∙ ap (λ (x : Bool). bit w i && x) (bit-not word (2 ^ j) i (pow-lt h) k ∙ ap not (bit-pow j i ∙ ne-eqb i j n)) ∙ and-true (bit w i)

@@ -11,7 +11,7 @@ use Rattle.words.specs.Choice.{if_then_else_, one}
 use Rattle.rows.specs.Scan.{how-many, lowest}
 
 -- one more number at the top
-how-many-suc : (p : ℕ → Bool) (n : ℕ) → how-many p (suc n) ≡ how-many p n + one (p n)
+pub how-many-suc : (p : ℕ → Bool) (n : ℕ) → how-many p (suc n) ≡ how-many p n + one (p n)
 unfolding how-many
 how-many-suc p zero = omega arith
 how-many-suc p (suc n) = omega (arith, how-many-suc (λ k. p (suc k)) n)
@@ -34,7 +34,7 @@ one-le : (b : Bool) → one b ≤ 1
 one-le true = omega arith
 one-le false = omega arith
 
-how-many-le : (p : ℕ → Bool) (n : ℕ) → how-many p n ≤ n
+pub how-many-le : (p : ℕ → Bool) (n : ℕ) → how-many p n ≤ n
 unfolding how-many
 how-many-le p zero = zero-le
 how-many-le p (suc n) = omega (arith, how-many-le (λ k. p (suc k)) n, one-le (p zero))

@@ -290,16 +290,11 @@ fn small_thread(random: &mut Random, row: &mut [Word], number: u32, is_open: boo
         0 => 0,
         _ => random.pick(&[0, 1, 1, 2, 2, 3, 4, 8, 63, 64, 64]),
     };
-    row[NATIVES] = match random.below(3) {
-        0 => row[FRAMES],
-        1 => row[FRAMES].min(row[ITEMS].div_ceil(2)),
-        _ => random.below(row[FRAMES] as usize + 1) as Word,
-    };
     for index in 0..row[FRAMES] as usize {
         row[CAPACITIES + index] = random.pick(&[0, 1, 2, 3, 16, 16, HIGH, HIGH + 1, Word::MAX]);
         row[PUSHED + index] = random.pick(&[0, 0, 0, 1, 1, 2, HIGH, Word::MAX]);
     }
-    for index in 0..row[ITEMS] as usize {
+    for index in 0..MOST_ITEMS {
         row[FUNCTIONS + index] = item_function(random);
         row[ASKED + index] = random.pick(&[
             0,
@@ -314,9 +309,28 @@ fn small_thread(random: &mut Random, row: &mut [Word], number: u32, is_open: boo
             Word::MAX,
         ]);
     }
+    let natives = random.below(row[FRAMES].min(row[ITEMS]) as usize + 1);
+    row[NATIVES] = native_marks(random, row[ITEMS] as usize, natives);
 }
 
-/// A native, an open call, or what is neither from a start.
+/// Marks for so many natives among so many open items; above the items anything may stand.
+fn native_marks(random: &mut Random, items: usize, mut natives: usize) -> Word {
+    let any = random.number();
+    let mut marks = random.pick(&[0, any, Word::MAX]);
+    for index in 0..items {
+        let mark = 1 << index;
+        let is_native = random.below(items - index) < natives;
+        natives -= usize::from(is_native);
+        marks = if is_native {
+            marks | mark
+        } else {
+            marks & !mark
+        };
+    }
+    marks
+}
+
+/// The function of an open call, or what is none from a start.
 fn item_function(random: &mut Random) -> Word {
     let called = match random.below(3) {
         0 => random.between(FIRST_FUNCTION, LAST_FUNCTION),
@@ -325,13 +339,12 @@ fn item_function(random: &mut Random) -> Word {
     };
     match random.below(20) {
         0 => HIGH * random.pick(&[1, 7, HIGH - 1]) + Word::from(called),
-        1 => random.pick(&[1, 3, 233, HIGH, HIGH - 1, Word::MAX]),
-        2..=9 => 0,
+        1 => random.pick(&[0, 1, 3, 233, HIGH, HIGH - 1, Word::MAX]),
         _ => called.into(),
     }
 }
 
-/// Gives one thread, or the trace, a count that makes the book unfit.
+/// Gives one thread, or the trace, what makes the book unfit.
 fn spoil_book(random: &mut Random, book: &mut [Word]) {
     let row = random.between(1, THREADS) as usize * WIDTH;
     let most = Word::from(MOST_LINES);
@@ -341,7 +354,7 @@ fn spoil_book(random: &mut Random, book: &mut [Word]) {
             book[row + ITEMS] = random.pick(&[MOST_ITEMS as Word + 1, HIGH, Word::MAX]);
         }
         1 => book[row + FRAMES] = random.pick(&[65, HIGH, HIGH + 1, Word::MAX]),
-        2 => book[row + NATIVES] = book[row + FRAMES] + random.pick(&[1, HIGH]),
+        2 => too_many_natives(random, &mut book[row..row + WIDTH]),
         3 => {
             book[row + FRAMES] = 0;
             book[row + NATIVES] = 0;
@@ -350,6 +363,16 @@ fn spoil_book(random: &mut Random, book: &mut [Word]) {
         4 => book[row + MONITORS] = random.pick(&[most + 1, HIGH, Word::MAX]),
         _ => book[LINES] = random.pick(&[most + 1, HIGH, Word::MAX]),
     }
+}
+
+/// One native more than frames, among calls.
+fn too_many_natives(random: &mut Random, row: &mut [Word]) {
+    row[FRAMES] = row[FRAMES].clamp(1, MOST_ITEMS as Word - 1);
+    let natives = row[FRAMES] as usize + 1;
+    let calls = random.pick(&[0, MOST_ITEMS - natives]);
+    let items = natives + random.below(calls + 1);
+    row[ITEMS] = items as Word;
+    row[NATIVES] = native_marks(random, items, natives);
 }
 
 /// Changes a number of the trace or of a thread, the columns with a meaning of their own more often.

@@ -13,6 +13,7 @@ pub const FRAMES: usize = 5;
 pub const CAPACITIES: usize = 6;
 pub const PUSHED: usize = CAPACITIES + MOST_FRAMES;
 pub const ITEMS: usize = PUSHED + MOST_FRAMES;
+/// A mark for each open item that is a native, the lowest item's the lowest bit.
 pub const NATIVES: usize = ITEMS + 1;
 pub const FUNCTIONS: usize = NATIVES + 1;
 pub const ASKED: usize = FUNCTIONS + MOST_ITEMS;
@@ -21,8 +22,8 @@ pub const ASKED: usize = FUNCTIONS + MOST_ITEMS;
 pub const WIDTH: usize = ASKED + MOST_ITEMS;
 pub const WHOLE: usize = (1 + THREADS as usize) * WIDTH;
 
-/// What stands for a native among the functions of open items.
-pub const NATIVE: Word = 0;
+/// What is written as the function of a native.
+pub const NO_FUNCTION: Word = 0;
 
 /// The top of a thread's open items.
 #[derive(Clone, Copy, Debug, PartialEq, Eq)]
@@ -67,7 +68,7 @@ impl<'a> Book<'a> {
         !self.faults().is_empty()
     }
 
-    /// All that makes the book unfit, by the counts that stand in it; row 0 has none but its lines.
+    /// All that makes the book unfit; row 0 has none but its lines.
     pub fn faults(&self) -> Vec<Fault> {
         if self.0.len() < WHOLE {
             return vec![Fault::Short];
@@ -85,7 +86,7 @@ impl<'a> Book<'a> {
             if frames > MOST_FRAMES as Word {
                 faults.push(Fault::Frames);
             }
-            if self.number(thread, NATIVES) > frames {
+            if self.natives(thread) > frames {
                 faults.push(Fault::Natives);
             }
             if items > 0 && frames == 0 {
@@ -200,38 +201,49 @@ impl<'a> Book<'a> {
         self.number(thread, ITEMS) as usize
     }
 
-    /// The number 0 is a native; of any other, and of what was asked, the lowest 32 bits count.
+    /// Its mark says whether an item is a native, whatever its function.
+    fn is_native(&self, thread: u32, index: usize) -> bool {
+        self.number(thread, NATIVES) >> index & 1 == 1
+    }
+
+    /// Of a call's function, and of what was asked, the lowest 32 bits count.
     pub fn top(&self, thread: u32) -> Top {
         let items = self.items(thread);
         if items == 0 {
             return Top::Nothing;
         }
-        let function = self.number(thread, FUNCTIONS + items - 1);
-        let asked = self.number(thread, ASKED + items - 1);
-        if function == NATIVE {
+        if self.is_native(thread, items - 1) {
             return Top::Native;
         }
+        let function = self.number(thread, FUNCTIONS + items - 1);
+        let asked = self.number(thread, ASKED + items - 1);
         Top::Call {
             function: function as u32,
             asked: asked as u32,
         }
     }
 
+    /// The natives among the open items, of which there are no more than a row has room for.
+    fn natives(&self, thread: u32) -> Word {
+        let items = self.number(thread, ITEMS).min(MOST_ITEMS as Word) as usize;
+        let natives = (0..items).filter(|&index| self.is_native(thread, index));
+        natives.count() as Word
+    }
+
     pub fn push_native(&mut self, thread: u32) {
-        self.push_item(thread, NATIVE, 0);
-        self.put(thread, NATIVES, self.number(thread, NATIVES) + 1);
+        let mark = 1 << self.items(thread);
+        self.put(thread, NATIVES, self.number(thread, NATIVES) | mark);
+        self.push_item(thread, NO_FUNCTION, 0);
     }
 
     pub fn push_call(&mut self, thread: u32, function: u32, asked: u32) {
+        let mark = 1 << self.items(thread);
+        self.put(thread, NATIVES, self.number(thread, NATIVES) & !mark);
         self.push_item(thread, function.into(), asked.into());
     }
 
-    /// The top item ends; its two numbers stay. A foreign book may count too few natives.
+    /// The top item ends; its mark and its two numbers stay.
     pub fn pop_item(&mut self, thread: u32) {
-        if self.top(thread) == Top::Native {
-            let natives = self.number(thread, NATIVES);
-            self.put(thread, NATIVES, natives.saturating_sub(1));
-        }
         self.put(thread, ITEMS, self.number(thread, ITEMS) - 1);
     }
 

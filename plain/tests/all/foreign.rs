@@ -76,12 +76,19 @@ fn over_64_frames_are_8() {
 fn more_natives_than_frames_are_8() {
     for thread in [2, 16] {
         let mut lent = in_native();
-        *lent.at(thread, NATIVES) = 1;
-        assert!(is_unfit(&mut lent));
-        *lent.at(thread, FRAMES) = 1;
-        assert!(!is_unfit(&mut lent));
-        *lent.at(thread, NATIVES) = 1 << 32;
-        assert!(is_unfit(&mut lent));
+        *lent.at(thread, ITEMS) = 64;
+        for frames in 1..=64 {
+            *lent.at(thread, FRAMES) = frames;
+            let few = u64::MAX >> (64 - frames);
+            for marks in [0, few, few << (64 - frames), few.reverse_bits()] {
+                *lent.at(thread, NATIVES) = marks;
+                assert!(!is_unfit(&mut lent));
+            }
+            for index in frames..64 {
+                *lent.at(thread, NATIVES) = few | 1 << index;
+                assert!(is_unfit(&mut lent));
+            }
+        }
     }
 }
 
@@ -412,6 +419,7 @@ fn a_popped_cell_keeps_its_number_and_is_never_read() {
     for column in (FUNCTIONS + 1..ASKED).chain(ASKED + 1..WIDTH) {
         *lent.at(1, column) = 6;
     }
+    *lent.at(1, NATIVES) = u64::MAX;
     assert_eq!(lent.accepts("C 1 100 20 0 0 0 0"), ["2 11 0 0"]);
     lent.accepts("R 1 20 0 0");
     lent.accepts("C 1 100 19 0 0 0 3");
@@ -423,6 +431,7 @@ fn a_popped_cell_keeps_its_number_and_is_never_read() {
     assert_eq!(*lent.at(1, CAPACITIES + 1), 3);
     assert_eq!(*lent.at(1, FUNCTIONS + 1), 19);
     assert_eq!(*lent.at(1, ASKED + 1), 3);
+    assert_eq!(*lent.at(1, NATIVES), u64::MAX - 2);
     assert_eq!(lent.refuses("R 1 6 0 0"), 4);
 }
 
@@ -462,15 +471,18 @@ fn what_was_asked_is_read_through_32_bits() {
 }
 
 #[test]
-fn a_function_is_read_through_32_bits_but_a_native_is_0_alone() {
+fn a_function_is_read_through_32_bits_and_a_native_by_its_mark() {
     let mut lent = in_call(6);
     *lent.at(1, FUNCTIONS + 1) = (7 << 32) + 6;
     lent.accepts("R 1 6 0 0");
-    let mut lent = in_native();
-    *lent.at(1, FUNCTIONS) = 1 << 32;
+    *lent.at(1, FUNCTIONS) = 6;
+    lent.clone().accepts("X 1 0");
+    *lent.at(1, FUNCTIONS) = NO_FUNCTION;
+    *lent.at(1, NATIVES) = !1;
     assert_eq!(lent.refuses("X 1 0"), 4);
     assert_eq!(lent.refuses("C 1 100 4 0 0 0 0"), 4);
     lent.accepts("N 1 100");
+    assert_eq!(*lent.at(1, NATIVES), !1);
 }
 
 #[test]
@@ -563,22 +575,33 @@ fn x_over_pushed_frames_alone_ends_them_all() {
 }
 
 #[test]
-fn natives_are_counted_as_they_stand() {
+fn two_natives_in_one_frame_are_8_before_one_of_them_ends() {
     let mut lent = in_native();
-    *lent.at(1, NATIVES) = 0;
-    lent.clone().accepts("X 1 0");
-    lent.accepts("C 1 100 4 0 0 0 0");
+    *lent.at(1, ITEMS) = 2;
+    *lent.at(1, NATIVES) = 3;
+    assert_eq!(lent.refuses("X 1 0"), 8);
+    *lent.at(1, FRAMES) = 2;
+    lent.accepts("X 1 0");
+    lent.accepts("X 1 0");
+}
+
+#[test]
+fn natives_above_the_open_items_are_none() {
+    let mut lent = in_native();
+    lent.accepts("X 1 0");
+    *lent.at(1, FRAMES) = 1;
+    *lent.at(1, NATIVES) = u64::MAX;
+    lent.clone().accepts("Z");
     lent.accepts("N 1 100");
-    assert_eq!(*lent.at(1, NATIVES), 1);
     lent.accepts("X 1 0");
-    lent.accepts("R 1 4 0 0");
-    lent.accepts("X 1 0");
-    assert_eq!(*lent.at(1, NATIVES), 0);
+    lent.accepts("Z");
 }
 
 #[test]
 fn a_call_may_be_item_65_in_a_foreign_book() {
     let mut lent = in_native();
+    *lent.at(1, NATIVES) = 3 << 62;
+    *lent.at(1, FRAMES) = 2;
     *lent.at(1, ITEMS) = 64;
     assert_eq!(lent.refuses("C 1 100 4 0 0 0 0"), 7);
     lent.clone().accepts("X 1 0");

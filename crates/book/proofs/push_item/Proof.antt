@@ -16,7 +16,6 @@ push-item-spec =
     (λ c κs. search needs)
     (λ c. search needs)
     (λ c. search needs)
-    (λ c. search needs)
     (λ c κs. search needs)
     (λ c. search needs)
     (λ c. search needs)
@@ -29,8 +28,8 @@ push-item-spec =
     (λ c. item-room _ _ _ _ _ _ _ _ _ _ _
     (c .before .before .before .before .before .before .before .before .before .before .before .before .before .before .before .before .before .before .before .before .items-of .ensures .0)
     (c .before .before .before .before .before .before .before .before .before .before .before .before .before .before .before .before .before .before .before .if1 .left)
-    (c .before .before .before .before .before .before .before .before .before .before .before .before .before .before .before .before .before .natives-of .ensures .0)
-    (c .before .before .before .before .before .before .before .before .before .before .before .before .before .before .before .before .one-if .ensures .0)
+    (c .before .before .before .before .before .before .before .before .before .before .before .before .before .before .before .before .before .number .ensures)
+    (c .before .before .before .before .before .before .before .before .before .before .before .before .before .before .before .before .with-mark .ensures)
     (c .before .before .before .before .before .before .before .before .before .before .before .before .before .before .store .ensures)
     (c .before .before .before .before .before .before .before .before .before .before .store2 .ensures)
     (c .before .before .before .before .before .before .store3 .ensures)

@@ -1,6 +1,5 @@
 -- `book::row_overdone` meets its contract. Assumes nothing.
-use Rattle.book.specs.Unfit.{overdone-in}
-use Rattle.book.specs.Layout.{cell}
+use Rattle.book.proofs.Steps.{row-overdone}
 use borrow.Author.Needs.{needs}
 use Rattle.book.proofs.row_overdone.Statement.{statement}
 use Rattle.book.proofs.row_overdone.Tie as tie
@@ -19,8 +18,11 @@ row-overdone-spec =
     (λ c. search needs)
     (λ c. search needs)
     (λ c. search needs)
+    (λ c κs. search needs)
+    (λ c. search needs)
+    (λ c κs. search needs)
     (λ c. search needs)
     (λ c. search needs)
     (λ c. search needs)
     (λ c κs. search needs)
-    (λ c. unfold overdone-in cell in search needs))
+    (λ c. search row-overdone))

@@ -10,6 +10,9 @@ top-item-spec =
     (tie.spec
     (λ c κs. search needs)
     (λ c. search item-none)
+    (λ c κs. search needs)
+    (λ c. search needs)
+    (λ c κs. search needs)
     (λ c. search needs)
     (λ c. search needs)
     (λ c. search needs)
