@@ -1,102 +1,197 @@
--- One part of the input after the other is judged as the run of the whole input says. Assumes nothing.
-use Prim.Native.Nat.{ℕ, _+_, _*_}
-use mathlib.Core.Path.{_≡_, refl, sym, ap, _∙_}
-use mathlib.Core.Bool.{Bool, false, false≢true}
-use mathlib.Core.List.{List, [], _++_, append-assoc}
-use lib.ListN.{length, drop, replicate, length-append, length-replicate}
-use Rattle.rows.specs.References.{references}
-use Rattle.rows.specs.Pins.{pins}
-use Rattle.history.specs.Report.{lines-of}
+-- One part of the input after the other is judged as the run of the whole input says, and what is printed of it is the report's. Assumes nothing.
+use Prim.Native.Nat.{ℕ, _+_, _≤_}
+use mathlib.Core.Path.{_≡_, refl, sym, ap, subst, _∙_}
+use mathlib.Core.Bool.{Bool, true, false, false≢true}
+use mathlib.Core.List.{List, [], _∷_, _++_, append-assoc, append-nil}
+use native.Mathlib.Omega.{arith}
+use lib.IntN.{pos}
+use lib.ListN.{length, take, drop, length-append}
+use lib.Seq.{take-at, drop-at}
+use Rattle.history.specs.Replies.{Reply, accepted, not-accepted}
+use Rattle.history.specs.Report.{lines-of, report, end-line}
+use Rattle.history.specs.Runs.{program-room}
 use Rattle.history.specs.declared.Finding.{Finding}
-use Rattle.book.specs.Layout.{whole}
-use Rattle.tables.specs.Tables.{Tables, tables}
-use Rattle.tables.specs.Stepping.{start-of}
-use Rattle.demands.specs.Calls.{ran, run-in}
-use Rattle.demands.proofs.Foreign.{start-is}
+use Rattle.book.specs.Threads.{lines-in, closed-in}
+use Rattle.tables.specs.Tables.{Tables}
+use Rattle.tables.specs.Stepping.{step-of, start-of}
+use Rattle.demands.specs.Calls.{Ran, ran, go-on-in, run-in, printed}
 use Rattle.run.specs.declared.Passed.{Passed}
 use Rattle.run.specs.declared.Stop.{Stop}
 use Rattle.run.specs.declared.Stop.the-variants as Stop
+use Rattle.run.specs.Running.{all-shown}
 use Rattle.run.specs.Passing.{from-stop}
+use Rattle.run.proofs.Going.{all-shown-append}
 use Rattle.run.proofs.Passing.{Learnt}
 use Rattle.pieces.specs.Pieces.{Behind}
-use Rattle.program.specs.Judged.{reference-rows, pin-rows, marks-for, lent, Judged, All-judged}
+use Rattle.program.specs.declared.streams.Streams.{Streams}
+use Rattle.program.specs.Printing.{Reports, Due, nothing-yet, with-read, with-printed}
+use Rattle.program.proofs.Lent.{lent, report-is}
 
--- ---- the start, which clears whatever the lent tables hold
+-- what was read is judged but for the bytes that are unread: the run of the input goes on from these tables, and what it found so far was printed
+pub record Judged (T : Tables) (s : Streams) (findings : ℕ) (unread : List ℕ) : Type 0 where
+  pub input : List ℕ
+  pub found : List Finding
+  pub read : length input ≡ s .read
+  pub count : length found ≡ findings
+  pub printed : length (all-shown found) ≡ s .printed
+  pub same : (next : List ℕ) → Behind (s .ended) next → run-in (start-of lent) [] (lines-of (input ++ next)) ≡ run-in T found (lines-of (unread ++ next))
 
-zeros : (n : ℕ) → n ≡ length (replicate {A = ℕ} n 0)
-zeros n = sym (length-replicate {A = ℕ} n 0)
+-- the run of what was read ends so, whatever is read behind it
+pub record All-judged (T : Tables) (s : Streams) (findings refusal : ℕ) : Type 0 where
+  pub input : List ℕ
+  pub found : List Finding
+  pub read : length input ≡ s .read
+  pub count : length found ≡ findings
+  pub printed : length (all-shown found) ≡ s .printed
+  pub same : (next : List ℕ) → Behind (s .ended) next → run-in (start-of lent) [] (lines-of (input ++ next)) ≡ ran T found refusal
 
-pub start-lent : (rs ms ps ns b : List ℕ) → length rs ≡ reference-rows * references .stride → length ms ≡ marks-for reference-rows → length ps ≡ pin-rows * pins .stride
-    → length ns ≡ marks-for pin-rows → length b ≡ whole → start-of (tables rs ms ps ns b) ≡ start-of lent
-unfolding lent
-start-lent rs ms ps ns b r m p n w =
-    start-is (tables rs ms ps ns b) lent
-    (record {
-      reference-rows = r ∙ zeros (reference-rows * references .stride);
-      reference-marks = m ∙ zeros (marks-for reference-rows);
-      pin-rows = p ∙ zeros (pin-rows * pins .stride);
-      pin-marks = n ∙ zeros (marks-for pin-rows);
-      books = w ∙ zeros whole;
-    })
-
-pub judged-start : {S : Tables} → S ≡ start-of lent → Judged S 0 false []
-judged-start e = record { input = []; found = []; count = refl; same = λ next _. ap (λ (X : Tables). run-in X [] (lines-of next)) (sym e) }
+pub judged-start : {S : Tables} → S ≡ start-of lent → Judged S nothing-yet 0 []
+judged-start e = record { input = []; found = []; read = refl; count = refl; printed = refl; same = λ next _. ap (λ (X : Tables). run-in X [] (lines-of next)) (sym e) }
 
 -- ---- more is read, or there is no more
 
-pub judged-more : {T : Tables} {n : ℕ} {unread : List ℕ} (ended : Bool) (more : List ℕ) → Judged T n false unread → Judged T n ended (unread ++ more)
-judged-more {T} {n} {unread} ended more j =
+pub judged-more : {T : Tables} {s : Streams} {n : ℕ} {unread : List ℕ} (more : List ℕ) → s .ended ≡ false → Judged T s n unread
+    → Judged T (with-read s (pos (length more))) n (unread ++ more)
+judged-more {T} {s} {n} {unread} more before-end j =
     record {
       input = j .input ++ more;
       found = j .found;
+      read = length-append (j .input) more ∙ ap (λ (k : ℕ). k + length more) (j .read);
       count = j .count;
+      printed = j .printed;
       same = λ next behind.
-          ap (λ (s : List ℕ). run-in (start-of lent) [] (lines-of s)) (append-assoc (j .input) more next)
-          ∙ j .same (more ++ next) (λ h. absurd (false≢true h))
-          ∙ ap (λ (s : List ℕ). run-in T (j .found) (lines-of s)) (sym (append-assoc unread more next));
+          ap (λ (b : List ℕ). run-in (start-of lent) [] (lines-of b)) (append-assoc (j .input) more next)
+          ∙ j .same (more ++ next) (λ h. absurd (false≢true (sym before-end ∙ h)))
+          ∙ ap (λ (b : List ℕ). run-in T (j .found) (lines-of b)) (sym (append-assoc unread more next));
     }
+
+-- ---- what a run has found stands first in what it finds
+
+record Begins (fs all : List Finding) : Type 0 where
+  rest : List Finding
+  is : all ≡ fs ++ rest
+
+begins-run : (lines : List (List ℕ)) (T : Tables) (fs : List Finding) → Begins fs (run-in T fs lines .found)
+unfolding run-in
+begins-run [] T fs = record { rest = []; is = sym (append-nil fs) }
+begins-run (bs ∷ lines) T fs = go (step-of T bs .reply) (λ gs. begins-run lines (step-of T bs .left) (fs ++ gs))
+  where
+    go : (r : Reply) → ((gs : List Finding) → Begins (fs ++ gs) (run-in (step-of T bs .left) (fs ++ gs) lines .found))
+        → Begins fs (go-on-in T fs r (λ gs. run-in (step-of T bs .left) (fs ++ gs) lines) .found)
+    go (not-accepted k) on = record { rest = []; is = sym (append-nil fs) }
+    go (accepted gs) on = record { rest = gs ++ on gs .rest; is = on gs .is ∙ append-assoc fs gs (on gs .rest) }
+
+begins : (stop : Stop) (T : Tables) (fs : List Finding) (unread : List ℕ) → Begins fs (from-stop stop T fs unread .found)
+begins (Stop.Refused k) T fs unread = record { rest = []; is = sym (append-nil fs) }
+begins Stop.Full T fs unread = begins-run (lines-of unread) T fs
+begins Stop.More T fs unread = begins-run (lines-of unread) T fs
+begins Stop.End T fs unread = record { rest = []; is = sym (append-nil fs) }
+
+-- the bytes between others
+between : {n : ℕ} (a b c : List ℕ) → length a ≡ n → take (length b) (drop n (a ++ (b ++ c))) ≡ b
+between {n} a b c e = ap (take (length b)) (drop-at a (b ++ c) n e) ∙ take-at b c (length b) refl
+
+-- of the findings fs, then gs, the bytes of gs come after those of fs
+shown-between : {n : ℕ} (fs gs : List Finding) (r : Ran) → length (all-shown fs) ≡ n → Begins (fs ++ gs) (r .found) → take (length (all-shown gs)) (drop n (printed r)) ≡ all-shown gs
+unfolding printed
+shown-between {n} fs gs r e b =
+    let last = end-line (closed-in (r .left .book)) (lines-in (r .left .book)) (r .refusal) (length (r .found)) in
+    let parts : all-shown (r .found) ≡ all-shown fs ++ (all-shown gs ++ all-shown (b .rest)) =
+    ap all-shown (b .is ∙ append-assoc fs gs (b .rest)) ∙ all-shown-append fs (gs ++ b .rest) ∙ ap (λ (x : List ℕ). all-shown fs ++ x) (all-shown-append gs (b .rest))
+    in
+    ap (λ (x : List ℕ). take (length (all-shown gs)) (drop n (x ++ last))) parts
+    ∙ ap (λ (x : List ℕ). take (length (all-shown gs)) (drop n x))
+    (append-assoc (all-shown fs) (all-shown gs ++ all-shown (b .rest)) last ∙ ap (λ (x : List ℕ). all-shown fs ++ x) (append-assoc (all-shown gs) (all-shown (b .rest)) last))
+    ∙ between (all-shown fs) (all-shown gs) (all-shown (b .rest) ++ last) e
 
 -- ---- the loop has passed a part of it
 
-module _ {T S : Tables} {n : ℕ} {ended : Bool} {unread out out' : List ℕ} {p : Passed} (j : Judged T n ended unread) (k : Learnt ended T unread out p S out') where
-  counted : length (j .found ++ k .found) ≡ n + p .findings
+module _ {T S : Tables} {s : Streams} {n : ℕ} {unread out out' : List ℕ} {p : Passed} (j : Judged T s n unread) (k : Learnt (s .ended) T unread out p S out') where
+  all-found : List Finding
+  all-found = j .found ++ k .found
+
+  counted : length all-found ≡ n + p .findings
+  unfolding all-found
   counted = length-append (j .found) (k .found) ∙ (λ i. j .count i + sym (k .findings) i)
 
-  run-on : (next : List ℕ) → Behind ended next
-      → run-in (start-of lent) [] (lines-of (j .input ++ next)) ≡ from-stop (p .stop) S (j .found ++ k .found) (drop (p .taken) unread ++ next)
+  shown-so-far : length (all-shown all-found) ≡ s .printed + p .put
+  unfolding all-found
+  shown-so-far = ap length (all-shown-append (j .found) (k .found)) ∙ length-append (all-shown (j .found)) (all-shown (k .found)) ∙ (λ i. j .printed i + sym (k .bytes) i)
+
+  run-on : (next : List ℕ) → Behind (s .ended) next
+      → run-in (start-of lent) [] (lines-of (j .input ++ next)) ≡ from-stop (p .stop) S all-found (drop (p .taken) unread ++ next)
+  unfolding all-found
   run-on next behind = j .same next behind ∙ k .passes .same (j .found) next behind
 
-  goes-on : (stop : Stop) → p .stop ≡ stop
-      → ((fs : List Finding) (s : List ℕ) → from-stop stop S fs s ≡ run-in S fs (lines-of s)) → Judged S (n + p .findings) ended (drop (p .taken) unread)
+  -- what it has put comes next
+  pub due : Due s (take (p .put) out')
+  unfolding all-found Due
+  due =
+      record {
+        input = j .input;
+        read = j .read;
+        says = λ next behind.
+            subst (λ (b : List ℕ). take (length b) (drop (s .printed) (report program-room (j .input ++ next))) ≡ b) (sym (k .front))
+            (ap (λ (b : List ℕ). take (length (all-shown (k .found))) (drop (s .printed) b)) (report-is (j .input ++ next) ∙ ap printed (run-on next behind))
+            ∙ shown-between (j .found) (k .found) (from-stop (p .stop) S all-found (drop (p .taken) unread ++ next)) (j .printed)
+            (begins (p .stop) S all-found (drop (p .taken) unread ++ next)));
+      }
+
+  goes-on : (stop : Stop) → p .stop ≡ stop → ((fs : List Finding) (b : List ℕ) → from-stop stop S fs b ≡ run-in S fs (lines-of b))
+      → Judged S (with-printed s (p .put) true) (n + p .findings) (drop (p .taken) unread)
   goes-on stop q on =
       record {
         input = j .input;
-        found = j .found ++ k .found;
+        found = all-found;
+        read = j .read;
         count = counted;
+        printed = shown-so-far;
         same = λ next behind.
-            run-on next behind ∙ ap (λ (x : Stop). from-stop x S (j .found ++ k .found) (drop (p .taken) unread ++ next)) q
-            ∙ on (j .found ++ k .found) (drop (p .taken) unread ++ next);
+            run-on next behind ∙ ap (λ (x : Stop). from-stop x S all-found (drop (p .taken) unread ++ next)) q ∙ on all-found (drop (p .taken) unread ++ next);
       }
 
-  ends : (refusal : ℕ) (stop : Stop) → p .stop ≡ stop
-      → ((fs : List Finding) (s : List ℕ) → from-stop stop S fs s ≡ ran S fs refusal) → All-judged S (n + p .findings) refusal
+  ends : (refusal : ℕ) (stop : Stop) → p .stop ≡ stop → ((fs : List Finding) (b : List ℕ) → from-stop stop S fs b ≡ ran S fs refusal)
+      → All-judged S (with-printed s (p .put) true) (n + p .findings) refusal
   ends refusal stop q on =
       record {
-        input = j .input ++ [];
-        found = j .found ++ k .found;
+        input = j .input;
+        found = all-found;
+        read = j .read;
         count = counted;
-        same = run-on [] (λ _. refl) ∙ ap (λ (x : Stop). from-stop x S (j .found ++ k .found) (drop (p .taken) unread ++ [])) q
-            ∙ on (j .found ++ k .found) (drop (p .taken) unread ++ []);
+        printed = shown-so-far;
+        same = λ next behind.
+            run-on next behind ∙ ap (λ (x : Stop). from-stop x S all-found (drop (p .taken) unread ++ next)) q ∙ on all-found (drop (p .taken) unread ++ next);
       }
 
-  pub judged-full : p .stop ≡ Stop.Full → Judged S (n + p .findings) ended (drop (p .taken) unread)
-  judged-full q = goes-on Stop.Full q (λ fs s. refl)
+  pub judged-full : p .stop ≡ Stop.Full → Judged S (with-printed s (p .put) true) (n + p .findings) (drop (p .taken) unread)
+  judged-full q = goes-on Stop.Full q (λ fs b. refl)
 
-  pub judged-wants : p .stop ≡ Stop.More → Judged S (n + p .findings) ended (drop (p .taken) unread)
-  judged-wants q = goes-on Stop.More q (λ fs s. refl)
+  pub judged-wants : p .stop ≡ Stop.More → Judged S (with-printed s (p .put) true) (n + p .findings) (drop (p .taken) unread)
+  judged-wants q = goes-on Stop.More q (λ fs b. refl)
 
-  pub judged-refused : (refusal : ℕ) → p .stop ≡ Stop.Refused refusal → All-judged S (n + p .findings) refusal
-  judged-refused refusal q = ends refusal (Stop.Refused refusal) q (λ fs s. refl)
+  pub judged-refused : (refusal : ℕ) → p .stop ≡ Stop.Refused refusal → All-judged S (with-printed s (p .put) true) (n + p .findings) refusal
+  judged-refused refusal q = ends refusal (Stop.Refused refusal) q (λ fs b. refl)
 
-  pub judged-end : p .stop ≡ Stop.End → All-judged S (n + p .findings) 0
-  judged-end q = ends 0 Stop.End q (λ fs s. refl)
+  pub judged-end : p .stop ≡ Stop.End → All-judged S (with-printed s (p .put) true) (n + p .findings) 0
+  judged-end q = ends 0 Stop.End q (λ fs b. refl)
+
+-- ---- the last line is what is left of the report
+
+pub last-left : {T : Tables} {s : Streams} {n refusal : ℕ} → All-judged T s n refusal
+    → Reports s (λ report. (drop (s .printed) report ≡ end-line (closed-in (T .book)) (lines-in (T .book)) refusal n) × (s .printed ≤ length report))
+unfolding printed
+last-left {T} {s} {n} {refusal} a =
+    record {
+      input = a .input;
+      read = a .read;
+      says = λ next behind.
+          let whole : report program-room (a .input ++ next) ≡ all-shown (a .found) ++ end-line (closed-in (T .book)) (lines-in (T .book)) refusal n = shown-whole next behind in (
+            ap (drop (s .printed)) whole ∙ drop-at (all-shown (a .found)) (end-line (closed-in (T .book)) (lines-in (T .book)) refusal n) (s .printed) (a .printed),
+            omega (arith, ap length whole ∙ length-append (all-shown (a .found)) (end-line (closed-in (T .book)) (lines-in (T .book)) refusal n), a .printed),
+          );
+    }
+  where
+    shown-whole : (next : List ℕ) → Behind (s .ended) next → report program-room (a .input ++ next) ≡ all-shown (a .found) ++ end-line (closed-in (T .book)) (lines-in (T .book)) refusal n
+    shown-whole next behind =
+        report-is (a .input ++ next) ∙ ap printed (a .same next behind)
+        ∙ ap (λ (k : ℕ). all-shown (a .found) ++ end-line (closed-in (T .book)) (lines-in (T .book)) refusal k) (a .count)

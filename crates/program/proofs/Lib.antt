@@ -1,3 +1,7 @@
-pub mod Reading
+pub mod Answered
+pub mod Lent
 pub mod Judging
+pub mod Reading
+pub mod Turning
 pub mod Turns
+pub mod Finishing

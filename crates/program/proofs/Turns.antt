@@ -2,10 +2,11 @@
 use Prim.Native.Nat.{ℕ, zero, suc, _+_, _*_, _-_, _≤_, _<_}
 use mathlib.Core.Path.{_≡_, refl, sym, ap, subst, _∙_}
 use mathlib.Core.Bool.{Bool, true, false}
-use mathlib.Core.List.{List, _++_}
+use mathlib.Core.List.{List, [], _++_}
 use native.Mathlib.Nat.{sub-zero}
 use native.Mathlib.Omega.{arith}
 use borrow.Author.Tests.{eq-eqb}
+use lib.IntN.{pos}
 use lib.ListN.{length, take, drop, length-drop}
 use lib.Seq.{length-take-le, take-add, drop-drop, drop-at}
 use Rattle.lines.specs.Line.{longest}
@@ -17,15 +18,17 @@ use Rattle.tables.specs.Tables.{Tables}
 use Rattle.tables.specs.Stepping.{start-of}
 use Rattle.demands.specs.Calls.{Long}
 use Rattle.run.specs.declared.Passed.{Passed}
+use Rattle.run.specs.declared.Stop.the-variants as Stop
 use Rattle.run.specs.Following.{Follows}
 use Rattle.run.specs.Running.{leaves, piece-outcome}
 use Rattle.run.proofs.Following.{start-follows}
-use Rattle.run.proofs.Passing.{Learnt, learnt}
+use Rattle.run.proofs.Passing.{Learnt, learnt, few-bytes}
 use Rattle.program.specs.declared.Run.{Run}
-use Rattle.program.specs.Judged.{Judged, All-judged}
-use Rattle.program.specs.Progress.{buffer-size, lines-accepted, one-if, come-by, most-come-by}
-use Rattle.program.specs.Running.{at-failure, Unread, unread-in, Sums-fit, Passes-on, Turned, is-full, wants-more, is-refused, is-at-end, failed, Finished}
-use Rattle.program.proofs.Judging.{judged-more, judged-full, judged-wants, judged-refused, judged-end}
+use Rattle.program.specs.declared.streams.Streams.{Streams}
+use Rattle.program.specs.Progress.{buffer-size, most-printed, lines-accepted, one-if, come-by, most-come-by}
+use Rattle.program.specs.Printing.{nothing-yet, with-read, with-printed}
+use Rattle.program.specs.Running.{at-judged, Failed, unread-in, Fits, Reads, Passes-on, Ends-so, Turned, is-full, wants-more, is-refused, is-at-end, failed, last-line, Left, Finished}
+use Rattle.program.proofs.Judging.{Judged, All-judged, due, judged-more, judged-full, judged-wants, judged-refused, judged-end, last-left}
 
 -- ---- the lines accepted are those of the history
 
@@ -47,45 +50,53 @@ pub record Going (T : Tables) (r : Run) (buf : List ℕ) : Type 0 where
   pub goes : r .stop ≡ 0
   pub none-refused : r .refusal ≡ 0
   pub follows : Follows T (lines-accepted T)
-  pub printed : r .printed ≤ most-found * lines-accepted T
-  pub unread : Unread r
-  pub judged : Judged T (r .printed) (r .ended) (unread-in buf r)
+  pub findings : r .findings ≤ most-found * lines-accepted T
+  pub printed : r .streams .printed ≤ buffer-size * lines-accepted T
+  -- what was read was taken by lines, or is unread
+  pub read : r .streams .read ≤ suc longest * lines-accepted T + (r .to - r .from)
+  pub ordered : r .from ≤ r .to
+  pub within : r .to ≤ buffer-size
+  pub judged : Judged T (r .streams) (r .findings) (unread-in buf r)
 
-pub going-start : {S : Tables} {r : Run} {buf : List ℕ} (T : Tables) → Long T → S ≡ start-of T → length buf ≡ buffer-size → r .from ≡ 0 → r .to ≡ 0 → r .printed ≡ 0
-    → r .refusal ≡ 0 → r .stop ≡ 0 → Judged S (r .printed) (r .ended) (unread-in buf r) → Going S r buf
-going-start {S} {r} {buf} T long e size from to printed refusal stop judged =
+judged-as : {T : Tables} {n m : ℕ} {s q : Streams} {b d : List ℕ} → q ≡ s → m ≡ n → d ≡ b → Judged T s n b → Judged T q m d
+judged-as {T} {n} {m} {s} {q} {b} {d} es en eb j =
+    subst (λ (x : Streams). Judged T x m d) (sym es) (subst (λ (x : ℕ). Judged T s x d) (sym en) (subst (Judged T s n) (sym eb) j))
+
+pub going-start : {S : Tables} {r : Run} {buf : List ℕ} (T : Tables) → Long T → S ≡ start-of T → length buf ≡ buffer-size → r .from ≡ 0 → r .to ≡ 0 → r .streams ≡ nothing-yet
+    → r .findings ≡ 0 → r .refusal ≡ 0 → r .stop ≡ 0 → Judged S nothing-yet 0 [] → Going S r buf
+going-start {S} {r} {buf} T long e size from to streams findings refusal stop judged =
     record {
       size = size;
       goes = stop;
       none-refused = refusal;
       follows = subst (λ (X : Tables). Follows X (lines-accepted X)) (sym e) (in-step (start-follows T long));
-      printed = omega (arith, printed);
-      unread = record { ordered = omega (arith, from, to); within = omega (arith, to) };
-      judged = judged;
+      findings = omega (arith, findings);
+      printed = omega (arith, ap (λ (x : Streams). x .printed) streams);
+      read = omega (arith, ap (λ (x : Streams). x .read) streams);
+      ordered = omega (arith, from, to);
+      within = omega (arith, to);
+      judged = judged-as streams findings (λ i. take (to i - from i) (drop (from i) buf)) judged;
     }
 
 come-by-most : {T : Tables} {r : Run} {buf : List ℕ} → Going T r buf → come-by T r ≤ most-come-by
-come-by-most {T} {r} g = omega (arith, few-of (g .follows), g .unread .within, one-most (r .ended))
+come-by-most {T} {r} g = omega (arith, few-of (g .follows), g .within, one-most (r .streams .ended))
   where
     one-most : (b : Bool) → one-if b ≤ 1
     one-most true = omega arith
     one-most false = omega arith
 
-judged-as : {T : Tables} {n m : ℕ} {o o' : Bool} {s t : List ℕ} → m ≡ n → o' ≡ o → t ≡ s → Judged T n o s → Judged T m o' t
-judged-as {T} {n} {m} {o} {o'} {s} {t} e p q j = subst (λ (x : ℕ). Judged T x o' t) (sym e) (subst (λ (x : Bool). Judged T n x t) (sym p) (subst (Judged T n o) (sym q) j))
-
 -- ---- the loop has passed a part of what is unread
 
-module _ {T S : Tables} {r : Run} {buf out' : List ℕ} {p : Passed} (out : List ℕ) (g : Going T r buf) (room : length out ≡ buffer-size) (kept : length out' ≡ length out)
-    (e : leaves p S out' ≡ piece-outcome (r .ended) T (unread-in buf r) out) where
-  known : Learnt (r .ended) T (unread-in buf r) out p S out'
-  known = learnt kept e
+module _ {T S : Tables} {r : Run} {buf out' : List ℕ} {p : Passed} {ended : Bool} (out : List ℕ) (g : Going T r buf) (room : length out ≡ buffer-size) (kept : length out' ≡ length out)
+    (told : ended ≡ r .streams .ended) (e : leaves p S out' ≡ piece-outcome ended T (unread-in buf r) out) where
+  known : Learnt (r .streams .ended) T (unread-in buf r) out p S out'
+  known = learnt kept (e ∙ ap (λ (b : Bool). piece-outcome b T (unread-in buf r) out) told)
 
   lines : ℕ
   lines = known .passes .lines
 
   long : length (unread-in buf r) ≡ r .to - r .from
-  long = length-take-le (r .to - r .from) (drop (r .from) buf) (omega (arith, length-drop (r .from) buf, g .size, g .unread .within))
+  long = length-take-le (r .to - r .from) (drop (r .from) buf) (omega (arith, length-drop (r .from) buf, g .size, g .within))
 
   following : Follows S (lines-accepted T + lines)
   unfolding lines
@@ -94,33 +105,46 @@ module _ {T S : Tables} {r : Run} {buf out' : List ℕ} {p : Passed} (out : List
   accepted : lines-accepted S ≡ lines-accepted T + lines
   accepted = lines-are following
 
-  fewer : r .printed + p .findings ≤ most-found * lines-accepted S
+  few-lines : lines-accepted S ≤ most-lines
+  few-lines = omega (arith, few-of following, accepted)
+
+  few-found : r .findings + p .findings ≤ most-found * lines-accepted S
   unfolding lines
-  fewer = omega (arith, g .printed, known .findings, known .passes .few, accepted)
+  few-found = omega (arith, g .findings, known .findings, known .passes .few, accepted)
+
+  few-printed : r .streams .printed + p .put ≤ buffer-size * lines-accepted S
+  unfolding lines
+  few-printed = omega (arith, g .printed, few-bytes {size = buffer-size} known (omega (arith, room)), accepted)
 
   taken-within : r .from + p .taken ≤ r .to
-  taken-within = omega (arith, known .passes .within, long, g .unread .ordered)
+  taken-within = omega (arith, known .passes .within, long, g .ordered)
 
   covered : p .taken ≤ suc longest * lines
   unfolding lines
   covered = known .passes .covered
 
-  pub sums-fit : (length buf ≡ buffer-size) × Sums-fit r p
-  sums-fit = (
+  few-unread : p .stop ≡ Stop.More → r .to - (r .from + p .taken) ≤ longest
+  few-unread h = omega (arith, known .passes .more h .1, length-drop (p .taken) (unread-in buf r), long)
+
+  pub fits : (length buf ≡ buffer-size) × Fits r p out'
+  fits = (
     g .size,
     record {
       goes = g .goes;
       taken = taken-within;
-      within = g .unread .within;
-      printed = omega (arith, fewer, few-of following, accepted);
-      put = omega (arith, known .fits, room);
+      within = g .within;
+      few = few-unread;
+      findings = omega (arith, few-found, few-lines);
+      put = omega (arith, known .fits, kept);
+      streams = record { read = omega (arith, g .read, few-lines, accepted, g .within); printed = omega (arith, few-printed, few-lines) };
+      due = due (g .judged) known;
     },
   )
 
   part-then : drop (p .taken) (unread-in buf r) ≡ take (r .to - (r .from + p .taken)) (drop (r .from + p .taken) buf)
   part-then =
       let size : r .to - r .from ≡ p .taken + (r .to - (r .from + p .taken)) = omega (arith, taken-within) in
-      let front = length-take-le (p .taken) (drop (r .from) buf) (omega (arith, length-drop (r .from) buf, g .size, g .unread .within, taken-within)) in
+      let front = length-take-le (p .taken) (drop (r .from) buf) (omega (arith, length-drop (r .from) buf, g .size, g .within, taken-within)) in
       ap (λ (k : ℕ). drop (p .taken) (take k (drop (r .from) buf))) size
       ∙ ap (drop (p .taken)) (take-add (p .taken) (r .to - (r .from + p .taken)) (drop (r .from) buf))
       ∙ drop-at (take (p .taken) (drop (r .from) buf)) (take (r .to - (r .from + p .taken)) (drop (p .taken) (drop (r .from) buf))) (p .taken) front
@@ -129,9 +153,46 @@ module _ {T S : Tables} {r : Run} {buf out' : List ℕ} {p : Passed} (out : List
   unread-then : {w : Run} → Passes-on r p w → unread-in buf w ≡ drop (p .taken) (unread-in buf r)
   unread-then on = (λ i. take (on .to i - on .from i) (drop (on .from i) buf)) ∙ sym part-then
 
+  printed-then : {s : Streams} → s ≡ with-printed (r .streams) (p .put) true → s .printed ≤ buffer-size * lines-accepted S
+  printed-then is = omega (arith, ap (λ (x : Streams). x .printed) is, few-printed)
+
+  read-then : {w : Run} → Passes-on r p w → w .streams .read ≤ suc longest * lines-accepted S + (w .to - w .from)
+  read-then on = omega (arith, ap (λ (x : Streams). x .read) (on .streams), g .read, covered, accepted, taken-within, on .from, on .to)
+
+  before-end : p .stop ≡ Stop.More → r .streams .ended ≡ false
+  before-end h = known .passes .more h .0
+
   -- ---- the turn goes on
 
   module _ {q : Run} {buf' : List ℕ} (goes : q .stop ≡ 0) (same : length buf' ≡ length buf) where
+    after-read : p .stop ≡ Stop.More → (w : Run) → Passes-on r p w → (n : ℕ) → Reads w buf q buf' n → Going S q buf'
+    after-read h w on n reads =
+        let rest = w .to - w .from in
+        let new = take n (drop rest buf') in
+        let all : unread-in buf' q ≡ unread-in buf w ++ new =
+        (λ i. take (reads .to i - reads .from i) (drop (reads .from i) buf'))
+        ∙ ap (λ (k : ℕ). take k buf') (sub-zero (rest + n))
+        ∙ take-add rest n buf'
+        ∙ ap (λ (b : List ℕ). b ++ new) (reads .kept)
+        in
+        let long-new : length new ≡ n = length-take-le n (drop rest buf') (omega (arith, length-drop rest buf', same, g .size, reads .within, reads .to)) in
+        let is : q .streams ≡ with-read (with-printed (r .streams) (p .put) true) (pos (length new)) =
+        reads .streams ∙ (λ i. with-read (on .streams i) (pos (sym long-new i)))
+        in
+        record {
+          size = same ∙ g .size;
+          goes = goes;
+          none-refused = reads .refusal ∙ on .refusal ∙ g .none-refused;
+          follows = in-step following;
+          findings = omega (arith, reads .findings, on .findings, few-found);
+          printed = omega (arith, ap (λ (x : Streams). x .printed) (reads .streams), printed-then (on .streams));
+          read = omega (arith, ap (λ (x : Streams). x .read) (reads .streams), read-then on, reads .from, reads .to);
+          ordered = omega (arith, reads .from);
+          within = reads .within;
+          judged = judged-as is (reads .findings ∙ on .findings) (all ∙ ap (λ (b : List ℕ). b ++ new) (unread-then on))
+              (judged-more new (before-end h) (judged-wants (g .judged) known h));
+        }
+
     pub going-on : Turned r p buf q buf' → Going S q buf'
     going-on (is-full h on is) =
         record {
@@ -139,38 +200,23 @@ module _ {T S : Tables} {r : Run} {buf out' : List ℕ} {p : Passed} (out : List
           goes = goes;
           none-refused = on .refusal ∙ g .none-refused;
           follows = in-step following;
-          printed = omega (arith, on .printed, fewer);
-          unread = record { ordered = omega (arith, on .from, on .to, taken-within); within = omega (arith, on .to, g .unread .within) };
-          judged = judged-as (on .printed) (on .ended) (ap (λ (b : List ℕ). unread-in b q) is ∙ unread-then on) (judged-full (g .judged) known h);
+          findings = omega (arith, on .findings, few-found);
+          printed = printed-then (on .streams);
+          read = read-then on;
+          ordered = omega (arith, on .from, on .to, taken-within);
+          within = omega (arith, on .to, g .within);
+          judged = judged-as (on .streams) (on .findings) (ap (λ (b : List ℕ). unread-in b q) is ∙ unread-then on) (judged-full (g .judged) known h);
         }
-    going-on (wants-more h w on n reads) =
-        let rest = w .to - w .from in
-        let before-end : r .ended ≡ false = known .passes .more h .0 in
-        let all : unread-in buf' q ≡ unread-in buf w ++ take n (drop rest buf') =
-        (λ i. take (reads .to i - reads .from i) (drop (reads .from i) buf'))
-        ∙ ap (λ (k : ℕ). take k buf') (sub-zero (rest + n))
-        ∙ take-add rest n buf'
-        ∙ ap (λ (s : List ℕ). s ++ take n (drop rest buf')) (reads .kept)
-        in
-        record {
-          size = same ∙ g .size;
-          goes = goes;
-          none-refused = reads .counts .refusal ∙ on .refusal ∙ g .none-refused;
-          follows = in-step following;
-          printed = omega (arith, reads .counts .printed, on .printed, fewer);
-          unread = record { ordered = omega (arith, reads .from); within = reads .within };
-          judged = judged-as (reads .counts .printed ∙ on .printed) refl all
-              (judged-more (q .ended) (take n (drop rest buf')) (judged-as refl (sym before-end) (unread-then on) (judged-wants (g .judged) known h)));
-        }
-    going-on (is-refused k h stop refusal printed) = absurd (omega (arith, stop, goes))
-    going-on (is-at-end h stop refusal printed) = absurd (omega (arith, stop, goes))
-    going-on (failed stop printed) = absurd (omega (arith, stop, goes))
+    going-on (wants-more h w on n reads) = after-read h w on n reads
+    going-on (is-refused k h ends) = absurd (omega (arith, ends .stop, goes))
+    going-on (is-at-end h ends) = absurd (omega (arith, ends .stop, goes))
+    going-on (failed stop why) = absurd (omega (arith, stop, goes))
 
     more : Turned r p buf q buf' → come-by T r < come-by S q
     unfolding lines
     more (is-full h on is) =
         let line = known .passes .full h (omega (arith, room)) in
-        omega (arith, line, covered, accepted, taken-within, on .from, on .to, ap one-if (on .ended))
+        omega (arith, line, covered, accepted, taken-within, on .from, on .to, ap (λ (x : Streams). one-if (x .ended)) (on .streams))
     more (wants-more h w on n reads) = go n refl
       where
         go : (m : ℕ) → n ≡ m → come-by T r < come-by S q
@@ -185,38 +231,46 @@ module _ {T S : Tables} {r : Run} {buf out' : List ℕ} {p : Passed} (out : List
               reads .from,
               reads .to,
               z,
-              ap one-if (known .passes .more h .0),
-              ap one-if (reads .ended ∙ eq-eqb n 0 z),
+              ap one-if (before-end h),
+              ap (λ (x : Streams). one-if (x .ended)) (reads .streams) ∙ ap one-if (eq-eqb n 0 z),
             )
-        go (suc m) z = omega (arith, covered, accepted, taken-within, on .from, on .to, reads .from, reads .to, z, ap one-if (known .passes .more h .0))
-    more (is-refused k h stop refusal printed) = absurd (omega (arith, stop, goes))
-    more (is-at-end h stop refusal printed) = absurd (omega (arith, stop, goes))
-    more (failed stop printed) = absurd (omega (arith, stop, goes))
+        go (suc m) z = omega (arith, covered, accepted, taken-within, on .from, on .to, reads .from, reads .to, z, ap one-if (before-end h))
+    more (is-refused k h ends) = absurd (omega (arith, ends .stop, goes))
+    more (is-at-end h ends) = absurd (omega (arith, ends .stop, goes))
+    more (failed stop why) = absurd (omega (arith, stop, goes))
 
     pub fewer-left : Turned r p buf q buf' → most-come-by - come-by S q < most-come-by - come-by T r
     fewer-left t = omega (arith, more t, come-by-most (going-on t))
 
   -- ---- or it is the last
 
-  pub finished : {q : Run} {buf' : List ℕ} → (q .stop ≡ 0 → ⊥) → Turned r p buf q buf' → Finished S q
-  finished {q} {buf'} stops t = record { few-lines = few-in-book; few-printed = omega (arith, counted t, fewer, few-of following, accepted); judged = judged t }
+  pub finished : {q : Run} {buf' : List ℕ} → (q .stop ≡ 0 → ⊥) → Turned r p buf q buf' → Finished (S .book) q
+  finished {q} {buf'} stops t = record { few-lines = few-in-book; ends = ends t; fails = fails t }
     where
       few-in-book : lines-in (S .book) ≤ most-lines
       few-in-book = omega (arith, few-of following, following .count, following .tied .tables .lines)
 
-      counted : Turned r p buf q buf' → q .printed ≡ r .printed + p .findings
-      counted (is-full h on is) = on .printed
-      counted (wants-more h w on n reads) = reads .counts .printed ∙ on .printed
-      counted (is-refused k h stop refusal printed) = printed
-      counted (is-at-end h stop refusal printed) = printed
-      counted (failed stop printed) = printed
+      all-but-last : (k : ℕ) → Ends-so r p k q → All-judged S (with-printed (r .streams) (p .put) true) (r .findings + p .findings) k → Left q (last-line (S .book) q)
+      all-but-last k so all =
+          record {
+            few-findings = omega (arith, so .findings, few-found, few-lines);
+            streams = record { read = omega (arith, ap (λ (x : Streams). x .read) (so .streams), g .read, few-lines, accepted, g .within); printed = omega (arith, printed-then (so .streams), few-lines) };
+            last = last-left
+                (subst (λ (s : Streams). All-judged S s (q .findings) (q .refusal)) (sym (so .streams))
+                (subst (λ (n : ℕ). All-judged S (with-printed (r .streams) (p .put) true) n (q .refusal)) (sym (so .findings))
+                (subst (All-judged S (with-printed (r .streams) (p .put) true) (r .findings + p .findings)) (sym (so .refusal)) all)));
+          }
 
-      judged : Turned r p buf q buf' → q .stop < at-failure → All-judged S (q .printed) (q .refusal)
-      judged (is-full h on is) low = absurd (stops (on .stop))
-      judged (wants-more h w on n reads) low = absurd (stops (reads .stop ∙ on .stop))
-      judged (is-refused k h stop refusal printed) low =
-          subst (λ (n : ℕ). All-judged S n (q .refusal)) (sym printed) (subst (All-judged S (r .printed + p .findings)) (sym refusal) (judged-refused (g .judged) known k h))
-      judged (is-at-end h stop refusal printed) low =
-          subst (λ (n : ℕ). All-judged S n (q .refusal)) (sym printed)
-          (subst (All-judged S (r .printed + p .findings)) (sym (refusal ∙ g .none-refused)) (judged-end (g .judged) known h))
-      judged (failed stop printed) low = absurd (omega (arith, stop, low))
+      ends : Turned r p buf q buf' → q .stop ≡ at-judged → Left q (last-line (S .book) q)
+      ends (is-full h on is) one = absurd (stops (on .stop))
+      ends (wants-more h w on n reads) one = absurd (stops (reads .stop ∙ on .stop))
+      ends (is-refused k h so) one = all-but-last k so (judged-refused (g .judged) known k h)
+      ends (is-at-end h so) one = all-but-last (r .refusal) so (subst (All-judged S (with-printed (r .streams) (p .put) true) (r .findings + p .findings)) (sym (g .none-refused)) (judged-end (g .judged) known h))
+      ends (failed stop why) one = absurd (omega (arith, stop, one))
+
+      fails : Turned r p buf q buf' → (q .stop ≡ at-judged → ⊥) → Failed (q .streams)
+      fails (is-full h on is) not = absurd (stops (on .stop))
+      fails (wants-more h w on n reads) not = absurd (stops (reads .stop ∙ on .stop))
+      fails (is-refused k h so) not = absurd (not (so .stop))
+      fails (is-at-end h so) not = absurd (not (so .stop))
+      fails (failed stop why) not = why

@@ -1,4 +1,5 @@
--- believed of any tables
-pub mod Judged
+-- believed
+pub mod Printing
+-- computed: program::judge_all
 pub mod Progress
 pub mod Running

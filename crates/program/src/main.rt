@@ -1,20 +1,20 @@
 // The judge program: reads a trace from standard input, judges what each read brought, and prints the report on standard output as it goes.
 // What it needs does not grow with the trace.
+mod streams; // streams.rt: standard input and standard output
+
 use libc::STDERR_FILENO;
-use libc::STDIN_FILENO;
-use libc::STDOUT_FILENO;
 use run::Passed;
 use run::Stop;
+use streams::Streams;
 ghost use mathlib.Core.Path.{_≡_};
-ghost use Prim.Native.Nat.{_+_, _≤_};
-ghost use lib.ListN.{length, take};
+ghost use Prim.Native.Nat.{_≤_};
+ghost use lib.ListN.{length};
 ghost use Rattle.numbers.specs.Writing.{put};
 ghost use Rattle.history.specs.Replies.{most-lines};
-ghost use Rattle.history.specs.Report.{end-line};
-ghost use Rattle.book.specs.Threads.{lines-in, closed-in};
-ghost use Rattle.tables.specs.Tables.{tables};
-ghost use Rattle.program.specs.Progress.{buffer-size, most-printed};
-ghost use Rattle.program.specs.Running.{Unread, More-read, Sums-fit, Turned, Finished};
+ghost use Rattle.book.specs.Threads.{lines-in};
+ghost use Rattle.program.specs.Printing.{Newest, Reported};
+ghost use Rattle.program.specs.Progress.{buffer-size, most-findings};
+ghost use Rattle.program.specs.Running.{Unread, More-read, Fits, Turned, last-line, Finished};
 
 // The program lends so many reference and pin rows.
 const REFERENCE_ROWS: usize = 2048;
@@ -37,86 +37,59 @@ const BUFFER: usize = 65536;
 // Why a run stops: a line was refused or the input is at its end, or a call failed.
 const JUDGED: u8 = 1;
 
-const UNREAD: u8 = 2;
+const FAILED: u8 = 2;
 
-const UNWRITTEN: u8 = 3;
-
-// A run so far: which bytes of the input buffer are unread, whether the input has ended behind them, how many findings were printed,
+// A run so far: which bytes of the input buffer are unread, what has gone through the streams, how many findings there are,
 // the refusal or 0, and why it stops or 0.
 struct Run {
     from: usize,
     to: usize,
-    ended: bool,
-    printed: usize,
+    streams: Streams,
+    findings: usize,
     refusal: u8,
     stop: u8,
 }
 
 fn stopped(run: Run, stop: u8) -> Run
-    ensures { λ q. ⌜ (q .stop ≡ stop) × (q .printed ≡ run .printed) × (q .refusal ≡ run .refusal) ⌝ }
+    ensures { λ q. ⌜ (q .stop ≡ stop) × (q .streams ≡ run .streams) × (q .findings ≡ run .findings) × (q .refusal ≡ run .refusal) ⌝ }
 {
     let mut next = run;
     next.stop = stop;
     next
 }
 
-// Writes the first n bytes.
-fn write_front(out: &[u8], n: usize) -> bool
-    requires { ⌜ n ≤ length (now out) ⌝ }
-{
-    io::write_all(STDOUT_FILENO, &out[..n])
-}
-
-// What a read gave: how many bytes, and whether it failed.
-struct Got {
-    count: usize,
-    failed: bool,
-}
-
-// Reads behind the unread bytes.
-fn read_behind(buf: &mut [u8], rest: usize) -> Got
-    requires { ⌜ rest ≤ length (now buf) ⌝ }
-    ensures { λ r. ⌜ (rest + r .count ≤ length (now (buf .entry))) × (take rest (now (buf .exit)) ≡ take rest (now (buf .entry))) ⌝ }
-{
-    let got = libc::read(STDIN_FILENO, &mut buf[rest..]);
-    let count = io::count(got, &buf[rest..]);
-    Got {
-        count,
-        failed: got < 0,
-    }
-}
-
-// Moves the unread bytes to the front and reads behind them. The input has ended where a read gives nothing.
-fn read_more(run: Run, buf: &mut [u8]) -> Run
-    requires { ⌜ (length (now buf) ≡ buffer-size) × Unread run ⌝ }
-    ensures { λ q. ⌜ More-read run (now (buf .entry)) q (now (buf .exit)) ⌝ }
+// Moves the unread bytes to the front and reads behind them.
+fn read_more(run: Run, moved: &mut usize, buf: &mut [u8]) -> Run
+    requires { ⌜ (length (now buf) ≡ buffer-size) × Unread run × Newest (run .streams) (now moved) ⌝ }
+    ensures { λ q. ⌜ More-read run (now (buf .entry)) q (now (buf .exit)) × Newest (q .streams) (now (moved .exit)) ⌝ }
 {
     let rest = run.to - run.from;
     pieces::shift(buf, run.from, run.to);
-    let got = read_behind(buf, rest);
-    if got.failed {
-        return stopped(run, UNREAD);
+    let before = run.streams;
+    let streams = streams::read_behind(before, moved, buf, rest);
+    let mut next = run;
+    next.streams = streams;
+    if streams::is_unreadable(streams) {
+        return stopped(next, FAILED);
     }
-    Run {
-        from: 0,
-        to: rest + got.count,
-        ended: got.count == 0,
-        printed: run.printed,
-        refusal: run.refusal,
-        stop: run.stop,
-    }
+    next.from = 0;
+    next.to = rest + (streams::bytes_read(streams) - streams::bytes_read(before));
+    next
 }
 
 // What the loop has passed: its findings are written, so that none waits for the next line, and more is read where it asks for more.
-fn turned(run: Run, passed: Passed, buf: &mut [u8], out: &[u8; BUFFER]) -> Run
-    requires { ⌜ (length (now buf) ≡ buffer-size) × Sums-fit run passed ⌝ }
-    ensures { λ q. ⌜ Turned run passed (now (buf .entry)) q (now (buf .exit)) ⌝ }
+fn turned(run: Run, passed: Passed, moved: &mut usize, buf: &mut [u8], out: &[u8; BUFFER]) -> Run
+    requires { ⌜ (length (now buf) ≡ buffer-size) × Fits run passed (now out) × Newest (run .streams) (now moved) ⌝ }
+    ensures { λ q. ⌜ Turned run passed (now (buf .entry)) q (now (buf .exit)) × Newest (q .streams) (now (moved .exit)) ⌝ }
 {
+    let before = run.streams;
+    let streams = streams::print(before, moved, out, passed.put);
     let mut next = run;
     next.from = run.from + passed.taken;
-    next.printed = run.printed + passed.findings;
-    if !write_front(out, passed.put) {
-        return stopped(next, UNWRITTEN);
+    next.streams = streams;
+    next.findings = run.findings + passed.findings;
+    if streams::is_unwritable(streams) {
+        return stopped(next, FAILED);
     }
     let stop = passed.stop;
     match stop {
@@ -125,12 +98,43 @@ fn turned(run: Run, passed: Passed, buf: &mut [u8], out: &[u8; BUFFER]) -> Run
             stopped(next, JUDGED)
         }
         Stop::Full => next,
-        Stop::More => read_more(next, buf),
+        Stop::More => read_more(next, moved, buf),
         Stop::End => stopped(next, JUDGED),
     }
 }
 
-// Judges the input until a line is refused, it is at its end or a call fails. On an input without end it stops too: see specs/Progress.antt.
+// The last line of the report at the front of the buffer, and how long it is.
+fn put_last(run: Run, book: &[u64; BOOK_NUMBERS], out: &mut [u8; BUFFER]) -> usize
+    requires { ⌜ (lines-in (now book) ≤ most-lines) × (run .findings ≤ most-findings) ⌝ }
+    ensures { λ r. ⌜ (r ≡ length (last-line (now (book .entry)) run)) × (r ≤ buffer-size) × (now (out .exit) ≡ put (now (out .entry)) 0 (last-line (now (book .entry)) run)) ⌝ }
+{
+    let closed = book::is_closed(book);
+    let lines = book::lines_of(book) as u32;
+    let findings = run.findings as u32;
+    let width = report::end_width(closed, lines, run.refusal, findings);
+    report::put_end(out, 0, closed, lines, run.refusal, findings);
+    width
+}
+
+// Prints the last line. Where a call failed there is none.
+fn finish(
+    run: Run,
+    moved: &mut usize,
+    book: &[u64; BOOK_NUMBERS],
+    out: &mut [u8; BUFFER],
+) -> Streams
+    requires { ⌜ Finished (now book) run × Newest (run .streams) (now moved) ⌝ }
+    ensures { λ q. ⌜ Reported q ⌝ }
+{
+    let streams = run.streams;
+    if run.stop != JUDGED {
+        return streams;
+    }
+    let n = put_last(run, book, out);
+    streams::print(streams, moved, out, n)
+}
+
+// Judges the input until a line is refused, it is at its end or a call fails, and prints the report. On an input without end it stops too: see specs/Progress.antt.
 fn judge_all(
     buf: &mut [u8],
     rows: &mut [u32; REFERENCE_NUMBERS],
@@ -139,25 +143,27 @@ fn judge_all(
     pinmarks: &mut [u64; PIN_MARKS],
     book: &mut [u64; BOOK_NUMBERS],
     out: &mut [u8; BUFFER],
-) -> Run
+) -> Streams
     requires { ⌜ length (now buf) ≡ buffer-size ⌝ }
-    ensures { λ q. ⌜ Finished (tables (now (rows .exit)) (now (marks .exit)) (now (pins .exit)) (now (pinmarks .exit)) (now (book .exit))) q ⌝ }
+    ensures { λ q. ⌜ Reported q ⌝ }
 {
     judge::start(rows, marks, pins, pinmarks, book);
+    let mut moved = 0;
     let mut so_far = Run {
         from: 0,
         to: 0,
-        ended: false,
-        printed: 0,
+        streams: streams::untouched(),
+        findings: 0,
         refusal: 0,
         stop: 0,
     };
     loop {
         let from = so_far.from;
         let to = so_far.to;
+        let streams = so_far.streams;
         let passed = run::run_lines(
             &buf[from..to],
-            so_far.ended,
+            streams::has_ended(streams),
             rows,
             marks,
             pins,
@@ -165,35 +171,13 @@ fn judge_all(
             book,
             out,
         );
-        so_far = turned(so_far, passed, buf, out);
+        so_far = turned(so_far, passed, &mut moved, buf, out);
         if so_far.stop != 0 {
-            return so_far;
+            return finish(so_far, &mut moved, book, out);
         }
     }
 }
 
-// The last line of the report at the front of the buffer, and how long it is.
-fn put_last(run: Run, book: &[u64; BOOK_NUMBERS], out: &mut [u8; BUFFER]) -> usize
-    requires { ⌜ (lines-in (now book) ≤ most-lines) × (run .printed ≤ most-printed) ⌝ }
-    ensures { λ r. ⌜ (r ≡ length (end-line (closed-in (now (book .entry))) (lines-in (now (book .entry))) (run .refusal) (run .printed))) × (r ≤ buffer-size) × (now (out .exit) ≡ put (now (out .entry)) 0 (end-line (closed-in (now (book .entry))) (lines-in (now (book .entry))) (run .refusal) (run .printed))) ⌝ }
-{
-    let closed = book::is_closed(book);
-    let lines = book::lines_of(book) as u32;
-    let printed = run.printed as u32;
-    let width = report::end_width(closed, lines, run.refusal, printed);
-    report::put_end(out, 0, closed, lines, run.refusal, printed);
-    width
-}
-
-// Writes the last line.
-fn finish(run: Run, book: &[u64; BOOK_NUMBERS], out: &mut [u8; BUFFER])
-    requires { ⌜ (lines-in (now book) ≤ most-lines) × (run .printed ≤ most-printed) ⌝ }
-{
-    let n = put_last(run, book, out);
-    write_front(out, n);
-}
-
-// Where a call failed there is no last line.
 fn main() {
     let mut buf = io::large_buffer();
     let mut out = io::large_buffer();
@@ -202,7 +186,7 @@ fn main() {
     let mut pins = [0; PIN_NUMBERS];
     let mut pinmarks = [0; PIN_MARKS];
     let mut book = [0; BOOK_NUMBERS];
-    let run = judge_all(
+    let ended = judge_all(
         &mut buf,
         &mut rows,
         &mut marks,
@@ -211,10 +195,7 @@ fn main() {
         &mut book,
         &mut out,
     );
-    if run.stop == UNREAD {
+    if streams::is_unreadable(ended) {
         io::write_all(STDERR_FILENO, b"judge: the input could not be read\n");
-    }
-    if run.stop == JUDGED {
-        finish(run, &book, &mut out);
     }
 }

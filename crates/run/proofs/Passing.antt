@@ -1,9 +1,9 @@
 -- The run over a piece of the input is a part of the run of the whole. Assumes nothing.
-use Prim.Native.Nat.{ℕ, suc, _+_, _-_, _≤_, _<_}
+use Prim.Native.Nat.{ℕ, zero, suc, _+_, _*_, _-_, _≤_, _<_}
 use mathlib.Core.Path.{_≡_, refl, sym, ap, ap₂, subst, _∙_}
 use mathlib.Core.Bool.{Bool, true, false}
-use mathlib.Core.List.{List, [], _++_, append-assoc, append-nil}
-use native.Mathlib.Nat.{add-zero}
+use mathlib.Core.List.{List, [], _∷_, _++_, append-assoc, append-nil}
+use native.Mathlib.Nat.{add-zero, suc-mul}
 use native.Mathlib.Omega.{arith}
 use borrow.Author.Tests.{ltb-true}
 use lib.Dec.{ltb}
@@ -14,6 +14,7 @@ use Rattle.lines.specs.Line.{longest}
 use Rattle.history.specs.Replies.{Reply, accepted, not-accepted}
 use Rattle.history.specs.Report.{lines-of}
 use Rattle.history.specs.declared.Finding.{Finding}
+use Rattle.answers.specs.Answer.{most-found}
 use Rattle.report.specs.Shown.{most-shown}
 use Rattle.tables.specs.Tables.{Tables}
 use Rattle.tables.specs.Stepping.{step-of}
@@ -154,3 +155,12 @@ learnt {ended} {T} {T'} {s} {out} {out'} {p} long e =
       front = ap₂ take put-is out-is ∙ take-at bytes (drop (0 + length bytes) out) (length bytes) refl;
       fits = omega (arith, put-is, long, ap length out-is ∙ length-append bytes (drop (0 + length bytes) out));
     }
+
+-- without a line there are no bytes
+pub few-bytes : {ended : Bool} {T T' : Tables} {s out out' : List ℕ} {p : Passed} {size : ℕ} (k : Learnt ended T s out p T' out') → length out ≤ size → p .put ≤ k .passes .lines * size
+few-bytes {size = size} k short = subst (λ (n : ℕ). n ≤ k .passes .lines * size) (sym (k .bytes)) (go (k .found) (k .passes .lines) (k .passes .few) (omega (arith, k .bytes, k .fits, short)))
+  where
+    go : (fs : List Finding) (lines : ℕ) → length fs ≤ most-found * lines → length (all-shown fs) ≤ size → length (all-shown fs) ≤ lines * size
+    go [] zero h n = omega arith
+    go (f ∷ fs) zero h n = absurd (omega arith)
+    go fs (suc lines) h n = subst (λ (m : ℕ). length (all-shown fs) ≤ m) (sym (suc-mul lines size)) (omega (arith, n))

@@ -1,8 +1,8 @@
 -- The way through a trace, from one call of the loop to the next. Assumes nothing.
-use Prim.Native.Nat.{ℕ, zero, suc, _+_, _*_, _-_, _≤_, _<_}
+use Prim.Native.Nat.{ℕ, suc, _+_, _*_, _-_, _≤_, _<_}
 use mathlib.Core.Path.{_≡_, refl, sym, ap, ap₂, _∙_}
 use mathlib.Core.Bool.{Bool, true, false, false≢true}
-use mathlib.Core.List.{List, [], _∷_, _++_, append-nil}
+use mathlib.Core.List.{List, [], _++_, append-nil}
 use native.Mathlib.Omega.{arith}
 use lib.ListN.{length, take, drop, length-append, length-drop}
 use lib.Seq.{take-all, drop-drop}
@@ -23,7 +23,7 @@ use Rattle.run.specs.Following.{Follows}
 use Rattle.run.specs.Running.{all-shown, leaves, piece-outcome}
 use Rattle.run.specs.Passing.{from-stop}
 use Rattle.run.proofs.Going.{all-shown-append}
-use Rattle.run.proofs.Passing.{Learnt, learnt}
+use Rattle.run.proofs.Passing.{Learnt, learnt, few-bytes}
 use Rattle.trace.specs.declared.Run.{Run}
 use Rattle.trace.specs.Whole.{run-over}
 use Rattle.trace.specs.Running.{scratch-size, Few, refusal-of, is-full, Sums-fit, Passes-on}
@@ -94,12 +94,6 @@ one-if false = 0
 abbrev pub still : List ℕ → Run → ℕ
 still trace r = (length trace - r .at) + one-if (r .going)
 
--- without a line there are no bytes
-few-bytes : (fs : List Finding) (lines : ℕ) → length fs ≤ most-found * lines → length (all-shown fs) ≤ scratch-size → length (all-shown fs) ≤ scratch-size * lines
-few-bytes [] zero h k = omega arith
-few-bytes (f ∷ fs) zero h k = absurd (omega arith)
-few-bytes fs (suc n) h k = omega (arith, k)
-
 -- ---- one call of the loop
 
 module _ {T S S' : Tables} {trace out out1 scratch' : List ℕ} {r : Run} {p : Passed} (scratch : List ℕ) (g : Going T trace out r S out1) (going : r .going ≡ true)
@@ -112,7 +106,7 @@ module _ {T S S' : Tables} {trace out out1 scratch' : List ℕ} {r : Run} {p : P
   known = learnt kept (e ∙ ap (λ (s : List ℕ). piece-outcome true S s scratch) (take-all (length trace - r .at) unread (omega (arith, length-drop (r .at) trace))))
 
   put-few : p .put ≤ scratch-size * known .passes .lines
-  put-few = omega (arith, known .bytes, few-bytes (known .found) (known .passes .lines) (known .passes .few) (omega (arith, known .bytes, known .fits, size)))
+  put-few = omega (arith, few-bytes {size = scratch-size} known (omega (arith, size)))
 
   following : Follows S' (g .lines + known .passes .lines)
   following = known .passes .follows (g .lines) (g .follows)

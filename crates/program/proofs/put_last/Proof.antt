@@ -18,5 +18,5 @@ put-last-spec =
     (λ c. let at-width = c .before .before in
     let at-lines = at-width .before .before in
     let run = at-lines .before .before .before .before .args .run in
-    let last = last-put (run .refusal) (run .printed) (at-lines .before .before .is-closed .ensures) (at-lines .lines-of .ensures) (at-width .end-width .ensures) (c .put-end .ensures) in
+    let last = last-put (run .refusal) (run .findings) (at-lines .before .before .is-closed .ensures) (at-lines .lines-of .ensures) (at-width .end-width .ensures) (c .put-end .ensures) in
     (last .width, omega (arith, last .short), last-fits last (search needs))))

@@ -1,0 +1,68 @@
+-- The tables that the program lends, and the report of an input over them. Assumes nothing.
+use Prim.Native.Nat.{ℕ, _*_, _/_, min}
+use mathlib.Core.Path.{_≡_, refl, sym, ap, _∙_}
+use mathlib.Core.List.{List, []}
+use native.Mathlib.Omega.{arith}
+use lib.ListN.{length, replicate, length-replicate}
+use Rattle.rows.specs.Marks.{word}
+use Rattle.rows.specs.Table.{room, most}
+use Rattle.rows.specs.References.{references}
+use Rattle.rows.specs.Pins.{pins}
+use Rattle.history.specs.Acceptance.{Room}
+use Rattle.history.specs.Report.{lines-of, report}
+use Rattle.history.specs.Runs.{program-room}
+use Rattle.book.specs.Layout.{whole}
+use Rattle.tables.specs.Tables.{Tables, tables}
+use Rattle.tables.specs.Stepping.{start-of}
+use Rattle.demands.specs.Calls.{room-of, Long, run-in, printed, report-in}
+use Rattle.demands.proofs.Foreign.{start-is}
+use Rattle.demands.proofs.Runs.{reports-are}
+
+-- with one bit of a mark to a row, sixty-four to a word
+abbrev pub marks-for : ℕ → ℕ
+marks-for rows = rows / word
+
+unfoldable pub lent : Tables
+lent =
+    tables (replicate (program-room .references * references .stride) 0) (replicate (marks-for (program-room .references)) 0) (replicate (program-room .pins * pins .stride) 0)
+    (replicate (marks-for (program-room .pins)) 0) (replicate whole 0)
+
+-- ---- the start, which clears whatever the lent tables hold
+
+long-as : (n : ℕ) → length (replicate {A = ℕ} n 0) ≡ n
+long-as n = length-replicate {A = ℕ} n 0
+
+pub start-lent : (rs ms ps ns b : List ℕ) → length rs ≡ program-room .references * references .stride → length ms ≡ marks-for (program-room .references)
+    → length ps ≡ program-room .pins * pins .stride → length ns ≡ marks-for (program-room .pins) → length b ≡ whole → start-of (tables rs ms ps ns b) ≡ start-of lent
+unfolding lent
+start-lent rs ms ps ns b r m p n w =
+    start-is (tables rs ms ps ns b) lent
+    (record {
+      reference-rows = r ∙ sym (long-as (program-room .references * references .stride));
+      reference-marks = m ∙ sym (long-as (marks-for (program-room .references)));
+      pin-rows = p ∙ sym (long-as (program-room .pins * pins .stride));
+      pin-marks = n ∙ sym (long-as (marks-for (program-room .pins)));
+      books = w ∙ sym (long-as whole);
+    })
+
+-- ---- its room is the program's
+
+rows-are : (stride rows marks : ℕ) → min (min (length (replicate {A = ℕ} rows 0) / stride) (length (replicate {A = ℕ} marks 0) * word)) most ≡ min (min (rows / stride) (marks * word)) most
+rows-are stride rows marks = λ i. min (min (long-as rows i / stride) (long-as marks i * word)) most
+
+room-lent : room-of lent ≡ program-room
+unfolding room-of room lent
+room-lent =
+    λ i.
+    record {
+      references = rows-are (references .stride) (program-room .references * references .stride) (marks-for (program-room .references)) i;
+      pins = rows-are (pins .stride) (program-room .pins * pins .stride) (marks-for (program-room .pins)) i;
+    }
+
+long-lent : Long lent
+unfolding lent
+long-lent = omega (arith, long-as whole)
+
+pub report-is : (input : List ℕ) → report program-room input ≡ printed (run-in (start-of lent) [] (lines-of input))
+unfolding report-in
+report-is input = ap (λ (r : Room). report r input) (sym room-lent) ∙ sym (reports-are lent long-lent input)
