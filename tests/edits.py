@@ -1,5 +1,6 @@
 """Edits that plant an error: a heading `# what is wrong`, then `file:`, and `old:` and `new:` for each text that is changed in it."""
-from scratch import ROOT
+import pathlib
+from scratch import ROOT, Stopped
 
 
 class Misfit(Exception):
@@ -41,10 +42,23 @@ def of_definitions():
     return dict(own, **{f.stem: ('', f) for f in (ROOT / 'tests' / 'planted.d').glob('*.edit')})
 
 
+def asked_for(names):
+    """The edits of definitions by name, or all: (name, where its paths begin, file). A name that ends in `.edit` is a file's own."""
+    known = of_definitions()
+    for name in names or sorted(known):
+        if name.endswith('.edit') and pathlib.Path(name).is_file():
+            yield pathlib.Path(name).stem, '', pathlib.Path(name)
+        elif name in known:
+            yield name, *known[name]
+        else:
+            raise Stopped('no edit ' + name)
+
+
 def plant(folder, start, file):
-    """Applies an edit in a folder; what it says it plants."""
+    """Applies an edit in a folder of definitions without proofs; what it says it plants."""
     edit = file.read_text()
     for name, pairs in planted(edit).items():
         path = folder / (start + name)
-        path.write_text(changed(path.read_text(), pairs, file.name))
+        if path.parent.name != 'proofs':
+            path.write_text(changed(path.read_text(), pairs, file.name))
     return says(edit)

@@ -7,7 +7,7 @@ use crate::sights::sights;
 use std::collections::BTreeMap;
 
 /// How many traces there are to choose from, the most lines of one, and how many of those chosen are to show a sight.
-const CANDIDATES: u64 = 10_000;
+const CANDIDATES: u64 = 20_000;
 const MOST_LINES: u32 = 45;
 const TIMES: u32 = 1;
 /// The most bytes of a line before its LF, as what a longer line holds is not looked at.

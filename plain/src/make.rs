@@ -271,7 +271,7 @@ const FEW: Profile = Profile {
 };
 
 /// Profiles of short traces in which the same few things come up again and again.
-pub const DENSE: [Profile; 5] = [
+pub const DENSE: [Profile; 6] = [
     Profile {
         name: "locals",
         functions: &[6, 6, 6, 19, 19, 20, 20, 23, 23, 24, 26],
@@ -305,6 +305,19 @@ pub const DENSE: [Profile; 5] = [
         left: 1,
         crowded: 95,
         functions: &[6, 6, 6, 6, 6, 6, 6, 6, 6, 19, 23, 26],
+        ..FEW
+    },
+    Profile {
+        name: "raised",
+        usual_lines: (20, 60),
+        threads: (1, 1),
+        numbers: 6,
+        spoilt: 0,
+        stale: 0,
+        nested: 8,
+        left: 0,
+        favoured: 100,
+        functions: &[6, 6, 6, 19, 23, 23, 26, 26, 26],
         ..FEW
     },
 ];

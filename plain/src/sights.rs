@@ -8,16 +8,16 @@ mod past;
 
 use crate::coverage::grounds;
 use crate::facts::*;
-use crate::findings::Findings;
+use crate::findings::{Finding, Findings};
 use crate::judge::Judge;
 use crate::lent::book::Top;
 use crate::lent::pins::{self, BUFFER, FAMILY};
-use crate::lent::references::{FRAME, HANDLE};
+use crate::lent::references::{self, FRAME, HANDLE};
 use crate::lent::rows::{Rows, THREAD};
 use crate::limits::*;
 use crate::line::{self, Event};
 use crate::refusal::{Refusal, ALREADY_ALIVE};
-use past::Past;
+use past::{Frame, Past};
 use std::collections::BTreeSet;
 
 type Reference = [Number; REFERENCE_NUMBERS];
@@ -68,7 +68,8 @@ impl Watch {
         let before = (used(&tables.references.rows), used(&tables.pins.rows));
         let findings = self.judge.step(line).expect("nothing is against it");
         self.found(letter(&event), &findings);
-        self.past.add(&event, before, &self.judge.tables());
+        self.past
+            .add(&event, !findings.is_empty(), before, &self.judge.tables());
         Ok(())
     }
 
@@ -82,12 +83,16 @@ impl Watch {
         self.show(format!("end: findings of {findings} digits"));
     }
 
-    /// Each finding, how many there are, and what their order tells.
+    /// Each finding, how many there are, which rules are broken together, and what their order tells.
     fn found(&mut self, letter: char, findings: &Findings) {
         self.findings += findings.len();
         self.show(format!("{letter}: {} findings", findings.len()));
-        for found in findings.iter() {
+        for (index, found) in findings.iter().enumerate() {
             self.show(format!("{letter}: rule {} at {}", found.rule, found.place));
+            for other in &findings[..index] {
+                let (first, second) = (broken(other), broken(found));
+                self.show(format!("{letter}: {first}, {second} together"));
+            }
         }
         for pair in findings.windows(2) {
             let rules = pair[0].rule.cmp(&pair[1].rule);
@@ -105,6 +110,9 @@ impl Watch {
             }
             _ => letter.to_string(),
         };
+        if refusal == ALREADY_ALIVE {
+            self.already_alive(&letter, event);
+        }
         let book = self.judge.tables().book;
         let is_sharer = |other: &u32| match *event {
             Event::N { thread, env, .. } => *other != thread && book.env(*other) == Word::from(env),
@@ -112,13 +120,36 @@ impl Watch {
         };
         let sharer = (1..=THREADS).find(is_sharer);
         let is_idle = sharer.is_some_and(|sharer| book.top(sharer) == Top::Nothing);
+        let is_lower = sharer.is_some_and(|sharer| sharer < thread(event));
         for &(other, cause) in against {
             self.show(match cause {
                 _ if other != refusal => format!("{refusal} before {other}: {letter}"),
                 "after Z" => format!("{refusal}: {letter} after Z"),
-                "shared" => format!("{refusal}: {letter} shared, sharer idle {is_idle}"),
+                "shared" => {
+                    format!("{refusal}: {letter} shared, sharer idle {is_idle}, lower {is_lower}")
+                }
                 _ => format!("{refusal}: {letter} {cause} over {top}"),
             });
+        }
+    }
+
+    /// What last happened to the handles alive that it would make, and whether they stand in the top frame.
+    fn already_alive(&mut self, letter: &str, event: &Event) {
+        let thread = thread(event);
+        let made: Vec<Handle> = match *event {
+            Event::N { count, handles, .. } => handles[..count].to_vec(),
+            Event::R { result, .. } => vec![result as Handle],
+            _ => Vec::new(),
+        };
+        for handle in made {
+            let tables = self.judge.tables();
+            let frame = tables.book.frames(thread) as Number;
+            let in_top: Reference = [references::owner(thread, handle), handle, frame];
+            let is_in_top = tables.references.rows.has(|row| *row == in_top);
+            if tables.references.is_alive(thread, handle) {
+                let fate = self.past.of_handle(thread, handle);
+                self.show(format!("6: {letter}, {fate}, in the top frame {is_in_top}"));
+            }
         }
     }
 
@@ -209,6 +240,14 @@ impl Watch {
             "C: pending {pending} {pending_by}, allowed {pending_allowed}"
         ));
         self.show(format!("C: pending {pending}, others {others_pending}"));
+        let critical = self.judge.tables().pins.has_critical(thread);
+        let (pending, critical) = (
+            pending.then_some(pending_allowed),
+            critical.then_some(critical_allowed),
+        );
+        self.show(format!(
+            "C: own env {own_env}, pending allowed {pending:?}, critical allowed {critical:?}"
+        ));
         self.critical("C", thread, critical_allowed);
         if function == MONITOR_EXIT {
             self.show(format!(
@@ -216,10 +255,15 @@ impl Watch {
             ));
             self.show(format!("218: {monitors} monitors, {monitors_by}"));
         }
-        if let (POP_LOCAL_FRAME, Some(top)) = (function, self.past.frames(thread).last().cloned()) {
-            let (pushed, frames) = (top.is_pushed(), few(self.past.frames(thread).len()));
-            self.show(format!("20: {}, of {frames} frames", top.opened));
-            self.show(format!("20: pushed {pushed}, {}", top.since));
+        if let (POP_LOCAL_FRAME, [below @ .., top]) = (function, self.past.frames(thread)) {
+            let frames = few(below.len() + 1);
+            let below = below.last().map(Frame::is_pushed);
+            let shown = [
+                format!("20: {}, of {frames} frames", top.opened),
+                format!("20: pushed {}, below {below:?}", top.is_pushed()),
+                format!("20: pushed {}, {}", top.is_pushed(), top.since),
+            ];
+            self.sights.extend(shown);
         }
     }
 
@@ -298,6 +342,16 @@ impl Watch {
             _ => false,
         };
         self.show(format!("R: pending {was}, then {pending}"));
+        if makes && "LGW".contains(kind) {
+            let handle = result as Handle;
+            let rows = self.judge.tables().references.rows;
+            let elsewhere = rows.has(|row| row[HANDLE] == handle);
+            let fate = self.past.of_handle(thread, handle);
+            let just_now = self.past.has_just_ended(thread, handle);
+            self.show(format!(
+                "R makes {fate}, just now {just_now}, elsewhere {elsewhere}"
+            ));
+        }
         if kind == 'S' {
             self.show(format!("R of {function}: {}", result.signum()));
         }
@@ -310,6 +364,7 @@ impl Watch {
                 top.is_pushed(),
                 top.since
             ));
+            self.show(format!("R: over {over}, capacity {}", top.capacity_by));
             self.show(format!("R: over {over}, others {others}, below {below}"));
         } else if held == capacity && "LGWB".contains(kind) {
             self.show(format!("R: {kind} in a full frame, made {makes}"));
@@ -363,6 +418,12 @@ fn thread(event: &Event) -> u32 {
         | Event::R { thread, .. } => thread,
         Event::Z => 0,
     }
+}
+
+/// The rule of a finding, and whether the whole line breaks it.
+fn broken(found: &Finding) -> String {
+    let by = if found.place == 0 { "line" } else { "place" };
+    format!("{} by {by}", found.rule)
 }
 
 fn few(count: usize) -> &'static str {

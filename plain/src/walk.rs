@@ -1,7 +1,9 @@
-//! The walk: traces that show all facts of each function, which buffers each release ends, and what each byte is.
+//! The walk: traces that show all facts of each function, which buffers each release ends, what each byte is, and how deep a
+//! thread may go.
 
 use crate::facts::*;
-use crate::limits::{PIN_ROWS, REFERENCE_ROWS};
+use crate::form::FORMS;
+use crate::limits::{MOST_FRAMES, MOST_ITEMS, PIN_ROWS, REFERENCE_ROWS};
 use crate::line;
 use crate::make::Made;
 use crate::refusal::OUT_OF_RANGE;
@@ -22,7 +24,8 @@ const RESULTS: [i64; 5] = [1_001, 1_002, 1_003, 1_004, -1];
 const REGION: [&str; 2] = ["C 1 100 222 5 0 0 0", "R 1 222 8000 1"];
 
 /// Of each function a trace that is accepted and one for each line that must be refused; a trace of each release; of each byte
-/// two lines, in which it stands for a letter and for a digit.
+/// three lines, in which it stands for a letter, for a digit and for the tab between two fields; of each letter a line of one
+/// number too many, all out of range; traces to the deepest.
 pub fn walk() -> Vec<Made> {
     let mut walk = Vec::new();
     for function in FIRST_FUNCTION..=LAST_FUNCTION {
@@ -38,6 +41,15 @@ pub fn walk() -> Vec<Made> {
         walk.push(of_bytes(format!("letter {byte}"), vec![byte, b'\n']));
         let digit = [b"X\t1", &[byte][..], b"\t0\n"].concat();
         walk.push(of_bytes(format!("digit {byte}"), digit));
+        let parting = [b"X\t1", &[byte][..], b"0\n"].concat();
+        walk.push(of_bytes(format!("parting {byte}"), parting));
+    }
+    for form in &FORMS {
+        let line = form.name().to_string() + &" -1".repeat(form.most() + 1);
+        walk.push(made(format!("count {}", form.name()), &[line]));
+    }
+    for (what, lines) in deep() {
+        walk.push(made(format!("deep {what}"), &lines));
     }
     walk
 }
@@ -108,6 +120,28 @@ fn releases(release: u32) -> Vec<String> {
     }
     lines.push("Z".to_string());
     lines
+}
+
+/// Open items, or frames, as many as a thread may have, and one more.
+fn deep() -> [(&'static str, Vec<String>); 3] {
+    let enter = || "N 1 100".to_string();
+    let open = || call(FIRST_FUNCTION, [0; 3], 0);
+    let push = |_| {
+        [
+            call(PUSH_LOCAL_FRAME, [0; 3], 0),
+            answer(PUSH_LOCAL_FRAME, 0),
+        ]
+    };
+    let items = (0..MOST_ITEMS / 2).flat_map(|_| [enter(), open()]);
+    let frames: Vec<String> = [enter()]
+        .into_iter()
+        .chain((1..MOST_FRAMES).flat_map(push))
+        .collect();
+    [
+        ("items", items.chain([enter()]).collect()),
+        ("frames", [frames.clone(), push(0).to_vec()].concat()),
+        ("native", [frames, vec![open(), enter()]].concat()),
+    ]
 }
 
 /// The results that the function may have.

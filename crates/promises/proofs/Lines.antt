@@ -21,6 +21,7 @@ use Rattle.lines.specs.declared.Wrote.the-variants as Wrote
 use Rattle.lines.proofs.RoundTrip.{read-written, written-read}
 use Rattle.lines.proofs.Meant.{meant-read, read-meant}
 use Rattle.promises.specs.Calls.{Reads, Writes}
+use Rattle.promises.specs.Promises.{Written-is-read, Read-is-written}
 
 -- ---- what the contracts say
 
@@ -58,9 +59,8 @@ wrote-bytes (says e) d {d'} {n} h g = go (ltb (length d) (length (written e))) h
         let k : n ≡ length (written e) = cc in
         record { line = e; is = refl; bytes = rw (k, g) (take-append-seam (written e) (drop (length (written e)) d)) }
 
-pub written-is-read : {d d' hs gs : List ℕ} {e x : Event} {n : ℕ} → length hs ≡ most-handles
-    → Writes d e hs (Wrote.Bytes n) d' → Reads (take n d') x gs → (x ≡ e) × (gs ≡ hs)
-written-is-read {d} {d'} {hs} {gs} {e} {x} {n} l w r =
+pub written-is-read : Written-is-read
+written-is-read d d' hs gs e x n l w r =
     let c = wrote-is w in
     let k = wrote-bytes (meant e hs) d (c .0) (c .1) in
     let m = read-meant e hs (k .line) l (k .is) in
@@ -75,9 +75,8 @@ said : (x : Read) → ((k : ℕ) → event-of x ≢ Event.Refused k) → (e : Li
 said (refused k) h = absurd (h k refl)
 said (says e) h = (e, refl)
 
-pub read-is-written : {bs d d' hs : List ℕ} {e : Event} {r : Wrote} → ((k : ℕ) → e ≢ Event.Refused k) → length bs ≤ length d
-    → Reads bs e hs → Writes d e hs r d' → (r ≡ Wrote.Bytes (length bs)) × (take (length bs) d' ≡ bs)
-read-is-written {bs} {d} {d'} {hs} {e} {r} not-refused fits c w =
+pub read-is-written : Read-is-written
+read-is-written bs d d' hs e r not-refused fits c w =
     let q = read-is c in
     let s = said (read bs) (λ k h. not-refused k (q .0 ∙ h)) in
     let l = s .0 in

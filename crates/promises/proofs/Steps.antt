@@ -15,6 +15,7 @@ use Rattle.demands.specs.Demands.{Demands}
 use Rattle.demands.specs.Calls.{room-of, Long, after, from-start, heard-by}
 use Rattle.demands.proofs.Demands.{demands}
 use Rattle.promises.specs.Calls.{Starts, Steps, Called, started, stepped}
+use Rattle.promises.specs.Promises.{Refusal-changes-nothing, Refusal-number, Tables-are, Answers}
 
 -- ---- what the contracts say
 
@@ -36,16 +37,16 @@ unfolding answer-of
 refuses (accepted fs) h = absurd (h refl)
 refuses (not-accepted k) h = (k, refl)
 
-pub refusal-changes-nothing : {T S : Tables} {bs : List ℕ} {r : Answer} → Steps T bs r S → r .refusal ≢ 0 → (S ≡ T) × (r ≡ refused-with (r .refusal))
-refusal-changes-nothing {T} {S} {bs} {r} c refusing =
+pub refusal-changes-nothing : Refusal-changes-nothing
+refusal-changes-nothing T S bs r c refusing =
     let s = step-is c in
     let k = refuses (step-of T bs .reply) (λ z. refusing (ap (λ (a : Answer). a .refusal) (s .0) ∙ z)) in
     let e : r ≡ refused-with (k .0) = s .0 ∙ ap answered (k .1) in
     (s .1 ∙ demands .of-any-tables T .refusal-changes-nothing bs (k .0) (k .1), e ∙ ap (λ (a : Answer). refused-with (a .refusal)) (sym e))
 
-pub refusal-number : {T S : Tables} {bs : List ℕ} {r : Answer} → Steps T bs r S → r .refusal ≤ 8
+pub refusal-number : Refusal-number
 unfolding answer-of
-refusal-number {T} {S} {bs} {r} c = go (step-of T bs .reply) refl (step-is c .0)
+refusal-number T S bs r c = let k = go (step-of T bs .reply) refl (step-is c .0) in omega arith
   where
     go : (x : Reply) → step-of T bs .reply ≡ x → r ≡ answered x → r .refusal ≤ 8
     go (accepted fs) e h = let k : r .refusal ≡ 0 = ap (λ (a : Answer). a .refusal) h in omega arith
@@ -53,14 +54,13 @@ refusal-number {T} {S} {bs} {r} c = go (step-of T bs .reply) refl (step-is c .0)
 
 -- ---- after a start
 
-pub tables-are : {T S : Tables} {calls : List (List ℕ)} → Called T calls S → S ≡ from-start T calls
+pub tables-are : Tables-are
 unfolding after
-tables-are (started c) = start-is c
-tables-are (stepped {calls} {S} {S'} {bs} {r} before c) = step-is c .1 ∙ ap (λ (X : Tables). step-of X bs .left) (tables-are before)
+tables-are T S [] (started c) = start-is c
+tables-are T S (bs ∷ calls) (stepped {S = X} before c) = step-is c .1 ∙ ap (λ (Y : Tables). step-of Y bs .left) (tables-are T X calls before)
 
-pub answers : {T S S' : Tables} {calls : List (List ℕ)} {bs : List ℕ} {r : Answer} → Long T → Called T calls S → Steps S bs r S'
-    → r ≡ answered (reply (room-of T) (heard-by T calls) bs)
-answers {T} {S} {S'} {calls} {bs} {r} long before c =
+pub answers : Answers
+answers T S S' calls bs r long before c =
     step-is c .0
-    ∙ ap (λ (X : Tables). answered (step-of X bs .reply)) (tables-are before)
+    ∙ ap (λ (X : Tables). answered (step-of X bs .reply)) (tables-are T S calls before)
     ∙ ap answered (demands .from-a-start T long calls .replies bs)

@@ -17,18 +17,36 @@ use Rattle.tables.specs.Tables.{Tables}
 use Rattle.demands.specs.Calls.{room-of, Long, from-start, heard-by}
 use Rattle.promises.specs.Calls.{Reads, Writes, Steps, Called}
 
+-- demand 1: "A refusal gives its number from document 01 and changes no table, no count and no finding", whatever the tables hold
+abbrev pub Refusal-changes-nothing : Type 0
+Refusal-changes-nothing = (T S : Tables) (bs : List ℕ) (r : Answer) → Steps T bs r S → r .refusal ≢ 0 → (S ≡ T) × (r ≡ refused-with (r .refusal))
+
+abbrev pub Refusal-number : Type 0
+Refusal-number = (T S : Tables) (bs : List ℕ) (r : Answer) → Steps T bs r S → r .refusal ≤ 8
+
+-- demand 2: "Writing an event and reading it gives that event"
+abbrev pub Written-is-read : Type 0
+Written-is-read = (d d' hs gs : List ℕ) (e x : Event) (n : ℕ) → length hs ≡ most-handles
+    → Writes d e hs (Wrote.Bytes n) d' → Reads (take n d') x gs → (x ≡ e) × (gs ≡ hs)
+
+-- "reading an allowed line and writing it gives those bytes", where they have room
+abbrev pub Read-is-written : Type 0
+Read-is-written = (bs d d' hs : List ℕ) (e : Event) (r : Wrote) → ((k : ℕ) → e ≢ Event.Refused k) → length bs ≤ length d
+    → Reads bs e hs → Writes d e hs r d' → (r ≡ Wrote.Bytes (length bs)) × (take (length bs) d' ≡ bs)
+
+-- demand 3: after a start and any calls the step's answer is the history's reply to the lines heard, whatever stood in the tables before
+abbrev pub Answers : Type 0
+Answers = (T S S' : Tables) (calls : List (List ℕ)) (bs : List ℕ) (r : Answer) → Long T → Called T calls S → Steps S bs r S'
+    → r ≡ answered (reply (room-of T) (heard-by T calls) bs)
+
+-- and the tables are those of which `demands: From-a-start` speaks
+abbrev pub Tables-are : Type 0
+Tables-are = (T S : Tables) (calls : List (List ℕ)) → Called T calls S → S ≡ from-start T calls
+
 pub record Promises : Type 0 where
-  -- demand 1: "A refusal gives its number from document 01 and changes no table, no count and no finding", whatever the tables hold
-  pub refusal-changes-nothing : {T S : Tables} {bs : List ℕ} {r : Answer} → Steps T bs r S → r .refusal ≢ 0 → (S ≡ T) × (r ≡ refused-with (r .refusal))
-  pub refusal-number : {T S : Tables} {bs : List ℕ} {r : Answer} → Steps T bs r S → r .refusal ≤ 8
-  -- demand 2: "Writing an event and reading it gives that event"
-  pub written-is-read : {d d' hs gs : List ℕ} {e x : Event} {n : ℕ} → length hs ≡ most-handles
-      → Writes d e hs (Wrote.Bytes n) d' → Reads (take n d') x gs → (x ≡ e) × (gs ≡ hs)
-  -- "reading an allowed line and writing it gives those bytes", where they have room
-  pub read-is-written : {bs d d' hs : List ℕ} {e : Event} {r : Wrote} → ((k : ℕ) → e ≢ Event.Refused k) → length bs ≤ length d
-      → Reads bs e hs → Writes d e hs r d' → (r ≡ Wrote.Bytes (length bs)) × (take (length bs) d' ≡ bs)
-  -- demand 3: after a start and any calls the step's answer is the history's reply to the lines heard, whatever stood in the tables before
-  pub answers : {T S S' : Tables} {calls : List (List ℕ)} {bs : List ℕ} {r : Answer} → Long T → Called T calls S → Steps S bs r S'
-      → r ≡ answered (reply (room-of T) (heard-by T calls) bs)
-  -- and the tables are those of which `demands: From-a-start` speaks
-  pub tables-are : {T S : Tables} {calls : List (List ℕ)} → Called T calls S → S ≡ from-start T calls
+  pub refusal-changes-nothing : Refusal-changes-nothing
+  pub refusal-number : Refusal-number
+  pub written-is-read : Written-is-read
+  pub read-is-written : Read-is-written
+  pub answers : Answers
+  pub tables-are : Tables-are

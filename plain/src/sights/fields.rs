@@ -1,11 +1,12 @@
 //! What the fields of a line show: numbers at the ends of their ranges and just past them, and what is no line at all.
 
 use crate::damage;
-use crate::facts::known;
-use crate::form::{form, Form, Kind, RESULT};
+use crate::facts::{known, LOCAL};
+use crate::form::{form, Form, Kind, HANDLE, RESULT};
 use crate::limits::{Field, Handle, MOST_BYTES};
 use crate::line::Event;
 use crate::refusal::{Refusal, MALFORMED, NO_LINE};
+use std::collections::BTreeSet;
 
 pub fn of_read(event: &Event) -> Vec<String> {
     let (letter, numbers) = event.parts().expect("an event that was read");
@@ -41,14 +42,19 @@ pub fn of_unread(line: &[u8], refusal: Refusal) -> Vec<String> {
         Some(form) if !form.counts(fields.len()) => {
             let count = fields.len().min(form.most() + 1);
             let are_numbers = fields.iter().all(|field| field.parse::<Field>().is_ok());
-            vec![format!("2: {letter} with {count}, numbers {are_numbers}")]
+            let out = out(form, fields);
+            vec![format!(
+                "2: {letter} with {count}, numbers {are_numbers}, {out}"
+            )]
         }
-        Some(_) if refusal == MALFORMED => {
+        Some(form) if refusal == MALFORMED => {
+            let out = out(form, fields);
             let malformed = damage::MALFORMED
                 .iter()
                 .filter(|field| fields.contains(field));
             malformed
                 .map(|field| format!("2: field '{field}'"))
+                .chain([format!("2: {letter} malformed, {out}")])
                 .collect()
         }
         Some(form) => out_of_range(form, fields),
@@ -57,6 +63,19 @@ pub fn of_unread(line: &[u8], refusal: Refusal) -> Vec<String> {
         shown.push(format!("{refusal}: a line just as long as may be"));
     }
     shown
+}
+
+/// Whether some number is below its range, and above it; fields past the last are taken for handles.
+fn out(form: &'static Form, fields: &[&str]) -> String {
+    let kinds = form.kinds().chain(std::iter::repeat(HANDLE));
+    let numbers = fields.iter().map(|field| field.parse::<Field>().ok());
+    let numbers: Vec<(Field, Kind)> = numbers
+        .zip(kinds)
+        .filter_map(|(number, kind)| number.map(|number| (number, kind)))
+        .collect();
+    let below = numbers.iter().any(|(number, kind)| *number < kind.0);
+    let above = numbers.iter().any(|(number, kind)| *number > kind.1);
+    format!("below {below}, above {above}")
 }
 
 fn out_of_range(form: &'static Form, fields: &[&str]) -> Vec<String> {
@@ -69,7 +88,9 @@ fn out_of_range(form: &'static Form, fields: &[&str]) -> Vec<String> {
                 format!("3: result, status {}, {class}", letter == 'S')
             }
             [_, _, ref handles @ ..] if form.letter == b'N' => {
-                format!("3: N of another kind, null {}", handles.contains(&0))
+                let kinds = handles.iter().map(|handle| handle % 4);
+                let others: BTreeSet<Field> = kinds.filter(|&kind| kind != LOCAL.into()).collect();
+                format!("3: N names {others:?}, null {}", handles.contains(&0))
             }
             _ => format!("3: {}, each number in its range", form.name()),
         }];

@@ -6,7 +6,7 @@ use crate::lent::pins::BUFFER;
 use crate::lent::references::{self, FRAME, HANDLE};
 use crate::lent::rows::THREAD;
 use crate::lent::Tables;
-use crate::limits::{Handle, Number};
+use crate::limits::{Handle, Number, Word};
 use crate::line::Event;
 use std::collections::BTreeMap;
 
@@ -27,19 +27,29 @@ struct Thread {
     monitors: String,
     /// The lowest first.
     frames: Vec<Frame>,
+    /// How many calls there were, and of each open one which it was and its capacity.
+    calls: usize,
+    open: Vec<(usize, i32)>,
+    /// The handles that its last line ended, by the thread in their row.
+    ended: Vec<(Number, Handle)>,
 }
 
 #[derive(Clone)]
 pub struct Frame {
     pub opened: String,
     pub since: String,
+    capacity: Word,
+    /// What set its capacity.
+    pub capacity_by: String,
 }
 
 impl Frame {
-    fn new(opened: String) -> Frame {
+    fn new(opened: String, capacity: Word, capacity_by: String) -> Frame {
         Frame {
             opened,
             since: String::new(),
+            capacity,
+            capacity_by,
         }
     }
 
@@ -72,6 +82,13 @@ impl Past {
             .map_or(&[], |happened| &happened.frames)
     }
 
+    /// Whether the last line of the thread ended this handle, of its own or of no thread.
+    pub fn has_just_ended(&self, thread: u32, handle: Handle) -> bool {
+        let key = (references::owner(thread, handle), handle);
+        let happened = self.threads.get(&thread);
+        happened.is_some_and(|happened| happened.ended.contains(&key))
+    }
+
     /// Whether some handle has ended.
     pub fn has_ended(&self) -> bool {
         self.handles
@@ -79,14 +96,26 @@ impl Past {
             .any(|happened| happened.starts_with("ended"))
     }
 
-    /// Adds an event over rows that were these, and which has left these tables.
-    pub fn add(&mut self, event: &Event, before: (Vec<Reference>, Vec<Pin>), after: &Tables) {
-        self.add_to_handles(event, &before.0, after);
-        self.add_to_buffers(event, &before.1, &used(&after.pins.rows));
+    /// Adds an event, condemned or not, over rows that were these, and which has left these tables.
+    pub fn add(
+        &mut self,
+        event: &Event,
+        condemned: bool,
+        before: (Vec<Reference>, Vec<Pin>),
+        after: &Tables,
+    ) {
+        self.add_to_handles(event, condemned, &before.0, after);
+        self.add_to_buffers(event, condemned, &before.1, &used(&after.pins.rows));
         self.add_to_thread(event, after);
     }
 
-    fn add_to_handles(&mut self, event: &Event, before: &[Reference], after: &Tables) {
+    fn add_to_handles(
+        &mut self,
+        event: &Event,
+        condemned: bool,
+        before: &[Reference],
+        after: &Tables,
+    ) {
         let own = thread(event);
         let depth = if own == 0 { 0 } else { after.book.frames(own) };
         let happened = self.threads.entry(own).or_default();
@@ -121,11 +150,13 @@ impl Past {
                     .insert(key, format!("not ended by {act}, of its thread {is_own}"));
             }
         }
+        happened.ended.clear();
         for row in before.iter().filter(|row| !after.contains(row)) {
+            happened.ended.push((row[THREAD], row[HANDLE]));
             let above = row[FRAME] as usize > depth + 1;
             self.handles.insert(
                 (row[THREAD], row[HANDLE]),
-                format!("ended by {act}, above {above}"),
+                format!("ended by {act}, above {above}, condemned {condemned}"),
             );
             if let Some(top) = happened.frames.last_mut() {
                 top.since = "one ended".into();
@@ -133,13 +164,15 @@ impl Past {
         }
     }
 
-    fn add_to_buffers(&mut self, event: &Event, before: &[Pin], after: &[Pin]) {
+    fn add_to_buffers(&mut self, event: &Event, condemned: bool, before: &[Pin], after: &[Pin]) {
         let own = Number::from(thread(event));
         for row in before.iter().chain(after) {
             let count = |rows: &[Pin]| rows.iter().filter(|other| *other == row).count();
             let happened = match (count(before), count(after), event) {
                 (was, is, _) if was < is => format!("got, {} before", few(was)),
-                (was, is, _) if was > is => format!("released, {} left", few(is)),
+                (was, is, _) if was > is => {
+                    format!("released, {} left, condemned {condemned}", few(is))
+                }
                 (_, _, Event::X { .. }) if row[THREAD] == own || row[THREAD] == 0 => "X".into(),
                 (_, _, Event::C { places, .. }) if places[1] == row[BUFFER] => {
                     "not released".into()
@@ -158,8 +191,15 @@ impl Past {
         happened.frames.truncate(depth);
         match *event {
             Event::N { .. } => {
+                let capacity = after.book.capacity(own, depth);
                 happened.pending = "by N".into();
-                happened.frames.push(Frame::new("native".into()));
+                happened
+                    .frames
+                    .push(Frame::new("native".into(), capacity, "by N".into()));
+            }
+            Event::C { capacity, .. } => {
+                happened.calls += 1;
+                happened.open.push((happened.calls, capacity));
             }
             Event::R {
                 function,
@@ -174,19 +214,36 @@ impl Past {
                 };
                 happened.pending = format!("by R {pending}{clears}");
                 let status = format!("{function} {}", result.signum());
+                let (call, asked) = happened.open.pop().expect("an open call");
+                let asked = format!(
+                    "{function} of {}, last called {}",
+                    asked.signum(),
+                    call == happened.calls
+                );
                 match (function, happened.frames.last_mut()) {
                     (MONITOR_ENTER | MONITOR_EXIT, _) => happened.monitors = status,
                     (PUSH_LOCAL_FRAME, _) if result == 0 => {
-                        let capacity = few(after.book.capacity(own, depth) as usize);
-                        happened
-                            .frames
-                            .push(Frame::new(format!("pushed of {capacity}")));
+                        let capacity = after.book.capacity(own, depth);
+                        let opened = format!("pushed of {}", few(capacity as usize));
+                        let by = format!("by {asked}");
+                        happened.frames.push(Frame::new(opened, capacity, by));
+                    }
+                    (ENSURE_LOCAL_CAPACITY, Some(top)) if result == 0 => {
+                        let capacity = after.book.capacity(own, depth);
+                        let is_held = after.references.locals_alive_in(own, depth) > 0;
+                        top.capacity_by = if capacity > top.capacity {
+                            format!("by {asked}, some held {is_held}")
+                        } else {
+                            format!("kept by {asked}")
+                        };
+                        top.capacity = capacity;
+                        top.since = status;
                     }
                     (PUSH_LOCAL_FRAME | ENSURE_LOCAL_CAPACITY, Some(top)) => top.since = status,
                     _ => {}
                 }
             }
-            Event::X { .. } | Event::C { .. } | Event::Z => {}
+            Event::X { .. } | Event::Z => {}
         }
         if let (true, Some(top)) = (is_uncovered, happened.frames.last_mut()) {
             top.since = format!("uncovered by {}", letter(event));

@@ -37,7 +37,7 @@ fn every_refusal_rule_place_and_function_comes_up() {
 fn the_walk_shows_what_each_function_takes_and_gives_and_what_it_does_not() {
     let (mut closed, mut refused) = (0, 0);
     let of_functions =
-        |made: &Made| !["letter", "digit"].contains(&made.name.split(' ').next().unwrap());
+        |made: &Made| ["function", "release"].contains(&made.name.split(' ').next().unwrap());
     for made in walk().into_iter().filter(of_functions) {
         let report = report(&made.trace, made.reference_rows, made.pin_rows);
         let report = String::from_utf8(report).unwrap();
@@ -76,6 +76,17 @@ fn each_release_ends_the_buffer_of_its_family_alone() {
 }
 
 #[test]
+fn the_walk_goes_as_deep_as_a_thread_may_and_one_deeper() {
+    let walk = walk();
+    let deep = walk.iter().filter(|made| made.name.starts_with("deep "));
+    let reports = deep.map(|made| report(&made.trace, made.reference_rows, made.pin_rows));
+    let pushed = 1 + 63 * 2;
+    let lines = [64, pushed + 1, pushed + 1];
+    let expected = lines.map(|lines| format!("end\trefused\t{lines}\t7\t0\n").into_bytes());
+    assert_eq!(reports.collect::<Vec<_>>(), expected);
+}
+
+#[test]
 fn the_chosen_traces_show_all_that_the_candidates_show() {
     let shown = |traces: &[Made]| -> BTreeSet<String> {
         let sights = |made: &Made| sights(&made.trace, made.reference_rows, made.pin_rows);
@@ -85,7 +96,7 @@ fn the_chosen_traces_show_all_that_the_candidates_show() {
     assert_eq!(shown(&chosen), shown(&candidates));
     assert!(chosen.len() * 20 < candidates.len(), "{}", chosen.len());
     let lines: usize = chosen.iter().map(|made| made.lines().count()).sum();
-    assert!(lines < 3_000, "{lines}");
+    assert!(lines < 5_000, "{lines}");
 }
 
 #[test]
@@ -103,9 +114,12 @@ fn a_sight_tells_what_came_before_a_judgement() {
     let sights = sights(&trace(&pushed), REFERENCE_ROWS, PIN_ROWS);
     for sight in [
         "R: over false, pushed of one",
+        "R: over false, capacity by 19 of 1, last called true",
+        "R makes never made, just now false, elsewhere false",
         "20: pushed of one, of more frames",
+        "20: pushed true, below Some(false)",
         "local alive true, not ended by 20, of its thread true, elsewhere false",
-        "local alive false, ended by 20, above false, elsewhere false",
+        "local alive false, ended by 20, above false, condemned false, elsewhere false",
     ] {
         assert!(sights.contains(sight), "{sight}: {sights:#?}");
     }

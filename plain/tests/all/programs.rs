@@ -154,7 +154,7 @@ fn compare_finds_no_difference_from_itself() {
             &["--seed", "9", "--count", "34"][..],
             "compared 34 traces, ",
         ),
-        (&["--walk"], "compared 2099 traces, "),
+        (&["--walk"], "compared 2363 traces, "),
     ] {
         let output = run(COMPARE, &[options, &["--", PLAIN]].concat());
         let printed = String::from_utf8(output.stdout).unwrap();
