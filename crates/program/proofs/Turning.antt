@@ -1,7 +1,7 @@
 -- A turn: what it prints, and the run after it. Assumes nothing.
 use Prim.Native.Nat.{ℕ, _+_, _≤_}
 use mathlib.Core.Path.{_≡_, refl, sym, ap, subst, _∙_}
-use mathlib.Core.Bool.{Bool, true, false, false≢true}
+use mathlib.Core.Bool.{Bool, true, false, false≢true, or-true}
 use mathlib.Core.List.{List}
 use native.Mathlib.Omega.{arith}
 use Rattle.run.specs.declared.Passed.{Passed}
@@ -20,7 +20,7 @@ wrote {q} s n h e good = go (h .answer) (h .after)
   where
     go : (written : Bool) → q ≡ with-printed s n written → q ≡ with-printed s n true
     go true a = a
-    go false a = absurd (false≢true (sym good ∙ e ∙ ap (λ (x : Streams). x .unwritable) a))
+    go false a = absurd (false≢true (sym good ∙ e ∙ ap (λ (x : Streams). x .unwritable) a ∙ or-true (s .unwritable)))
 
 module _ {r : Run} {p : Passed} {out : List ℕ} {s : Streams} (f : Fits r p out) (is : s ≡ with-printed (r .streams) (p .put) true) where
   pub passed : Passes-on r p (record { from = r .from + p .taken; to = r .to; streams = s; findings = r .findings + p .findings; refusal = r .refusal; stop = r .stop })

@@ -1,7 +1,7 @@
 -- What is due on standard output: the report of what was read, from where the last write left off. Assumes nothing.
 use Prim.Native.Nat.{ℕ, _+_}
 use mathlib.Core.Path.{_≡_}
-use mathlib.Core.Bool.{Bool, true, false, not}
+use mathlib.Core.Bool.{Bool, true, false, not, _||_}
 use mathlib.Core.List.{List, [], _++_}
 use lib.Dec.{eqb}
 use lib.IntN.{ℤ, pos, negsuc}
@@ -55,9 +55,9 @@ pub record Has-read (s : Streams) (room : ℕ) (q : Streams) : Type 0 where
   pub moved : Moved room answer
   pub after : q ≡ with-read s answer
 
--- after an answer of `write_all`: whether all of so many bytes were written
+-- after an answer of `write_all`: whether all of so many bytes were written. A write that failed is not forgotten
 abbrev pub with-printed : Streams → ℕ → Bool → Streams
-with-printed s n written = record { read = s .read; ended = s .ended; unreadable = s .unreadable; printed = s .printed + n; unwritable = not written }
+with-printed s n written = record { read = s .read; ended = s .ended; unreadable = s .unreadable; printed = s .printed + n; unwritable = s .unwritable || not written }
 
 -- after some answer
 pub record Has-printed (s : Streams) (n : ℕ) (q : Streams) : Type 0 where

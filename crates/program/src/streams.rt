@@ -97,7 +97,7 @@ fn after_write(streams: Streams, n: usize, written: bool) -> Streams
 {
     let mut next = streams;
     next.printed = streams.printed + n;
-    next.unwritable = !written;
+    next.unwritable = streams.unwritable | !written;
     next
 }
 
