@@ -3,17 +3,19 @@
 mod streams; // streams.rt: standard input and standard output
 
 use libc::STDERR_FILENO;
+use libc::STDIN_FILENO;
+use libc::STDOUT_FILENO;
 use run::Passed;
 use run::Stop;
 use streams::Streams;
 ghost use mathlib.Core.Path.{_≡_};
-ghost use Prim.Native.Nat.{_≤_};
-ghost use lib.ListN.{length};
+ghost use Prim.Native.Nat.{_-_, _≤_, _<_};
+ghost use lib.ListN.{length, take};
 ghost use Rattle.numbers.specs.Writing.{put};
 ghost use Rattle.history.specs.Replies.{most-lines};
 ghost use Rattle.book.specs.Threads.{lines-in};
-ghost use Rattle.program.specs.Printing.{Newest, Reported};
-ghost use Rattle.program.specs.Progress.{buffer-size, most-findings};
+ghost use Rattle.program.specs.Printing.{Newest, Due, Has-read, Has-printed, Reported};
+ghost use Rattle.program.specs.Progress.{buffer-size, most-findings, Few};
 ghost use Rattle.program.specs.Running.{Unread, More-read, Fits, Turned, last-line, Finished};
 
 // The program lends so many reference and pin rows.
@@ -58,6 +60,22 @@ fn stopped(run: Run, stop: u8) -> Run
     next
 }
 
+// Reads behind the first bytes of a buffer.
+fn read_behind(streams: Streams, moved: &mut usize, buf: &mut [u8], rest: usize) -> Streams
+    requires { ⌜ Newest streams (now moved) × (length (now buf) ≡ buffer-size) × (rest < buffer-size) × Few streams 0 ⌝ }
+    ensures { λ q. ⌜ Has-read streams (buffer-size - rest) q × Newest q (now (moved .exit)) × (take rest (now (buf .exit)) ≡ take rest (now (buf .entry))) ⌝ }
+{
+    streams::take_in(streams, moved, STDIN_FILENO, &mut buf[rest..])
+}
+
+// Prints the first bytes of a buffer.
+fn print(streams: Streams, moved: &mut usize, out: &[u8], n: usize) -> Streams
+    requires { ⌜ Newest streams (now moved) × (n ≤ length (now out)) × Due streams (take n (now out)) × Few streams n ⌝ }
+    ensures { λ q. ⌜ Has-printed streams n q × Newest q (now (moved .exit)) ⌝ }
+{
+    streams::hand_over(streams, moved, STDOUT_FILENO, &out[..n])
+}
+
 // Moves the unread bytes to the front and reads behind them.
 fn read_more(run: Run, moved: &mut usize, buf: &mut [u8]) -> Run
     requires { ⌜ (length (now buf) ≡ buffer-size) × Unread run × Newest (run .streams) (now moved) ⌝ }
@@ -66,7 +84,7 @@ fn read_more(run: Run, moved: &mut usize, buf: &mut [u8]) -> Run
     let rest = run.to - run.from;
     pieces::shift(buf, run.from, run.to);
     let before = run.streams;
-    let streams = streams::read_behind(before, moved, buf, rest);
+    let streams = read_behind(before, moved, buf, rest);
     let mut next = run;
     next.streams = streams;
     if streams::is_unreadable(streams) {
@@ -83,7 +101,7 @@ fn turned(run: Run, passed: Passed, moved: &mut usize, buf: &mut [u8], out: &[u8
     ensures { λ q. ⌜ Turned run passed (now (buf .entry)) q (now (buf .exit)) × Newest (q .streams) (now (moved .exit)) ⌝ }
 {
     let before = run.streams;
-    let streams = streams::print(before, moved, out, passed.put);
+    let streams = print(before, moved, out, passed.put);
     let mut next = run;
     next.from = run.from + passed.taken;
     next.streams = streams;
@@ -131,7 +149,7 @@ fn finish(
         return streams;
     }
     let n = put_last(run, book, out);
-    streams::print(streams, moved, out, n)
+    print(streams, moved, out, n)
 }
 
 // Judges the input until a line is refused, it is at its end or a call fails, and prints the report. On an input without end it stops too: see specs/Progress.antt.

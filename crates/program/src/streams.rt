@@ -1,16 +1,14 @@
-// Standard input and standard output: how much has gone through them. The numbers of `Streams` are changed here alone; `moved` is a sum of them that is kept apart, by which
-// no `Streams` but the last are taken.
-use libc::STDIN_FILENO;
-use libc::STDOUT_FILENO;
+// Standard input and standard output: how much has gone through them. The numbers of `Streams` are changed here alone, by calls of `read` and `write`; `moved`, a sum of them
+// that is kept apart, shuts out `Streams` of before the last call.
 ghost use mathlib.Core.Path.{_≡_};
-ghost use Prim.Native.Nat.{_-_, _≤_, _<_};
-ghost use lib.ListN.{length, take};
+ghost use Prim.Native.Nat.{_≤_, _<_};
+ghost use lib.ListN.{length};
 ghost use Rattle.libc.specs.Io.{Moved};
 ghost use Rattle.program.specs.Progress.{buffer-size, Few};
 ghost use Rattle.program.specs.Printing.{standard-input, standard-output, nothing-yet, Newest, Due, with-read, Has-read, with-printed, Has-printed};
 
 // How many bytes were read, whether the input has ended behind them, whether a read failed, how many bytes were printed and whether a write failed.
-pub struct Streams {
+pub(crate) struct Streams {
     read: usize,
     ended: bool,
     unreadable: bool,
@@ -19,7 +17,7 @@ pub struct Streams {
 }
 
 // Nothing has gone through them.
-pub fn untouched() -> Streams
+pub(crate) fn untouched() -> Streams
     ensures { λ q. ⌜ q ≡ nothing-yet ⌝ }
 {
     Streams {
@@ -31,25 +29,25 @@ pub fn untouched() -> Streams
     }
 }
 
-pub fn bytes_read(streams: Streams) -> usize
+pub(crate) fn bytes_read(streams: Streams) -> usize
     ensures { λ r. ⌜ r ≡ streams .read ⌝ }
 {
     streams.read
 }
 
-pub fn has_ended(streams: Streams) -> bool
+pub(crate) fn has_ended(streams: Streams) -> bool
     ensures { λ r. ⌜ r ≡ streams .ended ⌝ }
 {
     streams.ended
 }
 
-pub fn is_unreadable(streams: Streams) -> bool
+pub(crate) fn is_unreadable(streams: Streams) -> bool
     ensures { λ r. ⌜ r ≡ streams .unreadable ⌝ }
 {
     streams.unreadable
 }
 
-pub fn is_unwritable(streams: Streams) -> bool
+pub(crate) fn is_unwritable(streams: Streams) -> bool
     ensures { λ r. ⌜ r ≡ streams .unwritable ⌝ }
 {
     streams.unwritable
@@ -72,7 +70,7 @@ fn after_read(streams: Streams, got: isize) -> Streams
 }
 
 // Takes bytes in, of standard input, where there is room for some.
-fn take_in(streams: Streams, moved: &mut usize, file: i32, bytes: &mut [u8]) -> Streams
+pub(crate) fn take_in(streams: Streams, moved: &mut usize, file: i32, bytes: &mut [u8]) -> Streams
     requires { ⌜ (file ≡ standard-input) × Newest streams (now moved) × (0 < length (now bytes)) × (length (now bytes) ≤ buffer-size) × Few streams 0 ⌝ }
     ensures { λ q. ⌜ Has-read streams (length (now (bytes .entry))) q × Newest q (now (moved .exit)) ⌝ }
 {
@@ -80,14 +78,6 @@ fn take_in(streams: Streams, moved: &mut usize, file: i32, bytes: &mut [u8]) -> 
     let next = after_read(streams, got);
     *moved = next.read + next.printed;
     next
-}
-
-// Reads behind the first bytes of a buffer.
-pub fn read_behind(streams: Streams, moved: &mut usize, buf: &mut [u8], rest: usize) -> Streams
-    requires { ⌜ Newest streams (now moved) × (length (now buf) ≡ buffer-size) × (rest < buffer-size) × Few streams 0 ⌝ }
-    ensures { λ q. ⌜ Has-read streams (buffer-size - rest) q × Newest q (now (moved .exit)) × (take rest (now (buf .exit)) ≡ take rest (now (buf .entry))) ⌝ }
-{
-    take_in(streams, moved, STDIN_FILENO, &mut buf[rest..])
 }
 
 // After a write of so many bytes that answered so.
@@ -102,7 +92,7 @@ fn after_write(streams: Streams, n: usize, written: bool) -> Streams
 }
 
 // Hands bytes over to standard output: those of the report that come next.
-fn hand_over(streams: Streams, moved: &mut usize, file: i32, bytes: &[u8]) -> Streams
+pub(crate) fn hand_over(streams: Streams, moved: &mut usize, file: i32, bytes: &[u8]) -> Streams
     requires { ⌜ (file ≡ standard-output) × Newest streams (now moved) × Due streams (now bytes) × Few streams (length (now bytes)) ⌝ }
     ensures { λ q. ⌜ Has-printed streams (length (now (bytes .entry))) q × Newest q (now (moved .exit)) ⌝ }
 {
@@ -110,12 +100,4 @@ fn hand_over(streams: Streams, moved: &mut usize, file: i32, bytes: &[u8]) -> St
     let next = after_write(streams, bytes.len(), written);
     *moved = next.read + next.printed;
     next
-}
-
-// Prints the first bytes of a buffer.
-pub fn print(streams: Streams, moved: &mut usize, out: &[u8], n: usize) -> Streams
-    requires { ⌜ Newest streams (now moved) × (n ≤ length (now out)) × Due streams (take n (now out)) × Few streams n ⌝ }
-    ensures { λ q. ⌜ Has-printed streams n q × Newest q (now (moved .exit)) ⌝ }
-{
-    hand_over(streams, moved, STDOUT_FILENO, &out[..n])
 }

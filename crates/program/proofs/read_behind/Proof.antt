@@ -1,11 +1,11 @@
--- `program::streams::read_behind` meets its contract. Assumes nothing.
+-- `program::read_behind` meets its contract. Assumes nothing.
 use Prim.Native.Nat.{_-_}
 use lib.ListN.{length}
 use borrow.Rule.Slice.PartMut.{take-put}
 use borrow.Author.Needs.{needs}
 use Rattle.program.proofs.Answered.{part-read}
-use Rattle.program.proofs.streams.read_behind.Statement.{statement}
-use Rattle.program.proofs.streams.read_behind.Tie as tie
+use Rattle.program.proofs.read_behind.Statement.{statement}
+use Rattle.program.proofs.read_behind.Tie as tie
 
 pub read-behind-spec : {M : Type 1} → statement M
 read-behind-spec =

@@ -1,11 +1,11 @@
--- `program::streams::print` meets its contract. Assumes nothing.
+-- `program::print` meets its contract. Assumes nothing.
 use Prim.Native.Nat.{ℕ}
 use mathlib.Core.Path.{refl, sym, subst}
 use lib.Seq.{length-take-le}
 use Rattle.program.specs.Progress.{Few}
 use Rattle.program.specs.Printing.{Has-printed}
-use Rattle.program.proofs.streams.print.Statement.{statement}
-use Rattle.program.proofs.streams.print.Tie as tie
+use Rattle.program.proofs.print.Statement.{statement}
+use Rattle.program.proofs.print.Tie as tie
 
 pub print-spec : {M : Type 1} → statement M
 print-spec =
