@@ -119,10 +119,10 @@ if-same : {A : Type 0} (d : Bool) (x y z : A) → (d ≡ true → x ≡ y) → (
 if-same true x y z h = h refl
 if-same false x y z h = refl
 
-called-acts : (T : Tables) (t env f a b c : ℕ) (n : ℤ) (m x y : ℕ) → (is-delete f a ≡ true → x ≡ found references (is-handle (delete-owner f t) a) (T .references))
-    → (is-buffer-place (fact-of f .b) ≡ true → y ≡ found pins (is-buffer (pin-owner f t) (family f) b) (T .pins)) → called T t f a x (fact-of f .b) y ≡ acted (C t env f a b c n) m T
+called-acts : (T : Tables) (t env f a b c : ℕ) (n : ℤ) (line m x y : ℕ) → (is-delete f a ≡ true → x ≡ found references (is-handle (delete-owner f t) a) (T .references))
+    → (is-buffer-place (fact-of f .b) ≡ true → y ≡ found pins (is-buffer (pin-owner f t) (family f) b) (T .pins)) → called T t f a x (fact-of f .b) y ≡ acted line (C t env f a b c n) m T
 unfolding called acted references-after pins-after book-after called-references deleted top-ended released called-book popped first-ended
-called-acts T t env f a b c n m x y hx hy =
+called-acts T t env f a b c n line m x y hx hy =
     let rows : (if eqb f PopLocalFrame && top-pushed (thread-in (T .book) t .frames) then
     ended-all references (from-frame t (length (thread-in (T .book) t .frames))) (if is-delete f a then ended references (T .references) x else T .references)
     else if is-delete f a then ended references (T .references) x
@@ -148,6 +148,6 @@ called-acts T t env f a b c n m x y hx hy =
     λ i. record { references = rows i; pins = buffers i; book = called-book (T .book) t f }
 
 -- where the rows and the place told are those that an accepted C looks at
-pub called-is-acted : (T : Tables) (t env f a b c : ℕ) (n : ℤ) (m x : ℕ) (p : Place) (y : ℕ) → (is-delete f a ≡ true → x ≡ found references (is-handle (delete-owner f t) a) (T .references))
-    → p ≡ fact-of f .b → (is-buffer-place (fact-of f .b) ≡ true → y ≡ found pins (is-buffer (pin-owner f t) (family f) b) (T .pins)) → called T t f a x p y ≡ acted (C t env f a b c n) m T
-called-is-acted T t env f a b c n m x p y hx e hy = ap (λ (q : Place). called T t f a x q y) e ∙ called-acts T t env f a b c n m x y hx hy
+pub called-is-acted : (T : Tables) (t env f a b c : ℕ) (n : ℤ) (line m x : ℕ) (p : Place) (y : ℕ) → (is-delete f a ≡ true → x ≡ found references (is-handle (delete-owner f t) a) (T .references))
+    → p ≡ fact-of f .b → (is-buffer-place (fact-of f .b) ≡ true → y ≡ found pins (is-buffer (pin-owner f t) (family f) b) (T .pins)) → called T t f a x p y ≡ acted line (C t env f a b c n) m T
+called-is-acted T t env f a b c n line m x p y hx e hy = ap (λ (q : Place). called T t f a x q y) e ∙ called-acts T t env f a b c n line m x y hx hy

@@ -34,12 +34,12 @@ use Rattle.act.proofs.Choosing.{chosen, passed-over}
 
 -- ---- a handle
 
-module _ (k : Result) (t d h : ℕ) (y : Bool) (e : y ≡ is-local-result k) where
-  pub local-row : y ≡ true → record { thread = t; handle = h; frame = d } ≡ result-row k t d h
+module _ (line : ℕ) (k : Result) (t d h : ℕ) (y : Bool) (e : y ≡ is-local-result k) where
+  pub local-row : y ≡ true → record { thread = t; handle = h; frame = d; line = line } ≡ result-row line k t d h
   unfolding result-row
   local-row q = rw (sym e ∙ q) refl
 
-  pub shared-row : y ≡ false → record { thread = 0; handle = h; frame = 0 } ≡ result-row k t d h
+  pub shared-row : y ≡ false → record { thread = 0; handle = h; frame = 0; line = line } ≡ result-row line k t d h
   unfolding result-row
   shared-row q = rw (sym e ∙ q) refl
 
@@ -47,28 +47,28 @@ module _ (k : Result) (t d h : ℕ) (y : Bool) (e : y ≡ is-local-result k) whe
 not-null : (x y : Bool) (h : ℕ) (b : Bool) → x ≡ y → (x && not (eqb h 0)) ≡ b → (y && not (eqb h 0)) ≡ b
 not-null x y h b e q = sym (ap (λ (z : Bool). z && not (eqb h 0)) e) ∙ q
 
-module _ (T : Table) (k : Result) (t d h row : ℕ) (y : Bool) (e : y ≡ is-handle-result k) where
-  pub handle-stored : (T' : Table) (x : Reference) → (y && not (eqb h 0)) ≡ true → x ≡ result-row k t d h → T' ≡ stored references T row x → T' ≡ made T k t d h row
+module _ (T : Table) (line : ℕ) (k : Result) (t d h row : ℕ) (y : Bool) (e : y ≡ is-handle-result k) where
+  pub handle-stored : (T' : Table) (x : Reference) → (y && not (eqb h 0)) ≡ true → x ≡ result-row line k t d h → T' ≡ stored references T row x → T' ≡ made T line k t d h row
   unfolding made
   handle-stored T' x q ex s = rw (not-null y (is-handle-result k) h true e q) (s ∙ ap (stored references T row) ex)
 
-  pub no-handle-stored : (y && not (eqb h 0)) ≡ false → T ≡ made T k t d h row
+  pub no-handle-stored : (y && not (eqb h 0)) ≡ false → T ≡ made T line k t d h row
   unfolding made
   no-handle-stored q = rw (not-null y (is-handle-result k) h false e q) refl
 
 -- ---- a buffer
 
-module _ (P : Table) (k : Result) (t f h row : ℕ) (y : Bool) (e : y ≡ is-buffer-result k) where
+module _ (P : Table) (line : ℕ) (k : Result) (t f h row : ℕ) (y : Bool) (e : y ≡ is-buffer-result k) where
   pub buffer-stored : (P' : Table) (j o : ℕ) → (y && not (eqb h 0)) ≡ true → j ≡ family f → o ≡ (if is-critical j then t else 0)
-      → P' ≡ stored pins P row (record { thread = o; family = j; buffer = h }) → P' ≡ got P k t f h row
+      → P' ≡ stored pins P row (record { thread = o; family = j; buffer = h; line = line }) → P' ≡ got P line k t f h row
   unfolding got
   buffer-stored P' j o q ej eo es =
       rw (not-null y (is-buffer-result k) h true e q)
       (es
-      ∙ ap (λ (s : ℕ). stored pins P row (record { thread = s; family = j; buffer = h })) eo
-      ∙ ap (λ (i : ℕ). stored pins P row (record { thread = if is-critical i then t else 0; family = i; buffer = h })) ej)
+      ∙ ap (λ (s : ℕ). stored pins P row (record { thread = s; family = j; buffer = h; line = line })) eo
+      ∙ ap (λ (i : ℕ). stored pins P row (record { thread = if is-critical i then t else 0; family = i; buffer = h; line = line })) ej)
 
-  pub no-buffer-stored : (y && not (eqb h 0)) ≡ false → P ≡ got P k t f h row
+  pub no-buffer-stored : (y && not (eqb h 0)) ≡ false → P ≡ got P line k t f h row
   unfolding got
   no-buffer-stored q = rw (not-null y (is-buffer-result k) h false e q) refl
 
@@ -123,13 +123,13 @@ module _ (T : Table) (b : List ℕ) (t f n : ℕ) (s : ℤ) where
 
 -- ---- the tables
 
-pub all-returned : (rs ms ps ns b rs' ms' ps' ns' b' : List ℕ) (k : Result) (row t f h p n d : ℕ) (s z : ℤ) → d ≡ length (thread-in b t .frames)
-    → z ≡ s → b' ≡ returned-book (table rs ms) b t f z p n → table rs' ms' ≡ made (table rs ms) k t d h row → table ps' ns' ≡ got (table ps ns) k t f h row
-    → tables rs' ms' ps' ns' b' ≡ returned (tables rs ms ps ns b) k row t f h s p n
+pub all-returned : (rs ms ps ns b rs' ms' ps' ns' b' : List ℕ) (line : ℕ) (k : Result) (row t f h p n d : ℕ) (s z : ℤ) → d ≡ length (thread-in b t .frames)
+    → z ≡ s → b' ≡ returned-book (table rs ms) b t f z p n → table rs' ms' ≡ made (table rs ms) line k t d h row → table ps' ns' ≡ got (table ps ns) line k t f h row
+    → tables rs' ms' ps' ns' b' ≡ returned (tables rs ms ps ns b) line k row t f h s p n
 unfolding returned
-all-returned rs ms ps ns b rs' ms' ps' ns' b' k row t f h p n d s z ed ez eb er ep =
-    let rows : table rs' ms' ≡ made (table rs ms) k t (length (thread-in b t .frames)) h row =
-    er ∙ ap (λ (j : ℕ). made (table rs ms) k t j h row) ed
+all-returned rs ms ps ns b rs' ms' ps' ns' b' line k row t f h p n d s z ed ez eb er ep =
+    let rows : table rs' ms' ≡ made (table rs ms) line k t (length (thread-in b t .frames)) h row =
+    er ∙ ap (λ (j : ℕ). made (table rs ms) line k t j h row) ed
     in
     let book : b' ≡ returned-book (table rs ms) b t f s p n = eb ∙ ap (λ (y : ℤ). returned-book (table rs ms) b t f y p n) ez
     in
@@ -137,22 +137,22 @@ all-returned rs ms ps ns b rs' ms' ps' ns' b' k row t f h p n d s z ed ez eb er 
 
 -- ---- it is what an accepted R leaves
 
-module _ (T : Table) (row : ℕ) where
+module _ (T : Table) (line row : ℕ) where
   one-made : (null : Bool) (x : Alive) → (not null ≡ true → row ≡ free-row references T)
-      → (if not null then stored references T row (reference-of x) else T) ≡ all-taken references T (map reference-of (if null then [] else x ∷ []))
+      → (if not null then stored references T row (reference-of line x) else T) ≡ all-taken references T (map (reference-of line) (if null then [] else x ∷ []))
   unfolding all-taken taken
   one-made true x e = refl
-  one-made false x e = ap (λ (r : ℕ). stored references T r (reference-of x)) (e refl)
+  one-made false x e = ap (λ (r : ℕ). stored references T r (reference-of line x)) (e refl)
 
-  none-made : (null : Bool) → T ≡ all-taken references T (map reference-of (if null then [] else []))
+  none-made : (null : Bool) → T ≡ all-taken references T (map (reference-of line) (if null then [] else []))
   unfolding all-taken
   none-made true = refl
   none-made false = refl
 
   made-result : (k : Result) (t d h : ℕ) (s : ℤ) → ((is-handle-result k && not (eqb h 0)) ≡ true → row ≡ free-row references T)
-      → (if is-handle-result k && not (eqb h 0) then stored references T row (result-row k t d h) else T)
+      → (if is-handle-result k && not (eqb h 0) then stored references T row (result-row line k t d h) else T)
       ≡ all-taken references T
-      (map reference-of (if eqb (above-zero (if is-status k then s else pos h)) 0 then [] else result-made k t d (above-zero (if is-status k then s else pos h))))
+      (map (reference-of line) (if eqb (above-zero (if is-status k then s else pos h)) 0 then [] else result-made k t d (above-zero (if is-status k then s else pos h))))
   unfolding result-row
   made-result Result.Local t d h s e = one-made (eqb h 0) (local t d h) e
   made-result Result.Global t d h s e = one-made (eqb h 0) (shared h) e
@@ -162,26 +162,26 @@ module _ (T : Table) (row : ℕ) where
   made-result Result.Status t d h s e = none-made (eqb (above-zero s) 0)
   made-result Result.Nothing t d h s e = none-made (eqb h 0)
 
-row-of-pin : (t f h : ℕ) → record { thread = pin-owner f t; family = family f; buffer = h } ≡ pin-row-of (pin t f h)
+row-of-pin : (line t f h : ℕ) → record { thread = pin-owner f t; family = family f; buffer = h; line = line } ≡ pin-row-of line (pin t f h)
 unfolding pin
-row-of-pin t f h = go (is-critical (family f))
+row-of-pin line t f h = go (is-critical (family f))
   where
-    go : (o : Bool) → record { thread = if o then t else 0; family = family f; buffer = h } ≡ pin-row-of (if o then critical t (family f) h else ordinary (family f) h)
+    go : (o : Bool) → record { thread = if o then t else 0; family = family f; buffer = h; line = line } ≡ pin-row-of line (if o then critical t (family f) h else ordinary (family f) h)
     go true = refl
     go false = refl
 
-module _ (P : Table) (row t f h : ℕ) where
+module _ (P : Table) (line row t f h : ℕ) where
   one-got : (null : Bool) → (not null ≡ true → row ≡ free-row pins P)
-      → (if not null then stored pins P row (record { thread = pin-owner f t; family = family f; buffer = h }) else P)
-      ≡ all-taken pins P (map pin-row-of (if not null then pin t f h ∷ [] else []))
+      → (if not null then stored pins P row (record { thread = pin-owner f t; family = family f; buffer = h; line = line }) else P)
+      ≡ all-taken pins P (map (pin-row-of line) (if not null then pin t f h ∷ [] else []))
   unfolding all-taken taken
   one-got true e = refl
-  one-got false e = ap₂ (stored pins P) (e refl) (row-of-pin t f h)
+  one-got false e = ap₂ (stored pins P) (e refl) (row-of-pin line t f h)
 
   got-result : (k : Result) (s : ℤ) → ((is-buffer-result k && not (eqb h 0)) ≡ true → row ≡ free-row pins P)
-      → (if is-buffer-result k && not (eqb h 0) then stored pins P row (record { thread = pin-owner f t; family = family f; buffer = h }) else P)
+      → (if is-buffer-result k && not (eqb h 0) then stored pins P row (record { thread = pin-owner f t; family = family f; buffer = h; line = line }) else P)
       ≡ all-taken pins P
-      (map pin-row-of
+      (map (pin-row-of line)
       (if is-buffer-result k && not (eqb (above-zero (if is-status k then s else pos h)) 0) then pin t f (above-zero (if is-status k then s else pos h)) ∷ [] else []))
   unfolding all-taken
   got-result Result.Buffer s e = one-got (eqb h 0) e
@@ -220,19 +220,19 @@ same-book false h s b b' e = both-ways (is-zero s) ∙ sym (both-ways (eqb h 0))
     both-ways false = refl
 
 -- where the row is the lowest free one of the table that gets the result
-pub returned-is-acted : (T : Tables) (row t f h : ℕ) (s : ℤ) (p n : ℕ)
+pub returned-is-acted : (T : Tables) (line row t f h : ℕ) (s : ℤ) (p n : ℕ)
     → ((is-handle-result (fact-of f .result) && not (eqb h 0)) ≡ true → row ≡ free-row references (T .references))
     → ((is-buffer-result (fact-of f .result) && not (eqb h 0)) ≡ true → row ≡ free-row pins (T .pins))
-    → returned T (fact-of f .result) row t f h s p n ≡ acted (R t f (result-in-line f h s) p) n T
+    → returned T line (fact-of f .result) row t f h s p n ≡ acted line (R t f (result-in-line f h s) p) n T
 unfolding returned made got returned-book status-taken held acted references-after pins-after book-after made-by makes gets seen-in
-returned-is-acted T row t f h s p n er ep =
+returned-is-acted T line row t f h s p n er ep =
     let depth : ℕ = length (thread-in (T .book) t .frames)
     in
-    let rows : made (T .references) (fact-of f .result) t depth h row ≡ references-after (R t f (result-in-line f h s) p) T =
-    made-result (T .references) row (fact-of f .result) t depth h s er
+    let rows : made (T .references) line (fact-of f .result) t depth h row ≡ references-after line (R t f (result-in-line f h s) p) T =
+    made-result (T .references) line row (fact-of f .result) t depth h s er
     in
-    let buffers : got (T .pins) (fact-of f .result) t f h row ≡ pins-after (R t f (result-in-line f h s) p) T =
-    got-result (T .pins) row t f h (fact-of f .result) s ep
+    let buffers : got (T .pins) line (fact-of f .result) t f h row ≡ pins-after line (R t f (result-in-line f h s) p) T =
+    got-result (T .pins) line row t f h (fact-of f .result) s ep
     in
     let book : returned-book (T .references) (T .book) t f s p n ≡ line-counted (book-after (R t f (result-in-line f h s) p) n T) =
     ap

@@ -43,20 +43,20 @@ book-left b b1 b2 t e1 e2 = e2 ∙ ap line-counted e1
 
 -- ---- the tables
 
-module _ (rs ms ps ns b rs' ms' b' : List ℕ) (n : ℕ) where
-  pub entered : (t env d : ℕ) (hs : List ℕ) → d ≡ length (thread-in b t .frames) → table rs' ms' ≡ all-taken references (table rs ms) (locals t (d + 1) hs)
-      → b' ≡ entered-book b t env → tables rs' ms' ps ns b' ≡ acted (N t env hs) n (tables rs ms ps ns b)
+module _ (rs ms ps ns b rs' ms' b' : List ℕ) (line n : ℕ) where
+  pub entered : (t env d : ℕ) (hs : List ℕ) → d ≡ length (thread-in b t .frames) → table rs' ms' ≡ all-taken references (table rs ms) (locals line t (d + 1) hs)
+      → b' ≡ entered-book b t env → tables rs' ms' ps ns b' ≡ acted line (N t env hs) n (tables rs ms ps ns b)
   unfolding acted references-after pins-after book-after made-by makes gets all-taken seen-in entered-book
   entered t env d hs ed er eb =
-      let rows : table rs' ms' ≡ all-taken references (table rs ms) (map reference-of (map (local t (suc (length (thread-in b t .frames)))) hs)) =
+      let rows : table rs' ms' ≡ all-taken references (table rs ms) (map (reference-of line) (map (local t (suc (length (thread-in b t .frames)))) hs)) =
       er
-      ∙ ap (λ (k : ℕ). all-taken references (table rs ms) (locals t k hs)) (add-one d ∙ ap suc ed)
-      ∙ ap (all-taken references (table rs ms)) (rows-of-locals t (suc (length (thread-in b t .frames))) hs)
+      ∙ ap (λ (k : ℕ). all-taken references (table rs ms) (locals line t k hs)) (add-one d ∙ ap suc ed)
+      ∙ ap (all-taken references (table rs ms)) (rows-of-locals line t (suc (length (thread-in b t .frames))) hs)
       in
       λ i. record { references = rows i; pins = table ps ns; book = eb i }
 
   pub left : (t r d : ℕ) → d ≡ length (without-native (thread-in b t .frames)) → table rs' ms' ≡ ended-all references (from-frame t (d + 1)) (table rs ms)
-      → b' ≡ left-book b t → tables rs' ms' ps ns b' ≡ acted (X t r) n (tables rs ms ps ns b)
+      → b' ≡ left-book b t → tables rs' ms' ps ns b' ≡ acted line (X t r) n (tables rs ms ps ns b)
   unfolding acted references-after pins-after book-after gets all-taken left-book
   left t r d ed er eb =
       let rows : table rs' ms' ≡ ended-all references (from-frame t (suc (length (without-native (thread-in b t .frames))))) (table rs ms) =
@@ -64,6 +64,6 @@ module _ (rs ms ps ns b rs' ms' b' : List ℕ) (n : ℕ) where
       in
       λ i. record { references = rows i; pins = table ps ns; book = eb i }
 
-pub closed : (rs ms ps ns b b1 b2 : List ℕ) (n : ℕ) → b1 ≡ closed-set b → b2 ≡ line-counted b1 → tables rs ms ps ns b2 ≡ acted Z n (tables rs ms ps ns b)
+pub closed : (rs ms ps ns b b1 b2 : List ℕ) (line n : ℕ) → b1 ≡ closed-set b → b2 ≡ line-counted b1 → tables rs ms ps ns b2 ≡ acted line Z n (tables rs ms ps ns b)
 unfolding acted references-after pins-after book-after made-by makes gets all-taken
-closed rs ms ps ns b b1 b2 n e1 e2 i = record { references = table rs ms; pins = table ps ns; book = (e2 ∙ ap line-counted e1) i }
+closed rs ms ps ns b b1 b2 line n e1 e2 i = record { references = table rs ms; pins = table ps ns; book = (e2 ∙ ap line-counted e1) i }

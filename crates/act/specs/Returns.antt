@@ -23,19 +23,19 @@ use Rattle.tables.specs.Acting.{pin-owner, status-acted}
 -- ---- handles
 
 -- L in frame d of thread t, G or W in no thread
-unfoldable pub result-row : Result → ℕ → ℕ → ℕ → Reference
-result-row k t d h =
-    if is-local-result k then record { thread = t; handle = h; frame = d } else record { thread = 0; handle = h; frame = 0 }
+unfoldable pub result-row : ℕ → Result → ℕ → ℕ → ℕ → Reference
+result-row line k t d h =
+    if is-local-result k then record { thread = t; handle = h; frame = d; line = line } else record { thread = 0; handle = h; frame = 0; line = line }
 
-unfoldable pub made : Table → Result → ℕ → ℕ → ℕ → ℕ → Table
-made T k t d h row = if is-handle-result k && not (eqb h 0) then stored references T row (result-row k t d h) else T
+unfoldable pub made : Table → ℕ → Result → ℕ → ℕ → ℕ → ℕ → Table
+made T line k t d h row = if is-handle-result k && not (eqb h 0) then stored references T row (result-row line k t d h) else T
 
 -- ---- buffers
 
-unfoldable pub got : Table → Result → ℕ → ℕ → ℕ → ℕ → Table
-got P k t f h row =
+unfoldable pub got : Table → ℕ → Result → ℕ → ℕ → ℕ → ℕ → Table
+got P line k t f h row =
     if is-buffer-result k && not (eqb h 0) then
-    stored pins P row (record { thread = pin-owner f t; family = family f; buffer = h })
+    stored pins P row (record { thread = pin-owner f t; family = family f; buffer = h; line = line })
     else P
 
 -- ---- all tables
@@ -51,11 +51,11 @@ status-taken T b t f s n = if is-zero s then status-acted b t f (held T b t) n e
 unfoldable pub returned-book : Table → List ℕ → ℕ → ℕ → ℤ → ℕ → ℕ → List ℕ
 returned-book T b t f s p n = line-counted (pending-set (status-taken T b t f s n) t p)
 
--- the result h, of kind k, takes the row; `n` was asked of the open call
-unfoldable pub returned : Tables → Result → ℕ → ℕ → ℕ → ℕ → ℤ → ℕ → ℕ → Tables
-returned T k row t f h s p n =
+-- the result h of line `line`, of kind k, takes the row; `n` was asked of the open call
+unfoldable pub returned : Tables → ℕ → Result → ℕ → ℕ → ℕ → ℕ → ℤ → ℕ → ℕ → Tables
+returned T line k row t f h s p n =
     record {
-      references = made (T .references) k t (length (thread-in (T .book) t .frames)) h row;
-      pins = got (T .pins) k t f h row;
+      references = made (T .references) line k t (length (thread-in (T .book) t .frames)) h row;
+      pins = got (T .pins) line k t f h row;
       book = returned-book (T .references) (T .book) t f s p n;
     }

@@ -3,6 +3,6 @@ use Prim.Native.Nat.{ℕ}
 use mathlib.Core.List.{List, map}
 use Rattle.rows.specs.declared.references.Reference.{Reference}
 
--- locals of thread t in its frame d
-abbrev pub locals : ℕ → ℕ → List ℕ → List Reference
-locals t d hs = map (λ (h : ℕ). record { thread = t; handle = h; frame = d }) hs
+-- locals of thread t in its frame d, made by line `line`
+abbrev pub locals : ℕ → ℕ → ℕ → List ℕ → List Reference
+locals line t d hs = map (λ (h : ℕ). record { thread = t; handle = h; frame = d; line = line }) hs

@@ -17,8 +17,8 @@ ghost use Rattle.act.specs.Books.{entered-book};
 const NATIVE_CAPACITY: u64 = 16;
 
 // A row for each handle, in their order.
-fn take_all(rows: &mut [Number], marks: &mut [u64], t: u32, d: u32, hs: &[Handle])
-    ensures { λ _. ⌜ table (now (rows .exit)) (now (marks .exit)) ≡ all-taken references (table (now (rows .entry)) (now (marks .entry))) (locals t d (now (hs .entry))) ⌝ }
+fn take_all(rows: &mut [Number], marks: &mut [u64], line: u32, t: u32, d: u32, hs: &[Handle])
+    ensures { λ _. ⌜ table (now (rows .exit)) (now (marks .exit)) ≡ all-taken references (table (now (rows .entry)) (now (marks .entry))) (locals line t d (now (hs .entry))) ⌝ }
 {
     let mut i = 0;
     while i < hs.len() {
@@ -29,6 +29,7 @@ fn take_all(rows: &mut [Number], marks: &mut [u64], t: u32, d: u32, hs: &[Handle
                 thread: t,
                 handle: hs[i],
                 frame: d,
+                line,
             },
         );
         i += 1;
@@ -53,17 +54,19 @@ fn write_book(book: &mut [u64], t: u32, env: Handle)
     book::count_line(book);
 }
 
+// Line number `line`.
 pub fn enter(
     rows: &mut [Number],
     marks: &mut [u64],
     book: &mut [u64],
+    line: u32,
     t: u32,
     env: Handle,
     hs: &[Handle],
 )
-    ensures { λ _. ⌜ ((ps ns : List ℕ) (n : ℕ) → tables (now (rows .exit)) (now (marks .exit)) ps ns (now (book .exit)) ≡ acted (N t env (now (hs .entry))) n (tables (now (rows .entry)) (now (marks .entry)) ps ns (now (book .entry)))) ⌝ }
+    ensures { λ _. ⌜ ((ps ns : List ℕ) (n : ℕ) → tables (now (rows .exit)) (now (marks .exit)) ps ns (now (book .exit)) ≡ acted line (N t env (now (hs .entry))) n (tables (now (rows .entry)) (now (marks .entry)) ps ns (now (book .entry)))) ⌝ }
 {
     let d = book::frames_of(book, t);
-    take_all(rows, marks, t, d + 1, hs);
+    take_all(rows, marks, line, t, d + 1, hs);
     write_book(book, t, env);
 }

@@ -23,42 +23,54 @@ ghost use Rattle.act.specs.Returns.{result-row, made, got, held, status-
 // ---- the result
 
 // The row of handle h, where the thread has d frames.
-fn row_of(kind: Result, t: u32, d: u32, h: Handle) -> Reference
-    ensures { λ x. ⌜ x ≡ result-row kind t d h ⌝ }
+fn row_of(line: u32, kind: Result, t: u32, d: u32, h: Handle) -> Reference
+    ensures { λ x. ⌜ x ≡ result-row line kind t d h ⌝ }
 {
     if is_local_result(kind) {
         Reference {
             thread: t,
             handle: h,
             frame: d,
+            line,
         }
     } else {
         Reference {
             thread: 0,
             handle: h,
             frame: 0,
+            line,
         }
     }
 }
 
-fn make(rows: &mut [Number], marks: &mut [u64], kind: Result, t: u32, d: u32, h: Handle, row: usize)
-    ensures { λ _. ⌜ table (now (rows .exit)) (now (marks .exit)) ≡ made (table (now (rows .entry)) (now (marks .entry))) kind t d h row ⌝ }
+fn make(
+    rows: &mut [Number],
+    marks: &mut [u64],
+    line: u32,
+    kind: Result,
+    t: u32,
+    d: u32,
+    h: Handle,
+    row: usize,
+)
+    ensures { λ _. ⌜ table (now (rows .exit)) (now (marks .exit)) ≡ made (table (now (rows .entry)) (now (marks .entry))) line kind t d h row ⌝ }
 {
     if is_handle_result(kind) & (h != 0) {
-        rows::references::store(rows, marks, row, row_of(kind, t, d, h));
+        rows::references::store(rows, marks, row, row_of(line, kind, t, d, h));
     }
 }
 
 fn get(
     pins: &mut [Number],
     pinmarks: &mut [u64],
+    line: u32,
     kind: Result,
     t: u32,
     f: u32,
     h: Handle,
     row: usize,
 )
-    ensures { λ _. ⌜ table (now (pins .exit)) (now (pinmarks .exit)) ≡ got (table (now (pins .entry)) (now (pinmarks .entry))) kind t f h row ⌝ }
+    ensures { λ _. ⌜ table (now (pins .exit)) (now (pinmarks .exit)) ≡ got (table (now (pins .entry)) (now (pinmarks .entry))) line kind t f h row ⌝ }
 {
     if is_buffer_result(kind) & (h != 0) {
         let k = facts::family(f);
@@ -66,6 +78,7 @@ fn get(
             thread: pin_owner(t, k),
             family: k,
             buffer: h,
+            line,
         };
         rows::pins::store(pins, pinmarks, row, x);
     }
@@ -145,13 +158,14 @@ fn write_book(
     book::count_line(book);
 }
 
-// A result that is nonzero, of this kind, takes this row: the caller asked for the lowest free one.
+// A result that is nonzero, of this kind, takes this row: the caller asked for the lowest free one. Line number `line`.
 pub fn returns(
     rows: &mut [Number],
     marks: &mut [u64],
     pins: &mut [Number],
     pinmarks: &mut [u64],
     book: &mut [u64],
+    line: u32,
     kind: Result,
     row: usize,
     t: u32,
@@ -161,10 +175,10 @@ pub fn returns(
     pending: u32,
     n: u32,
 )
-    ensures { λ _. ⌜ tables (now (rows .exit)) (now (marks .exit)) (now (pins .exit)) (now (pinmarks .exit)) (now (book .exit)) ≡ returned (tables (now (rows .entry)) (now (marks .entry)) (now (pins .entry)) (now (pinmarks .entry)) (now (book .entry))) kind row t f result status pending n ⌝ }
+    ensures { λ _. ⌜ tables (now (rows .exit)) (now (marks .exit)) (now (pins .exit)) (now (pinmarks .exit)) (now (book .exit)) ≡ returned (tables (now (rows .entry)) (now (marks .entry)) (now (pins .entry)) (now (pinmarks .entry)) (now (book .entry))) line kind row t f result status pending n ⌝ }
 {
     let d = book::frames_of(book, t);
     write_book(rows, marks, book, t, f, status, pending, n);
-    make(rows, marks, kind, t, d, result, row);
-    get(pins, pinmarks, kind, t, f, result, row);
+    make(rows, marks, line, kind, t, d, result, row);
+    get(pins, pinmarks, line, kind, t, f, result, row);
 }

@@ -2,7 +2,7 @@
 use Prim.Native.Nat.{ℕ, suc, _≤_}
 use mathlib.Core.Path.{_≡_, refl, sym, ap, _∙_, fun-ext}
 use mathlib.Core.Bool.{Bool, true, false, _&&_, _||_, false≢true, and-true, and-false, or-false}
-use mathlib.Core.List.{List, [], _∷_}
+use mathlib.Core.List.{List, [], _∷_, map}
 use native.Mathlib.Omega.{arith}
 use lib.Dec.{eqb, leb, ltb}
 use lib.IntN.{ℤ}
@@ -17,6 +17,7 @@ use Rattle.rows.specs.References.{is-handle}
 use Rattle.history.specs.Past.{History, thread-of, is-of}
 use Rattle.history.specs.Frames.{Frame, entered, pushed, frames, frames-after, without-pushed, top-pushed, depth}
 use Rattle.history.specs.Handles.{Alive, local, shared, makes, is-local, is-shared, deletes, frame-gone}
+use Rattle.history.specs.Leaks.{Made, made-at, by-what}
 use Rattle.history.specs.Acceptance.{Room}
 use Rattle.history.specs.Accepted.{Accepted}
 use Rattle.history.proofs.Tests.{or-neither, of-three, and-left, and-right}
@@ -81,19 +82,19 @@ module _ (t env f a b c : ℕ) (n : ℤ) where
       rw (x, y, z)
 
   -- the row of what is deleted
-  pub delete-is : eqb t 0 ≡ false → is-delete f a ≡ true → (x : Alive) → unplaced x ≡ false → is-handle (delete-owner f t) a (reference-of x) ≡ deletes (C t env f a b c n) x
+  pub delete-is : eqb t 0 ≡ false → is-delete f a ≡ true → (line : ℕ) (x : Alive) → unplaced x ≡ false → is-handle (delete-owner f t) a (reference-of line x) ≡ deletes (C t env f a b c n) x
   unfolding deletes
-  delete-is z h x there =
+  delete-is z h line x there =
       of-three (eqb f DeleteLocalRef && eqb (kind a) 1) (eqb f DeleteGlobalRef && eqb (kind a) 2) (eqb f DeleteWeakGlobalRef && eqb (kind a) 3) h
       (λ k.
       rw (eqb-true f DeleteLocalRef (and-left (eqb f DeleteLocalRef) (eqb (kind a) 1) k), and-right (eqb f DeleteLocalRef) (eqb (kind a) 1) k)
-      (handle-is-local t a z x ∙ sym (or-false (is-local t a x)) ∙ sym (or-false (is-local t a x || false))))
+      (handle-is-local t a z line x ∙ sym (or-false (is-local t a x)) ∙ sym (or-false (is-local t a x || false))))
       (λ k.
       rw (eqb-true f DeleteGlobalRef (and-left (eqb f DeleteGlobalRef) (eqb (kind a) 2) k), and-right (eqb f DeleteGlobalRef) (eqb (kind a) 2) k)
-      (handle-is-shared a x there ∙ sym (or-false (is-shared a x))))
+      (handle-is-shared a line x there ∙ sym (or-false (is-shared a x))))
       (λ k.
       rw (eqb-true f DeleteWeakGlobalRef (and-left (eqb f DeleteWeakGlobalRef) (eqb (kind a) 3) k), and-right (eqb f DeleteWeakGlobalRef) (eqb (kind a) 3) k)
-      (handle-is-shared a x there))
+      (handle-is-shared a line x there))
 
   -- a delete pops nothing
   pub delete-unpopped : is-delete f a ≡ true → eqb f PopLocalFrame ≡ false
@@ -106,7 +107,11 @@ module _ (t env f a b c : ℕ) (n : ℤ) where
 -- ---- the rows after a line
 
 module _ (room : Room) (past : History) (accepted : Accepted room past) (e : Line) where
-  rows-stand : count (frame-gone past) (held (reference-rows past)) ≡ 0
+  -- what the line makes, with its number
+  abbrev new : List (Made Alive)
+  new = map (made-at (suc (length past))) (makes e (depth (thread-of e) past))
+
+  rows-stand : count (by-what (frame-gone past)) (held (reference-rows past)) ≡ 0
   rows-stand = rows-hold room past accepted (frame-gone past) ∙ frames-stand past
 
   -- a line that takes no frame
@@ -123,20 +128,22 @@ module _ (room : Room) (past : History) (accepted : Accepted room past) (e : Lin
     still-there (local t d h) k = le-ltb (depth t (e ∷ past)) d (omega (arith, deeper t, ltb-false (depth t past) d k))
     still-there (shared h) k = refl
 
-    pub rows-deleted : reference-rows (e ∷ past) ≡ put-or-add-all (makes e (depth (thread-of e) past)) (wipe-first (deletes e) (reference-rows past))
+    pub rows-deleted : reference-rows (e ∷ past) ≡ put-or-add-all new (wipe-first (by-what (deletes e)) (reference-rows past))
     unfolding reference-rows
     rows-deleted =
-        ap (put-or-add-all (makes e (depth (thread-of e) past)))
-        (wipe-same (frame-gone past) (frame-gone (e ∷ past)) (λ x. false) still-there (wipe-first (deletes e) (reference-rows past))
-        (omega (arith, rows-stand, but-first-less (frame-gone past) (deletes e) (held (reference-rows past)), ap (count (frame-gone past)) (held-wipe-first (deletes e) (reference-rows past))))
-        ∙ wipe-none (wipe-first (deletes e) (reference-rows past)))
+        let gone = by-what (frame-gone past) in
+        let deleted = by-what (deletes e) in
+        ap (put-or-add-all new)
+        (wipe-same gone (by-what (frame-gone (e ∷ past))) (λ x. false) (λ x. still-there (x .what)) (wipe-first deleted (reference-rows past))
+        (omega (arith, rows-stand, but-first-less gone deleted (held (reference-rows past)), ap (count gone) (held-wipe-first deleted (reference-rows past))))
+        ∙ wipe-none (wipe-first deleted (reference-rows past)))
 
     -- and deletes nothing
-    pub rows-added : ((x : Alive) → deletes e x ≡ false) → reference-rows (e ∷ past) ≡ put-or-add-all (makes e (depth (thread-of e) past)) (reference-rows past)
+    pub rows-added : ((x : Alive) → deletes e x ≡ false) → reference-rows (e ∷ past) ≡ put-or-add-all new (reference-rows past)
     rows-added none =
         rows-deleted
-        ∙ ap (put-or-add-all (makes e (depth (thread-of e) past)))
-        (ap (λ (g : Alive → Bool). wipe-first g (reference-rows past)) (fun-ext none) ∙ wipe-first-none (reference-rows past))
+        ∙ ap (put-or-add-all new)
+        (ap (λ (g : Made Alive → Bool). wipe-first g (reference-rows past)) (fun-ext (λ x. none (x .what))) ∙ wipe-first-none (reference-rows past))
 
   -- a line of thread t that makes and deletes nothing
   gone-is : (t : ℕ) → ((s : ℕ) → is-of s e ≡ eqb s t) → (x : Alive) → frame-gone past x ≡ false → frame-gone (e ∷ past) x ≡ is-from t (suc (depth t (e ∷ past))) x
@@ -148,10 +155,10 @@ module _ (room : Room) (past : History) (accepted : Accepted room past) (e : Lin
   gone-is t of (shared h) k = refl
 
   pub rows-left : (t : ℕ) → ((s : ℕ) → is-of s e ≡ eqb s t) → ((x : Alive) → deletes e x ≡ false) → makes e (depth (thread-of e) past) ≡ []
-      → reference-rows (e ∷ past) ≡ wipe (is-from t (suc (depth t (e ∷ past)))) (reference-rows past)
+      → reference-rows (e ∷ past) ≡ wipe (by-what (is-from t (suc (depth t (e ∷ past))))) (reference-rows past)
   unfolding reference-rows
   rows-left t of none nothing =
       rw nothing
-      (ap (λ (g : Alive → Bool). wipe (frame-gone (e ∷ past)) (wipe-first g (reference-rows past))) (fun-ext none)
-      ∙ ap (wipe (frame-gone (e ∷ past))) (wipe-first-none (reference-rows past))
-      ∙ wipe-same (frame-gone past) (frame-gone (e ∷ past)) (is-from t (suc (depth t (e ∷ past)))) (gone-is t of) (reference-rows past) rows-stand)
+      (ap (λ (g : Made Alive → Bool). wipe (by-what (frame-gone (e ∷ past))) (wipe-first g (reference-rows past))) (fun-ext (λ x. none (x .what)))
+      ∙ ap (wipe (by-what (frame-gone (e ∷ past)))) (wipe-first-none (reference-rows past))
+      ∙ wipe-same (by-what (frame-gone past)) (by-what (frame-gone (e ∷ past))) (by-what (is-from t (suc (depth t (e ∷ past))))) (λ x. gone-is t of (x .what)) (reference-rows past) rows-stand)

@@ -27,6 +27,8 @@ use Rattle.demands.proofs.Weighed.{used-rows, used-pin-rows}
 use Rattle.demands.proofs.Started.{fit}
 use Rattle.demands.proofs.Stepped.{with-line-in, answered, step-is, follows}
 use Rattle.demands.proofs.Foreign.{numbered, accepted-not, refusal-keeps, eight-is, start-is}
+use Rattle.demands.proofs.Listed.{list-tied, list-keeps, list-is-numbered, list-eight-is, four-is, seven-is-listed, after-listed}
+use Rattle.demands.proofs.Leaks.{leaks-ascend, buffers-are-listed, handles-are-listed, each-is-leaked, leaked-by-R, buffers-are-counted, handles-are-counted}
 use Rattle.demands.proofs.Numbers.{references-exact, pins-exact}
 use Rattle.demands.proofs.Runs.{reports-are}
 
@@ -127,6 +129,10 @@ from-a-start-has T long calls =
           let by-number = refused-are T long calls bs 7 in
           let by-room = seven-is (room-of T) past bs in
           (λ h. by-room .0 (by-number .0 h), λ x. by-number .1 (by-room .1 x));
+      lists = list-tied (room-of T) S past k so-far;
+      four-before-Z = λ ns. rw (list-tied (room-of T) S past k so-far ns) (four-is past ns);
+      seven-listed = λ ns. rw (list-tied (room-of T) S past k so-far ns) (seven-is-listed past ns);
+      listed = λ ns m few. list-tied (room-of T) S past k so-far ns ∙ after-listed past ns m few;
       never-eight = fit (room-of T) S past (k .tables) (k .opened) so-far;
       tables-are = k .tables;
       items-are = k .opened;
@@ -143,10 +149,23 @@ from-a-start-has T long calls =
 pub demands : Demands
 demands =
     record {
-      of-any-tables = λ T. record { refusal-changes-nothing = refusal-keeps T; refusal-numbered = numbered T; eight-exactly = eight-is T; start-forgets = λ S. start-is S T };
+      of-any-tables = λ T. record { refusal-changes-nothing = refusal-keeps T; refusal-numbered = numbered T; eight-exactly = eight-is T; list-untouched = list-keeps T; list-numbered = list-is-numbered T; list-eight = list-eight-is T; start-forgets = λ S. start-is S T };
       of-past-rows =
           λ room calls.
           record { rows-hold = rows-hold room (heard room calls) (heard-accepted room calls); pin-rows-hold = pin-rows-hold (heard room calls) };
+      of-leaks =
+          λ room calls.
+          let past = heard room calls in
+          let so-far = heard-accepted room calls in
+          record {
+            ascending = leaks-ascend past;
+            buffers-listed = buffers-are-listed past;
+            handles-listed = handles-are-listed room past so-far;
+            each-leaked = each-is-leaked room past so-far;
+            made-by-R = λ x m. leaked-by-R past x (each-is-leaked room past so-far x m);
+            buffers-counted = buffers-are-counted past;
+            handles-counted = handles-are-counted room past so-far;
+          };
       from-a-start = from-a-start-has;
       reports = reports-are;
     }

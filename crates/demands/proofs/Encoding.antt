@@ -106,29 +106,29 @@ abbrev pub unplaced : Alive → Bool
 unplaced (local t d h) = eqb t 0
 unplaced (shared h) = false
 
-pub alive-of-reference : (x : Alive) → unplaced x ≡ false → alive-of (reference-of x) ≡ x
-alive-of-reference (local t d h) k = rw k
-alive-of-reference (shared h) k = refl
+pub alive-of-reference : (n : ℕ) (x : Alive) → unplaced x ≡ false → alive-of (reference-of n x) ≡ x
+alive-of-reference n (local t d h) k = rw k
+alive-of-reference n (shared h) k = refl
 
 no-thread : (t : ℕ) → eqb t 0 ≡ false → eqb 0 t ≡ false
 no-thread t n = ne-eqb 0 t (λ z. eqb-false t 0 n (sym z))
 
-pub handle-is-local : (t h : ℕ) → eqb t 0 ≡ false → (x : Alive) → is-handle t h (reference-of x) ≡ is-local t h x
-handle-is-local t h n (local s d g) = and-comm (eqb g h) (eqb s t)
-handle-is-local t h n (shared g) = rw (no-thread t n, and-false (eqb g h))
+pub handle-is-local : (t h : ℕ) → eqb t 0 ≡ false → (line : ℕ) (x : Alive) → is-handle t h (reference-of line x) ≡ is-local t h x
+handle-is-local t h n line (local s d g) = and-comm (eqb g h) (eqb s t)
+handle-is-local t h n line (shared g) = rw (no-thread t n, and-false (eqb g h))
 
-pub handle-is-shared : (h : ℕ) (x : Alive) → unplaced x ≡ false → is-handle 0 h (reference-of x) ≡ is-shared h x
-handle-is-shared h (local s d g) k = rw (k, and-false (eqb g h))
-handle-is-shared h (shared g) k = and-true (eqb g h)
+pub handle-is-shared : (h line : ℕ) (x : Alive) → unplaced x ≡ false → is-handle 0 h (reference-of line x) ≡ is-shared h x
+handle-is-shared h line (local s d g) k = rw (k, and-false (eqb g h))
+handle-is-shared h line (shared g) k = and-true (eqb g h)
 
 -- a local of thread t in frame d or above
 abbrev pub is-from : ℕ → ℕ → Alive → Bool
 is-from t d (local s c h) = leb d c && eqb s t
 is-from t d (shared h) = false
 
-pub frame-is-from : (t d : ℕ) → eqb t 0 ≡ false → (x : Alive) → from-frame t d (reference-of x) ≡ is-from t d x
-frame-is-from t d n (local s c h) = refl
-frame-is-from t d n (shared h) = rw (no-thread t n, and-false (leb d 0))
+pub frame-is-from : (t d : ℕ) → eqb t 0 ≡ false → (line : ℕ) (x : Alive) → from-frame t d (reference-of line x) ≡ is-from t d x
+frame-is-from t d n line (local s c h) = refl
+frame-is-from t d n line (shared h) = rw (no-thread t n, and-false (leb d 0))
 
 -- ---- pins
 
@@ -137,9 +137,9 @@ abbrev pub unowned : Pin → Bool
 unowned (ordinary k b) = false
 unowned (critical t k b) = eqb t 0
 
-pub pin-of-row : (x : Pin) → unowned x ≡ false → pin-of (pin-row-of x) ≡ x
-pin-of-row (ordinary k b) h = refl
-pin-of-row (critical t k b) h = rw h
+pub pin-of-row : (n : ℕ) (x : Pin) → unowned x ≡ false → pin-of (pin-row-of n x) ≡ x
+pin-of-row n (ordinary k b) h = refl
+pin-of-row n (critical t k b) h = rw h
 
 eqb-sym : (a b : ℕ) → eqb a b ≡ eqb b a
 eqb-sym a b = go (eqb a b) refl
@@ -149,15 +149,15 @@ eqb-sym a b = go (eqb a b) refl
     go false e = sym (ne-eqb b a (λ z. eqb-false a b e (sym z)))
 
 -- the row of the buffer which function f of thread t gets or releases
-pub buffer-is : (t f b : ℕ) → eqb t 0 ≡ false → (x : Pin) → unowned x ≡ false → is-buffer (pin-owner f t) (family f) b (pin-row-of x) ≡ same-pin (pin t f b) x
+pub buffer-is : (t f b : ℕ) → eqb t 0 ≡ false → (line : ℕ) (x : Pin) → unowned x ≡ false → is-buffer (pin-owner f t) (family f) b (pin-row-of line x) ≡ same-pin (pin t f b) x
 unfolding pin
-buffer-is t f b n x k = go (is-critical (family f)) x k
+buffer-is t f b n line x k = go (is-critical (family f)) x k
   where
     turned : (j a : ℕ) → (eqb a b && eqb j (family f)) ≡ (eqb (family f) j && eqb b a)
     turned j a = rw (eqb-sym (family f) j, eqb-sym b a) (and-comm (eqb a b) (eqb j (family f)))
 
     go : (c : Bool) (x : Pin) → unowned x ≡ false
-        → is-buffer (if c then t else 0) (family f) b (pin-row-of x) ≡ same-pin (if c then critical t (family f) b else ordinary (family f) b) x
+        → is-buffer (if c then t else 0) (family f) b (pin-row-of line x) ≡ same-pin (if c then critical t (family f) b else ordinary (family f) b) x
     go true (ordinary j a) k = rw (no-thread t n, and-false (eqb a b && eqb j (family f)))
     go true (critical s j a) k =
         and-comm (eqb a b && eqb j (family f)) (eqb s t)

@@ -1,5 +1,5 @@
 -- Of tables that hold whatever they may: a refusal changes nothing and is one of 1 to 8, 8 is given exactly when the book is not fit, and a start forgets. Assumes nothing.
-use Prim.Native.Nat.{ℕ, suc, _≤_, _<_}
+use Prim.Native.Nat.{ℕ, _≤_, _<_}
 use mathlib.Core.Path.{_≡_, refl}
 use mathlib.Core.Logic.{_↔_}
 use mathlib.Core.Bool.{Bool, true, false, _&&_}
@@ -25,7 +25,7 @@ use Rattle.book.specs.Moves.{cleared as book-cleared}
 use Rattle.book.specs.Unfit.{unfit}
 use Rattle.tables.specs.Tables.{Tables, seen-in}
 use Rattle.tables.specs.Weighing.{rows-left, refusal-in, weighed-in}
-use Rattle.tables.specs.Stepping.{Stepped, stepped, untouched, follow, on-line, on-read, step-of, start-of}
+use Rattle.tables.specs.Stepping.{Stepped, stepped, untouched, follow, next-line, on-line, on-read, step-of, start-of}
 use Rattle.demands.specs.Calls.{Alike}
 
 -- ---- a refusal changes nothing, and is less than 8 where the book is fit
@@ -68,10 +68,10 @@ unfolding weighed-in
 line-sound T e is = go (eqb (refusal-in e (top-of is) (length is) T) 0) refl
   where
     fs : List Finding
-    fs = of-line (suc (lines-in (T .book))) e (seen-in T)
+    fs = of-line (next-line T) e (seen-in T)
 
     go : (q : Bool) → eqb (refusal-in e (top-of is) (length is) T) 0 ≡ q
-        → Sound 8 T (follow e (asked (top-of is)) (if q then accepted fs else not-accepted (refusal-in e (top-of is) (length is) T)) T)
+        → Sound 8 T (follow (next-line T) e (asked (top-of is)) (if q then accepted fs else not-accepted (refusal-in e (top-of is) (length is) T)) T)
     go true h = stepped-sound 8 fs _ T
     go false h =
         let z = eqb-false (refusal-in e (top-of is) (length is) T) 0 h in

@@ -13,5 +13,8 @@ pub mod Started
 pub mod Stepped
 pub mod Numbers
 pub mod Foreign
+pub mod Listed
+pub mod Leaks
+mod LeakCases
 pub mod Runs
 pub mod Demands

@@ -151,7 +151,7 @@ module _ (room : Room) (T : Tables) (past : History) (tied : Tied room T past) (
 
 -- all but the open items is tied again; n is what was asked of the open call on top
 pub next : (room : Room) (T : Tables) (e : Line) (past : History) → Tied room T past → Accepted room (e ∷ past)
-    → Tied room (acted e (asked (top-of (items (thread-of e) past))) T) (e ∷ past)
+    → Tied room (acted (suc (length past)) e (asked (top-of (items (thread-of e) past))) T) (e ∷ past)
 unfolding acted
 next room T e past tied (and-line _ _ few fine no-refusal so-far) =
     let book = book-acted room T past tied so-far few e fine (roomy room e past (passed room e past no-refusal .3)) in
@@ -166,7 +166,7 @@ next room T e past tied (and-line _ _ few fine no-refusal so-far) =
 
 -- and has not touched the open items
 pub items-untouched : (room : Room) (T : Tables) (e : Line) (past : History) → Tied room T past → Items-tied (T .book) past → Accepted room (e ∷ past)
-    → Items-tied (acted e (asked (top-of (items (thread-of e) past))) T .book) past
+    → Items-tied (acted (suc (length past)) e (asked (top-of (items (thread-of e) past))) T .book) past
 unfolding acted
 items-untouched room T e past tied opened (and-line _ _ few fine no-refusal so-far) =
     let book = book-acted room T past tied so-far few e fine (roomy room e past (passed room e past no-refusal .3)) in

@@ -27,7 +27,7 @@ use Rattle.book.specs.Unfit.{unfit}
 use Rattle.tables.specs.Tables.{Tables, seen-in, reference-of, pin-row-of}
 use Rattle.tables.specs.Weighing.{weighed-in}
 use Rattle.tables.specs.Acting.{all-taken, first-ended, is-delete, delete-owner, pin-owner, references-after, pins-after, acted}
-use Rattle.tables.specs.Stepping.{untouched, follow, on-read, step-of, start-of}
+use Rattle.tables.specs.Stepping.{untouched, follow, next-line, on-read, step-of, start-of}
 use Rattle.demands.specs.Tied.{past-references, past-pins, Tied}
 use Rattle.demands.specs.Calls.{after}
 
@@ -50,11 +50,11 @@ record Clean-tables (T : Tables) : Type 0 where
   pin-table : Clean pins (T .pins)
 
 module _ (T : Tables) (k : Clean-tables T) where
-  clean-references : (e : Line) → Clean references (references-after e T)
+  clean-references : (line : ℕ) (e : Line) → Clean references (references-after line e T)
   unfolding references-after
-  clean-references (N t env hs) = clean-all-taken references (map reference-of (made-by (N t env hs) (seen-in T))) (T .references) (k .reference-table)
-  clean-references (X t r) = clean-ended-all references (from-frame t (suc (length (without-native (thread-in (T .book) t .frames))))) (T .references) (k .reference-table)
-  clean-references (C t env f a b c n) = go (is-delete f a) (eqb f PopLocalFrame && top-pushed (thread-in (T .book) t .frames))
+  clean-references line (N t env hs) = clean-all-taken references (map (reference-of line) (made-by (N t env hs) (seen-in T))) (T .references) (k .reference-table)
+  clean-references line (X t r) = clean-ended-all references (from-frame t (suc (length (without-native (thread-in (T .book) t .frames))))) (T .references) (k .reference-table)
+  clean-references line (C t env f a b c n) = go (is-delete f a) (eqb f PopLocalFrame && top-pushed (thread-in (T .book) t .frames))
     where
       go : (d q : Bool) → Clean references
           (if d then first-ended references (is-handle (delete-owner f t) a) (T .references)
@@ -63,34 +63,34 @@ module _ (T : Tables) (k : Clean-tables T) where
       go true q = clean-first-ended references (is-handle (delete-owner f t) a) (T .references) (k .reference-table)
       go false true = clean-ended-all references (from-frame t (length (thread-in (T .book) t .frames))) (T .references) (k .reference-table)
       go false false = k .reference-table
-  clean-references (R t f r p) = clean-all-taken references (map reference-of (made-by (R t f r p) (seen-in T))) (T .references) (k .reference-table)
-  clean-references Z = clean-all-taken references (map reference-of (made-by Z (seen-in T))) (T .references) (k .reference-table)
+  clean-references line (R t f r p) = clean-all-taken references (map (reference-of line) (made-by (R t f r p) (seen-in T))) (T .references) (k .reference-table)
+  clean-references line Z = clean-all-taken references (map (reference-of line) (made-by Z (seen-in T))) (T .references) (k .reference-table)
 
-  got-clean : (e : Line) → Clean pins (all-taken pins (T .pins) (map pin-row-of (gets e)))
-  got-clean e = clean-all-taken pins (map pin-row-of (gets e)) (T .pins) (k .pin-table)
+  got-clean : (line : ℕ) (e : Line) → Clean pins (all-taken pins (T .pins) (map (pin-row-of line) (gets e)))
+  got-clean line e = clean-all-taken pins (map (pin-row-of line) (gets e)) (T .pins) (k .pin-table)
 
-  clean-pins : (e : Line) → Clean pins (pins-after e T)
+  clean-pins : (line : ℕ) (e : Line) → Clean pins (pins-after line e T)
   unfolding pins-after
-  clean-pins (N t env hs) = got-clean (N t env hs)
-  clean-pins (X t r) = got-clean (X t r)
-  clean-pins (C t env f a b c n) = go (is-buffer-place (fact-of f .b))
+  clean-pins line (N t env hs) = got-clean line (N t env hs)
+  clean-pins line (X t r) = got-clean line (X t r)
+  clean-pins line (C t env f a b c n) = go (is-buffer-place (fact-of f .b))
     where
       go : (q : Bool) → Clean pins (if q then first-ended pins (is-buffer (pin-owner f t) (family f) b) (T .pins) else T .pins)
       go true = clean-first-ended pins (is-buffer (pin-owner f t) (family f) b) (T .pins) (k .pin-table)
       go false = k .pin-table
-  clean-pins (R t f r p) = got-clean (R t f r p)
-  clean-pins Z = got-clean Z
+  clean-pins line (R t f r p) = got-clean line (R t f r p)
+  clean-pins line Z = got-clean line Z
 
-  clean-line : (e : Line) (n : ℕ) (r : Reply) → Clean-tables (follow e n r T .left)
+  clean-line : (line : ℕ) (e : Line) (n : ℕ) (r : Reply) → Clean-tables (follow line e n r T .left)
   unfolding acted
-  clean-line e n (not-accepted j) = k
-  clean-line e n (accepted fs) = record { reference-table = clean-references e; pin-table = clean-pins e }
+  clean-line line e n (not-accepted j) = k
+  clean-line line e n (accepted fs) = record { reference-table = clean-references line e; pin-table = clean-pins line e }
 
   clean-read : (r : Read) → Clean-tables (on-read r T .left)
   clean-read (refused j) = k
   clean-read (says e) =
       let is = items-in (T .book) (thread-of e) in
-      clean-line e (asked (top-of is)) (weighed-in (suc (lines-in (T .book))) e (top-of is) (length is) T)
+      clean-line (next-line T) e (asked (top-of is)) (weighed-in (next-line T) e (top-of is) (length is) T)
 
   -- whatever the line is
   clean-step : (bs : List ℕ) → Clean-tables (step-of T bs .left)

@@ -1,12 +1,12 @@
 -- The rows of the past within the room: after accepted lines they never exceed it, and a line fits exactly when the history says so. Assumes nothing.
-use Prim.Native.Nat.{ℕ, _+_, _≤_}
+use Prim.Native.Nat.{ℕ, suc, _+_, _≤_}
 use mathlib.Core.Path.{_≡_, refl, sym, ap, _∙_, fun-ext}
 use mathlib.Core.Bool.{Bool, true, false}
-use mathlib.Core.List.{List, [], _∷_}
+use mathlib.Core.List.{List, [], _∷_, map}
 use mathlib.Core.Option.{Option}
 use native.Mathlib.Omega.{arith}
 use lib.Dec.{leb}
-use lib.ListN.{length}
+use lib.ListN.{length, length-map}
 use borrow.Author.Tests.{leb-true, le-leb}
 use Rattle.words.specs.Lists.{count}
 use Rattle.lines.specs.Line.{Line, N, X, C, R, Z}
@@ -16,14 +16,16 @@ use Rattle.history.specs.Frames.{frames, depth}
 use Rattle.history.specs.Handles.{Alive, makes, deletes, frame-gone, living}
 use Rattle.history.specs.Buffers.{Pin, gets, releases, outstanding}
 use Rattle.history.specs.Seen.{seen}
+use Rattle.history.specs.Leaks.{Made, made-at, by-what}
 use Rattle.history.specs.Acceptance.{Room, everything, deepest, has-room, has-item-room}
 use Rattle.history.specs.Items.{items}
 use Rattle.history.specs.Accepted.{Accepted, at-start, and-line}
 use Rattle.history.proofs.Tests.{and-left, and-right, all-three}
 use Rattle.history.proofs.Counts.{count-all}
 use Rattle.history.proofs.Accepting.{passed, has-room-of}
+use Rattle.tables.proofs.Leaking.{held-within}
 use Rattle.demands.specs.PastRows.{put-or-add-all, reference-rows, pin-rows}
-use Rattle.demands.proofs.Slots.{held-put-or-add-all, held-within, short-put-all, length-wipe, length-wipe-first, wipe-first-none}
+use Rattle.demands.proofs.Slots.{held-put-or-add-all, short-put-all, length-wipe, length-wipe-first, wipe-first-none}
 use Rattle.demands.proofs.PastRows.{rows-hold-next, pin-rows-hold}
 use Rattle.demands.proofs.Changed.{frames-grow-N, frames-grow-R, rows-added}
 
@@ -55,8 +57,9 @@ pub rows-short : (room : Room) (past : History) → Accepted room past → lengt
 unfolding reference-rows
 rows-short room [] at-start = omega arith
 rows-short room (e ∷ past) (and-line _ _ few fine no-refusal so-far) =
-    let new = makes e (depth (thread-of e) past) in
-    let old = wipe (frame-gone (e ∷ past)) (wipe-first (deletes e) (reference-rows past)) in
+    let made = makes e (depth (thread-of e) past) in
+    let new = map (made-at (suc (length past))) made in
+    let old = wipe (by-what (frame-gone (e ∷ past))) (wipe-first (by-what (deletes e)) (reference-rows past)) in
     short-put-all (room .references) new old
     (omega (
       arith,
@@ -64,9 +67,10 @@ rows-short room (e ∷ past) (and-line _ _ few fine no-refusal so-far) =
       rows-hold-next room past so-far e everything,
       held-put-or-add-all everything new old,
       count-all new,
+      length-map made (made-at (suc (length past))),
       count-all (held old),
     ))
-    (omega (arith, length-wipe (frame-gone (e ∷ past)) (wipe-first (deletes e) (reference-rows past)), length-wipe-first (deletes e) (reference-rows past), rows-short room past so-far))
+    (omega (arith, length-wipe (by-what (frame-gone (e ∷ past))) (wipe-first (by-what (deletes e)) (reference-rows past)), length-wipe-first (by-what (deletes e)) (reference-rows past), rows-short room past so-far))
 
 both-hold : (a b c d : ℕ) → a ≤ b → c ≤ d → leb a b ≡ leb c d
 both-hold a b c d h k = le-leb a b h ∙ sym (le-leb c d k)
@@ -77,17 +81,19 @@ module _ (room : Room) (past : History) (so-far : Accepted room past) where
 
   module _ (e : Line) where
     -- a line that ends nothing
-    all-fit : reference-rows (e ∷ past) ≡ put-or-add-all (makes e (depth (thread-of e) past)) (reference-rows past)
+    all-fit : reference-rows (e ∷ past) ≡ put-or-add-all (map (made-at (suc (length past))) (makes e (depth (thread-of e) past))) (reference-rows past)
         → leb (length (makes e (depth (thread-of e) past)) + length (held (reference-rows past))) (room .references) ≡ leb (count everything (living (e ∷ past))) (room .references)
     all-fit same =
-        let new = makes e (depth (thread-of e) past) in
+        let made = makes e (depth (thread-of e) past) in
+        let new = map (made-at (suc (length past))) made in
         ap (λ (k : ℕ). leb k (room .references))
         (omega (
           arith,
           rows-hold-next room past so-far e everything,
-          ap (λ (s : List (Option Alive)). count everything (held s)) same,
+          ap (λ (s : List (Option (Made Alive))). count everything (held s)) same,
           held-put-or-add-all everything new (reference-rows past),
           count-all new,
+          length-map made (made-at (suc (length past))),
           count-all (held (reference-rows past)),
         ))
 
@@ -96,18 +102,19 @@ module _ (room : Room) (past : History) (so-far : Accepted room past) where
         → leb (length (makes e (depth (thread-of e) past)) + length (held (reference-rows past))) (room .references) ≡ leb (count everything (living (e ∷ past))) (room .references)
     unfolding reference-rows
     none-more nothing =
-        let old = wipe (frame-gone (e ∷ past)) (wipe-first (deletes e) (reference-rows past)) in
+        let new = map (made-at (suc (length past))) (makes e (depth (thread-of e) past)) in
+        let old = wipe (by-what (frame-gone (e ∷ past))) (wipe-first (by-what (deletes e)) (reference-rows past)) in
         both-hold (length (makes e (depth (thread-of e) past)) + length (held (reference-rows past))) (room .references) (count everything (living (e ∷ past))) (room .references)
         (omega (arith, ap length nothing, held-short))
         (omega (
           arith,
           rows-hold-next room past so-far e everything,
-          held-put-or-add-all everything (makes e (depth (thread-of e) past)) old,
-          ap (count everything) nothing,
+          held-put-or-add-all everything new old,
+          ap (λ (l : List Alive). count everything (map (made-at (suc (length past))) l)) nothing,
           count-all (held old),
           held-within old,
-          length-wipe (frame-gone (e ∷ past)) (wipe-first (deletes e) (reference-rows past)),
-          length-wipe-first (deletes e) (reference-rows past),
+          length-wipe (by-what (frame-gone (e ∷ past))) (wipe-first (by-what (deletes e)) (reference-rows past)),
+          length-wipe-first (by-what (deletes e)) (reference-rows past),
           rows-short room past so-far,
         ))
 
@@ -123,19 +130,21 @@ module _ (room : Room) (past : History) (so-far : Accepted room past) where
 
 -- ---- pins
 
-pin-count : (e : Line) (past : History) → count everything (outstanding (e ∷ past)) ≡ length (gets e) + length (held (wipe-first (releases e) (pin-rows past)))
+pin-count : (e : Line) (past : History) → count everything (outstanding (e ∷ past)) ≡ length (gets e) + length (held (wipe-first (by-what (releases e)) (pin-rows past)))
 unfolding pin-rows
 pin-count e past =
-    let old = wipe-first (releases e) (pin-rows past) in
-    omega (arith, pin-rows-hold (e ∷ past) everything, held-put-or-add-all everything (gets e) old, count-all (gets e), count-all (held old))
+    let new = map (made-at (suc (length past))) (gets e) in
+    let old = wipe-first (by-what (releases e)) (pin-rows past) in
+    omega (arith, pin-rows-hold (e ∷ past) everything, held-put-or-add-all everything new old, count-all new, length-map (gets e) (made-at (suc (length past))), count-all (held old))
 
 pub pins-short : (room : Room) (past : History) → Accepted room past → length (pin-rows past) ≤ room .pins
 unfolding pin-rows
 pins-short room [] at-start = omega arith
 pins-short room (e ∷ past) (and-line _ _ few fine no-refusal so-far) =
-    short-put-all (room .pins) (gets e) (wipe-first (releases e) (pin-rows past))
-    (omega (arith, roomy room e past (passed room e past no-refusal .3) .buffers, pin-count e past))
-    (omega (arith, length-wipe-first (releases e) (pin-rows past), pins-short room past so-far))
+    let number = made-at (suc (length past)) in
+    short-put-all (room .pins) (map number (gets e)) (wipe-first (by-what (releases e)) (pin-rows past))
+    (omega (arith, roomy room e past (passed room e past no-refusal .3) .buffers, pin-count e past, length-map (gets e) number))
+    (omega (arith, length-wipe-first (by-what (releases e)) (pin-rows past), pins-short room past so-far))
 
 module _ (room : Room) (past : History) (so-far : Accepted room past) where
   module _ (e : Line) where
@@ -146,8 +155,8 @@ module _ (room : Room) (past : History) (so-far : Accepted room past) where
         (omega (
           arith,
           pin-count e past,
-          ap (λ (g : Pin → Bool). length (held (wipe-first g (pin-rows past)))) (fun-ext none),
-          ap (λ (s : List (Option Pin)). length (held s)) (wipe-first-none (pin-rows past)),
+          ap (λ (g : Made Pin → Bool). length (held (wipe-first g (pin-rows past)))) (fun-ext (λ x. none (x .what))),
+          ap (λ (s : List (Option (Made Pin))). length (held s)) (wipe-first-none (pin-rows past)),
         ))
 
     no-more-pins : gets e ≡ [] → leb (length (gets e) + length (held (pin-rows past))) (room .pins) ≡ leb (count everything (outstanding (e ∷ past))) (room .pins)
@@ -158,8 +167,8 @@ module _ (room : Room) (past : History) (so-far : Accepted room past) where
           arith,
           ap length nothing,
           pin-count e past,
-          held-within (wipe-first (releases e) (pin-rows past)),
-          length-wipe-first (releases e) (pin-rows past),
+          held-within (wipe-first (by-what (releases e)) (pin-rows past)),
+          length-wipe-first (by-what (releases e)) (pin-rows past),
           pins-short room past so-far,
         ))
 

@@ -1,11 +1,12 @@
 -- The rows of the past hold what is alive and what is outstanding. Assumes nothing.
-use Prim.Native.Nat.{ℕ, _+_, _≤_}
-use mathlib.Core.Path.{_≡_, refl, sym, ap, _∙_, fun-ext}
+use Prim.Native.Nat.{ℕ, suc, _+_, _≤_}
+use mathlib.Core.Path.{_≡_, refl, sym, ap, ap₂, _∙_, fun-ext}
 use mathlib.Core.Bool.{Bool, true, false, not, _&&_, _||_, false≢true}
-use mathlib.Core.List.{List, [], _∷_, List·Memᴰ, List·Memᴰ·head, List·Memᴰ·tail}
+use mathlib.Core.List.{List, [], _∷_, map, List·Memᴰ, List·Memᴰ·head, List·Memᴰ·tail}
 use mathlib.Core.Option.{Option}
 use native.Mathlib.Omega.{arith}
 use lib.Dec.{eqb, ltb}
+use lib.ListN.{length}
 use borrow.Author.Tests.{eqb-true}
 use Rattle.words.specs.Choice.{one}
 use Rattle.words.specs.Lists.{keep, count, but-first}
@@ -18,10 +19,11 @@ use Rattle.history.specs.Past.{History, thread-of}
 use Rattle.history.specs.Frames.{depth}
 use Rattle.history.specs.Handles.{Alive, local, shared, makes, same-handle, is-local, is-shared, deletes, frame-gone, ends, living}
 use Rattle.history.specs.Buffers.{Pin, ordinary, pin, same-pin, gets, releases, outstanding}
+use Rattle.history.specs.Leaks.{Made, made-at, by-what}
 use Rattle.history.specs.Acceptance.{Room}
 use Rattle.history.specs.Accepted.{Accepted, at-start, and-line}
 use Rattle.history.proofs.Tests.{and-right, all-three, of-three}
-use Rattle.history.proofs.Counts.{count-cons, count-append, count-keep, count-le, but-first-is, count-but-first}
+use Rattle.history.proofs.Counts.{count-cons, count-append, count-keep, count-le, but-first-is, count-but-first, count-map}
 use Rattle.history.proofs.Living.{frame-stands}
 use Rattle.history.proofs.Once.{alive-once}
 use Rattle.history.proofs.Buffers.{same-pin-is}
@@ -45,7 +47,7 @@ pub frames-stand : (past : History) → count (frame-gone past) (living past) �
 frames-stand past = members-fail (frame-gone past) (living past) (frame-stands past)
 
 -- a line deletes one handle at most
-one-deleted : (e : Line) (l : List Alive) → ((y : Alive) → count (same-handle y) l ≤ 1) → count (deletes e) l ≤ 1
+pub one-deleted : (e : Line) (l : List Alive) → ((y : Alive) → count (same-handle y) l ≤ 1) → count (deletes e) l ≤ 1
 unfolding deletes
 one-deleted (N t env hs) l single = omega (arith, count-none l)
 one-deleted (X t r) l single = omega (arith, count-none l)
@@ -84,13 +86,13 @@ both-taken true g test = refl
 both-taken false g test = refl
 
 -- one line more
-line-holds : (e : Line) (past : History) (rows : List (Option Alive)) → ((f : Alive → Bool) → count f (held rows) ≡ count f (living past))
+line-holds : (n : ℕ) (e : Line) (past : History) (rows : List (Option (Made Alive))) → ((f : Alive → Bool) → count (by-what f) (held rows) ≡ count f (living past))
     → count (deletes e) (living past) ≤ 1 → (test : Alive → Bool)
-    → count test (held (put-or-add-all (makes e (depth (thread-of e) past)) (wipe (frame-gone (e ∷ past)) (wipe-first (deletes e) rows)))) ≡ count test (living (e ∷ past))
+    → count (by-what test) (held (put-or-add-all (map (made-at n) (makes e (depth (thread-of e) past))) (wipe (by-what (frame-gone (e ∷ past))) (wipe-first (by-what (deletes e)) rows)))) ≡ count test (living (e ∷ past))
 unfolding living ends
-line-holds e past rows same single test =
-    held-put-or-add-all test new (wipe gone (wipe-first (deletes e) rows))
-    ∙ ap (λ (k : ℕ). count test new + k) old
+line-holds n e past rows same single test =
+    held-put-or-add-all (by-what test) (map (made-at n) new) (wipe (by-what gone) (wipe-first (by-what (deletes e)) rows))
+    ∙ ap₂ (λ (j k : ℕ). j + k) (count-map (by-what test) (made-at n) new) old
     ∙ sym (count-append test new (keep (λ (x : Alive). not (deletes e x || gone x)) (living past)))
   where
     new : List Alive
@@ -99,33 +101,33 @@ line-holds e past rows same single test =
     gone : Alive → Bool
     gone = frame-gone (e ∷ past)
 
-    left : held (wipe gone (wipe-first (deletes e) rows)) ≡ keep (λ x. not (gone x)) (keep (λ x. not (deletes e x)) (held rows))
+    left : held (wipe (by-what gone) (wipe-first (by-what (deletes e)) rows)) ≡ keep (λ x. not (gone (x .what))) (keep (λ x. not (deletes e (x .what))) (held rows))
     left =
-        held-wipe gone (wipe-first (deletes e) rows)
-        ∙ ap (keep (λ x. not (gone x))) (held-wipe-first (deletes e) rows ∙ but-first-is (deletes e) (held rows) (omega (arith, same (deletes e))))
+        held-wipe (by-what gone) (wipe-first (by-what (deletes e)) rows)
+        ∙ ap (keep (λ x. not (gone (x .what)))) (held-wipe-first (by-what (deletes e)) rows ∙ but-first-is (by-what (deletes e)) (held rows) (omega (arith, same (deletes e))))
 
-    old : count test (held (wipe gone (wipe-first (deletes e) rows))) ≡ count test (keep (λ (x : Alive). not (deletes e x || gone x)) (living past))
+    old : count (by-what test) (held (wipe (by-what gone) (wipe-first (by-what (deletes e)) rows))) ≡ count test (keep (λ (x : Alive). not (deletes e x || gone x)) (living past))
     old =
-        ap (count test) left
-        ∙ count-keep test (λ x. not (gone x)) (keep (λ x. not (deletes e x)) (held rows))
-        ∙ count-keep (λ x. not (gone x) && test x) (λ x. not (deletes e x)) (held rows)
+        ap (count (by-what test)) left
+        ∙ count-keep (by-what test) (λ x. not (gone (x .what))) (keep (λ x. not (deletes e (x .what))) (held rows))
+        ∙ count-keep (λ x. not (gone (x .what)) && test (x .what)) (λ x. not (deletes e (x .what))) (held rows)
         ∙ same (λ x. not (deletes e x) && (not (gone x) && test x))
         ∙ ap (λ (f : Alive → Bool). count f (living past)) (fun-ext λ x. both-taken (deletes e x) (gone x) (test x))
         ∙ sym (count-keep test (λ (x : Alive). not (deletes e x || gone x)) (living past))
 
-holds-next : (room : Room) (past : History) → Accepted room past → ((test : Alive → Bool) → count test (held (reference-rows past)) ≡ count test (living past))
-    → (e : Line) (test : Alive → Bool) → count test (held (reference-rows (e ∷ past))) ≡ count test (living (e ∷ past))
+holds-next : (room : Room) (past : History) → Accepted room past → ((test : Alive → Bool) → count (by-what test) (held (reference-rows past)) ≡ count test (living past))
+    → (e : Line) (test : Alive → Bool) → count (by-what test) (held (reference-rows (e ∷ past))) ≡ count test (living (e ∷ past))
 unfolding reference-rows
-holds-next room past so-far same e test = line-holds e past (reference-rows past) same (one-deleted e (living past) (alive-once room past so-far)) test
+holds-next room past so-far same e test = line-holds (suc (length past)) e past (reference-rows past) same (one-deleted e (living past) (alive-once room past so-far)) test
 
 -- the rows hold what is alive, whatever it is counted by
-pub rows-hold : (room : Room) (past : History) → Accepted room past → (test : Alive → Bool) → count test (held (reference-rows past)) ≡ count test (living past)
+pub rows-hold : (room : Room) (past : History) → Accepted room past → (test : Alive → Bool) → count (by-what test) (held (reference-rows past)) ≡ count test (living past)
 rows-hold room [] at-start test = unfold reference-rows living in refl
 rows-hold room (e ∷ past) (and-line _ _ few fine no-refusal so-far) test = holds-next room past so-far (rows-hold room past so-far) e test
 
 -- and would after any line more
 pub rows-hold-next : (room : Room) (past : History) → Accepted room past → (e : Line) (test : Alive → Bool)
-    → count test (held (reference-rows (e ∷ past))) ≡ count test (living (e ∷ past))
+    → count (by-what test) (held (reference-rows (e ∷ past))) ≡ count test (living (e ∷ past))
 rows-hold-next room past so-far = holds-next room past so-far (rows-hold room past so-far)
 
 -- ---- pins
@@ -141,18 +143,19 @@ released (R t f r p) = (ordinary 0 0, λ x h. absurd (false≢true h))
 released Z = (ordinary 0 0, λ x h. absurd (false≢true h))
 
 -- the rows hold what is outstanding, whatever it is counted by; of every history
-pub pin-rows-hold : (past : History) (test : Pin → Bool) → count test (held (pin-rows past)) ≡ count test (outstanding past)
+pub pin-rows-hold : (past : History) (test : Pin → Bool) → count (by-what test) (held (pin-rows past)) ≡ count test (outstanding past)
 unfolding pin-rows outstanding
 pin-rows-hold [] test = refl
 pin-rows-hold (e ∷ past) test =
     let (y, is) = released e in
     omega (
       arith,
-      held-put-or-add-all test (gets e) (wipe-first (releases e) (pin-rows past)),
-      ap (count test) (held-wipe-first (releases e) (pin-rows past)),
+      held-put-or-add-all (by-what test) (map (made-at (suc (length past))) (gets e)) (wipe-first (by-what (releases e)) (pin-rows past)),
+      count-map (by-what test) (made-at (suc (length past))) (gets e),
+      ap (count (by-what test)) (held-wipe-first (by-what (releases e)) (pin-rows past)),
       count-append test (gets e) (but-first (releases e) (outstanding past)),
-      count-but-first test (releases e) y is (held (pin-rows past)),
-      count-but-first test (releases e) y is (outstanding past),
+      count-but-first (by-what test) (by-what (releases e)) (test y) (λ x h. ap test (is (x .what) h)) (held (pin-rows past)),
+      count-but-first test (releases e) (test y) (λ x h. ap test (is x h)) (outstanding past),
       ap (λ (k : ℕ). one (ltb 0 k && test y)) (pin-rows-hold past (releases e)),
       pin-rows-hold past test,
     )

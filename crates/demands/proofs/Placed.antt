@@ -9,6 +9,7 @@ use Rattle.history.specs.Past.{History, thread-of}
 use Rattle.history.specs.Frames.{depth}
 use Rattle.history.specs.Handles.{Alive, makes, ends, living}
 use Rattle.history.specs.Buffers.{gets, releases, outstanding}
+use Rattle.history.specs.Leaks.{by-what}
 use Rattle.history.specs.Acceptance.{Room}
 use Rattle.history.specs.Accepted.{Accepted, at-start, and-line}
 use Rattle.history.proofs.Tests.{and-right}
@@ -34,7 +35,7 @@ living-placed room (e ∷ past) (and-line _ _ few fine no-refusal so-far) =
       living-placed room past so-far,
     )
 
-pub rows-placed : (room : Room) (past : History) → Accepted room past → count unplaced (held (reference-rows past)) ≡ 0
+pub rows-placed : (room : Room) (past : History) → Accepted room past → count (by-what unplaced) (held (reference-rows past)) ≡ 0
 rows-placed room past so-far = rows-hold room past so-far unplaced ∙ living-placed room past so-far
 
 outstanding-owned : (room : Room) (past : History) → Accepted room past → count unowned (outstanding past) ≡ 0
@@ -49,5 +50,5 @@ outstanding-owned room (e ∷ past) (and-line _ _ few fine no-refusal so-far) =
       outstanding-owned room past so-far,
     )
 
-pub pins-owned : (room : Room) (past : History) → Accepted room past → count unowned (held (pin-rows past)) ≡ 0
+pub pins-owned : (room : Room) (past : History) → Accepted room past → count (by-what unowned) (held (pin-rows past)) ≡ 0
 pins-owned room past so-far = pin-rows-hold past unowned ∙ outstanding-owned room past so-far

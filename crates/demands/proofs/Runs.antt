@@ -1,6 +1,6 @@
--- The run of a whole input over lent tables prints the history's report. Assumes nothing.
+-- The run of a whole input over lent tables prints the history's report, and leaves tables that are tied to the lines accepted. Assumes nothing.
 use Prim.Native.Nat.{ℕ, suc}
-use mathlib.Core.Path.{_≡_, refl, ap, ap₂, _∙_}
+use mathlib.Core.Path.{_≡_, refl, sym, ap, ap₂, subst, _∙_}
 use mathlib.Core.Bool.{Bool}
 use mathlib.Core.List.{List, [], _∷_, _++_}
 use lib.ListN.{length}
@@ -14,6 +14,7 @@ use Rattle.history.specs.Findings.{of-line, findings}
 use Rattle.history.specs.Replies.{verdict}
 use Rattle.history.specs.Report.{ended, go-on, run, lines-of, shown-finding, end-line, shown-end, shown, report}
 use Rattle.history.specs.Accepted.{Accepted, at-start}
+use Rattle.history.specs.declared.Finding.{Finding}
 use Rattle.tables.specs.Tables.{Tables}
 use Rattle.tables.specs.Stepping.{Stepped, start-of}
 use Rattle.demands.specs.Tied.{All-tied}
@@ -50,3 +51,31 @@ pub reports-are : (T : Tables) → Long T → (input : List ℕ) → report-in T
 unfolding report-in report findings
 reports-are T long input =
     run-is (room-of T) (lines-of input) (start-of T) [] (record { tables = started T long; opened = items-started T }) at-start
+
+-- ---- what is left
+
+pub record Left-tied (room : Room) (T : Tables) (past : History) : Type 0 where
+  pub tied : All-tied room T past
+  pub accepts : Accepted room past
+
+run-leaves : (room : Room) (lines : List (List ℕ)) (T : Tables) (past : History) (fs : List Finding) → All-tied room T past → Accepted room past
+    → Left-tied room (run-in T fs lines .left) (run room past lines .accepted)
+unfolding run-in run
+run-leaves room [] T past fs tied so-far = record { tied = tied; accepts = so-far }
+run-leaves room (bs ∷ lines) T past fs tied so-far =
+    subst (λ (s : Stepped). Left-tied room (go-on-in T fs (s .reply) (λ gs. run-in (s .left) (fs ++ gs) lines) .left) (run room past (bs ∷ lines) .accepted))
+    (sym (step-is room T past tied so-far bs))
+    (go (verdict room past bs) refl (λ e is. run-leaves room lines (with-line-in e past T) (e ∷ past) (fs ++ of-line (suc (length past)) e (seen past)) (all-next room T e past tied is) is))
+  where
+    go : (v : Read) → verdict room past bs ≡ v
+        → ((e : Line) → Accepted room (e ∷ past)
+        → Left-tied room (run-in (with-line-in e past T) (fs ++ of-line (suc (length past)) e (seen past)) lines .left) (run room (e ∷ past) lines .accepted))
+        → Left-tied room (go-on-in T fs (answered past v T .reply) (λ gs. run-in (answered past v T .left) (fs ++ gs) lines) .left)
+        (go-on past v (λ e. run room (e ∷ past) lines) .accepted)
+    go (refused k) is ih = record { tied = tied; accepts = so-far }
+    go (says e) is ih = ih e (line-accepted room past bs e so-far is)
+
+pub left-tied : (T : Tables) → Long T → (input : List ℕ)
+    → Left-tied (room-of T) (run-in (start-of T) [] (lines-of input) .left) (run (room-of T) [] (lines-of input) .accepted)
+left-tied T long input =
+    run-leaves (room-of T) (lines-of input) (start-of T) [] [] (record { tables = started T long; opened = items-started T }) at-start

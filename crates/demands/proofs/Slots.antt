@@ -1,14 +1,16 @@
 -- Laws of slots: what is held after each change, and slots padded with free ones. Assumes nothing.
 use Prim.Native.Nat.{ℕ, zero, suc, _+_, _≤_, _<_}
 use mathlib.Core.Path.{_≡_, refl, ap, _∙_}
+use mathlib.Core.Logic.{_⊎_, inl, inr}
 use mathlib.Core.Bool.{Bool, true, false, not}
-use mathlib.Core.List.{List, [], _∷_}
+use mathlib.Core.List.{List, [], _∷_, List·Memᴰ, List·Memᴰ·head, List·Memᴰ·tail, List·Memᴰ·cases-cons}
 use mathlib.Core.Option.{Option, none, some}
 use native.Mathlib.Omega.{arith}
 use lib.ListN.{length}
 use Rattle.words.specs.Choice.{if_then_else_, one}
 use Rattle.words.specs.Lists.{keep, count, but-first}
 use Rattle.rows.specs.Slots.{held, put, put-all, wipe, wipe-first}
+use Rattle.history.proofs.Tests.{either}
 use Rattle.history.proofs.Counts.{count-cons}
 use Rattle.demands.specs.PastRows.{put-or-add, put-or-add-all, padded}
 
@@ -24,6 +26,17 @@ module _ {A : Type 0} where
   pub held-put-or-add-all : (f : A → Bool) (xs : List A) (s : List (Option A)) → count f (held (put-or-add-all xs s)) ≡ count f xs + count f (held s)
   held-put-or-add-all f [] s = omega arith
   held-put-or-add-all f (x ∷ xs) s = omega (arith, held-put-or-add-all f xs (put-or-add x s), held-put-or-add f x s, count-cons f x xs)
+
+  member-put-or-add : {y : A} (x : A) (s : List (Option A)) → List·Memᴰ y (held (put-or-add x s)) → (y ≡ x) ⊎ List·Memᴰ y (held s)
+  member-put-or-add x [] m = List·Memᴰ·cases-cons m
+  member-put-or-add x (none ∷ s) m = List·Memᴰ·cases-cons m
+  member-put-or-add {y} x (some z ∷ s) m =
+      either (List·Memᴰ·cases-cons m) (λ e. inr (List·Memᴰ·head e)) (λ k. either (member-put-or-add x s k) (λ e. inl e) (λ j. inr (List·Memᴰ·tail j)))
+
+  pub member-put-or-add-all : {y : A} (xs : List A) (s : List (Option A)) → List·Memᴰ y (held (put-or-add-all xs s)) → List·Memᴰ y xs ⊎ List·Memᴰ y (held s)
+  member-put-or-add-all [] s m = inr m
+  member-put-or-add-all {y} (x ∷ xs) s m =
+      either (member-put-or-add-all xs (put-or-add x s) m) (λ k. inl (List·Memᴰ·tail k)) (λ k. either (member-put-or-add x s k) (λ e. inl (List·Memᴰ·head e)) (λ j. inr j))
 
   pub held-wipe : (g : A → Bool) (s : List (Option A)) → held (wipe g s) ≡ keep (λ x. not (g x)) (held s)
   held-wipe g [] = refl
@@ -44,11 +57,6 @@ module _ {A : Type 0} where
           → held (if b then none ∷ s else some x ∷ wipe-first g s) ≡ (if b then held s else x ∷ but-first g (held s))
       go true ih = refl
       go false ih = ap (λ (m : List A). x ∷ m) ih
-
-  pub held-within : (s : List (Option A)) → length (held s) ≤ length s
-  held-within [] = omega arith
-  held-within (none ∷ s) = omega (arith, held-within s)
-  held-within (some x ∷ s) = omega (arith, held-within s)
 
   -- ---- nothing wiped
 

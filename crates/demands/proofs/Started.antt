@@ -23,10 +23,10 @@ use Rattle.book.specs.Changes.{blank}
 use Rattle.book.proofs.Changing.{frames-within, items-within}
 use Rattle.book.proofs.Tracing.{cleared-blank, cleared-long}
 use Rattle.book.proofs.Fitness.{not-overdone, stays-fit}
-use Rattle.tables.specs.Tables.{Tables, reference-of, pin-row-of}
+use Rattle.tables.specs.Tables.{Tables}
 use Rattle.tables.specs.Stepping.{start-of}
 use Rattle.demands.specs.PastRows.{reference-rows, pin-rows}
-use Rattle.demands.specs.Tied.{past-references, past-pins, past-thread, Tied, Items-tied}
+use Rattle.demands.specs.Tied.{reference-row, pin-row, past-references, past-pins, past-thread, Tied, Items-tied}
 use Rattle.demands.specs.Calls.{room-of}
 use Rattle.demands.proofs.Encoding.{encoded-cleared}
 
@@ -41,8 +41,8 @@ unfolding start-of room-of
 started T long =
     let clear = cleared-blank (T .book) in
     record {
-      reference-table = unfold past-references reference-rows in encoded-cleared references reference-of (T .references);
-      pin-table = unfold past-pins pin-rows in encoded-cleared pins pin-row-of (T .pins);
+      reference-table = unfold past-references reference-rows in encoded-cleared references reference-row (T .references);
+      pin-table = unfold past-pins pin-rows in encoded-cleared pins pin-row (T .pins);
       threads = λ t. clear .threads t ∙ blank-past t;
       lines = clear .lines;
       end-mark = unfold closed in clear .end-mark;

@@ -31,7 +31,7 @@ use Rattle.demands.proofs.Started.{started, items-started, fit}
 
 -- the tables with one accepted line more
 abbrev pub with-line-in : Line → History → Tables → Tables
-with-line-in e past T = with-items e (acted e (asked (top-of (items (thread-of e) past))) T)
+with-line-in e past T = with-items e (acted (suc (length past)) e (asked (top-of (items (thread-of e) past))) T)
 
 -- what the history says of the line, done to the tables
 abbrev pub answered : History → Read → Tables → Stepped
@@ -50,7 +50,7 @@ line-accepted room past bs e so-far is = go e (verdict-is room past bs so-far (s
 
 pub all-next : (room : Room) (T : Tables) (e : Line) (past : History) → All-tied room T past → Accepted room (e ∷ past) → All-tied room (with-line-in e past T) (e ∷ past)
 all-next room T e past k accepts =
-    let S = acted e (asked (top-of (items (thread-of e) past))) T in
+    let S = acted (suc (length past)) e (asked (top-of (items (thread-of e) past))) T in
     let tied = next room T e past (k .tables) accepts in
     let same = items-untouched room T e past (k .tables) (k .opened) accepts in
     record {
@@ -66,7 +66,7 @@ module _ (room : Room) (T : Tables) (past : History) (k : All-tied room T past) 
       rw (k .tables .lines, k .opened .open-items (thread-of e), weighed-tied room T past (k .tables) so-far e (suc (length past)))
       (go (eqb (refusal room e past) 0))
     where
-      go : (q : Bool) → follow e (asked (top-of (items (thread-of e) past))) (if q then accepted (of-line (suc (length past)) e (seen past)) else not-accepted (refusal room e past)) T
+      go : (q : Bool) → follow (suc (length past)) e (asked (top-of (items (thread-of e) past))) (if q then accepted (of-line (suc (length past)) e (seen past)) else not-accepted (refusal room e past)) T
           ≡ answered past (if q then says e else refused (refusal room e past)) T
       go true = refl
       go false = refl

@@ -20,6 +20,7 @@ use Rattle.history.specs.Frames.{frames, frames-after, depth}
 use Rattle.history.specs.Handles.{Alive, makes, living}
 use Rattle.history.specs.Buffers.{Pin, outstanding}
 use Rattle.history.specs.Thread.{all-threads, monitors}
+use Rattle.history.specs.Leaks.{Made, by-what}
 use Rattle.history.specs.Seen.{Seen, seen}
 use Rattle.history.specs.Acceptance.{Room, everything, in-step, env-right, made-by, makes-anew, has-room, has-item-room, first-refusal, refusal}
 use Rattle.history.specs.Findings.{of-line}
@@ -31,10 +32,10 @@ use Rattle.history.proofs.Threads.{own-frames}
 use Rattle.history.proofs.Stacks.{monitors-in-lines, at-most-a-million}
 use Rattle.book.specs.Threads.{Thread, thread-in, all-monitors}
 use Rattle.book.proofs.Fitness.{all-monitors-are}
-use Rattle.tables.specs.Tables.{Tables, alive-of, reference-of, pin-of, pin-row-of, handles-in, buffers-in, seen-in}
+use Rattle.tables.specs.Tables.{Tables, alive-of, pin-of, handles-in, buffers-in, seen-in}
 use Rattle.tables.specs.Weighing.{rows-left, refusal-in, weighed-in}
 use Rattle.demands.specs.PastRows.{padded, reference-rows, pin-rows}
-use Rattle.demands.specs.Tied.{encoded, past-references, past-pins, past-thread, Tied}
+use Rattle.demands.specs.Tied.{encoded, reference-row, pin-row, past-references, past-pins, past-thread, Tied}
 use Rattle.demands.proofs.Slots.{count-same, length-padded, held-padded}
 use Rattle.demands.proofs.PastRows.{rows-hold, pin-rows-hold}
 use Rattle.demands.proofs.PastRoom.{rows-short, references-left, pins-short, pins-left}
@@ -52,10 +53,10 @@ frames-own Z past = unfold frames through in refl
 module _ (room : Room) (T : Tables) (past : History) (tied : Tied room T past) (so-far : Accepted room past) where
   -- ---- what the tables show
 
-  pub references-encoded : view references (T .references) ≡ encoded reference-of (padded (room .references) (reference-rows past))
+  pub references-encoded : view references (T .references) ≡ encoded reference-row (padded (room .references) (reference-rows past))
   references-encoded = unfold past-references in tied .reference-table
 
-  pub pins-encoded : view pins (T .pins) ≡ encoded pin-row-of (padded (room .pins) (pin-rows past))
+  pub pins-encoded : view pins (T .pins) ≡ encoded pin-row (padded (room .pins) (pin-rows past))
   pins-encoded = unfold past-pins in tied .pin-table
 
   pub held-references : held (padded (room .references) (reference-rows past)) ≡ held (reference-rows past)
@@ -67,17 +68,17 @@ module _ (room : Room) (T : Tables) (past : History) (tied : Tied room T past) (
   pub handles-tied : (test : Alive → Bool) → handles-in (T .references) test ≡ count test (living past)
   unfolding handles-in
   handles-tied test =
-      encoded-counted references reference-of (T .references) (padded (room .references) (reference-rows past)) references-encoded (λ x. test (alive-of x))
-      ∙ ap (count (λ (x : Alive). test (alive-of (reference-of x)))) held-references
-      ∙ count-same unplaced (λ x. test (alive-of (reference-of x))) test (λ x k. ap test (alive-of-reference x k)) (held (reference-rows past)) (rows-placed room past so-far)
+      encoded-counted references reference-row (T .references) (padded (room .references) (reference-rows past)) references-encoded (λ x. test (alive-of x))
+      ∙ ap (count (λ (x : Made Alive). test (alive-of (reference-row x)))) held-references
+      ∙ count-same (by-what unplaced) (λ x. test (alive-of (reference-row x))) (by-what test) (λ x k. ap test (alive-of-reference (x .line) (x .what) k)) (held (reference-rows past)) (rows-placed room past so-far)
       ∙ rows-hold room past so-far test
 
   buffers-tied : (test : Pin → Bool) → buffers-in (T .pins) test ≡ count test (outstanding past)
   unfolding buffers-in
   buffers-tied test =
-      encoded-counted pins pin-row-of (T .pins) (padded (room .pins) (pin-rows past)) pins-encoded (λ x. test (pin-of x))
-      ∙ ap (count (λ (x : Pin). test (pin-of (pin-row-of x)))) held-pins
-      ∙ count-same unowned (λ x. test (pin-of (pin-row-of x))) test (λ x k. ap test (pin-of-row x k)) (held (pin-rows past)) (pins-owned room past so-far)
+      encoded-counted pins pin-row (T .pins) (padded (room .pins) (pin-rows past)) pins-encoded (λ x. test (pin-of x))
+      ∙ ap (count (λ (x : Made Pin). test (pin-of (pin-row x)))) held-pins
+      ∙ count-same (by-what unowned) (λ x. test (pin-of (pin-row x))) (by-what test) (λ x k. ap test (pin-of-row (x .line) (x .what) k)) (held (pin-rows past)) (pins-owned room past so-far)
       ∙ pin-rows-hold past test
 
   monitors-tied : all-monitors (T .book) ≡ sum (λ t. monitors t past) all-threads
@@ -111,10 +112,10 @@ module _ (room : Room) (T : Tables) (past : History) (tied : Tied room T past) (
 
   alive-tied : alive references (T .references) ≡ length (held (reference-rows past))
   alive-tied =
-      encoded-alive references reference-of (T .references) (padded (room .references) (reference-rows past)) references-encoded ∙ ap length held-references
+      encoded-alive references reference-row (T .references) (padded (room .references) (reference-rows past)) references-encoded ∙ ap length held-references
 
   pins-tied : alive pins (T .pins) ≡ length (held (pin-rows past))
-  pins-tied = encoded-alive pins pin-row-of (T .pins) (padded (room .pins) (pin-rows past)) pins-encoded ∙ ap length held-pins
+  pins-tied = encoded-alive pins pin-row (T .pins) (padded (room .pins) (pin-rows past)) pins-encoded ∙ ap length held-pins
 
   -- as many rows are used as are alive, and outstanding
   pub used-rows : alive references (T .references) ≡ length (living past)
@@ -125,12 +126,12 @@ module _ (room : Room) (T : Tables) (past : History) (tied : Tied room T past) (
 
   room-references : room-of-rows references (T .references) ≡ room .references
   room-references =
-      encoded-room references reference-of (T .references) (padded (room .references) (reference-rows past)) references-encoded
+      encoded-room references reference-row (T .references) (padded (room .references) (reference-rows past)) references-encoded
       ∙ length-padded (room .references) (reference-rows past)
 
   room-pins : room-of-rows pins (T .pins) ≡ room .pins
   room-pins =
-      encoded-room pins pin-row-of (T .pins) (padded (room .pins) (pin-rows past)) pins-encoded ∙ length-padded (room .pins) (pin-rows past)
+      encoded-room pins pin-row (T .pins) (padded (room .pins) (pin-rows past)) pins-encoded ∙ length-padded (room .pins) (pin-rows past)
 
   module _ (e : Line) where
     pub makes-tied : made-by e (seen-in T) ≡ makes e (depth (thread-of e) past)

@@ -1,12 +1,12 @@
 -- What is demanded of the judge over lent tables, each demand as one statement: whoever doubts the judge reads these. Assumes nothing.
-use Prim.Native.Nat.{ℕ, _≤_, _<_}
+use Prim.Native.Nat.{ℕ, _*_, _/_, _≤_, _<_}
 use mathlib.Core.Path.{_≡_}
-use mathlib.Core.Logic.{_↔_}
+use mathlib.Core.Logic.{_⊎_, _↔_}
 use mathlib.Core.Bool.{Bool, true, false}
-use mathlib.Core.List.{List, _∷_}
-use lib.ListN.{length}
-use Rattle.words.specs.Lists.{count}
-use Rattle.lines.specs.Line.{Line}
+use mathlib.Core.List.{List, [], _∷_, _++_, List·Memᴰ}
+use lib.ListN.{length, drop}
+use Rattle.words.specs.Lists.{count, joined}
+use Rattle.lines.specs.Line.{Line, Z}
 use Rattle.lines.specs.Reading.{says, refused, read}
 use Rattle.rows.specs.Slots.{held}
 use Rattle.rows.specs.Table.{alive}
@@ -14,8 +14,11 @@ use Rattle.rows.specs.Exact.{Exact}
 use Rattle.rows.specs.References.{references}
 use Rattle.rows.specs.Pins.{pins}
 use Rattle.history.specs.Past.{History}
-use Rattle.history.specs.Handles.{Alive, living}
+use Rattle.history.specs.Handles.{Alive, is-shared, living}
 use Rattle.history.specs.Buffers.{Pin, outstanding}
+use Rattle.history.specs.Leaks.{Leak, by-what}
+use Rattle.history.specs.LeakOrder.{Ascending}
+use Rattle.history.specs.Paper.{Broken}
 use Rattle.history.specs.Acceptance.{Room}
 use Rattle.history.specs.Findings.{findings}
 use Rattle.history.specs.Replies.{not-accepted, most-lines, reply, heard}
@@ -25,8 +28,11 @@ use Rattle.history.specs.Report.{report}
 use Rattle.book.specs.Unfit.{unfit}
 use Rattle.tables.specs.Tables.{Tables}
 use Rattle.tables.specs.Stepping.{step-of, start-of}
+use Rattle.tables.specs.Listing.{leak-numbers, written, not-written, lists as listing, list-of}
 use Rattle.demands.specs.PastRows.{reference-rows, pin-rows}
 use Rattle.demands.specs.Tied.{past-references, past-pins, Tied, Items-tied}
+use Rattle.demands.specs.Leaks.{leaks, list-after}
+use Rattle.demands.specs.Leaked.{Leaked, Line-of-R, of-rule, is-leak, is-owned}
 use Rattle.demands.specs.Calls.{room-of, Long, Alike, from-start, heard-by, all-found, report-in}
 
 -- the bytes are a line that passes all tests before that of the room, and after it the room would be exceeded
@@ -47,15 +53,33 @@ pub record Of-any-tables (T : Tables) : Type 0 where
   pub refusal-numbered : (bs : List ℕ) (k : ℕ) → step-of T bs .reply ≡ not-accepted k → (1 ≤ k) × (k ≤ 8)
   -- 8 is "given exactly when" the lent thread book is not fit, whatever the line
   pub eight-exactly : (bs : List ℕ) → (step-of T bs .reply ≡ not-accepted 8) ↔ (unfit (T .book) ≡ true)
+  -- of the list: 8, then 4 before Z, then 7, "nothing written", and nothing else
+  pub list-untouched : (ns : List ℕ) (k : ℕ) → list-of T ns .reply ≡ not-written k → list-of T ns .left ≡ ns
+  pub list-numbered : (ns : List ℕ) (k : ℕ) → list-of T ns .reply ≡ not-written k → (k ≡ 8) ⊎ (k ≡ 4) ⊎ (k ≡ 7)
+  pub list-eight : (ns : List ℕ) → (list-of T ns .reply ≡ not-written 8) ↔ (unfit (T .book) ≡ true)
   -- "A start call clears all rows, marks and book": it forgets whatever stood there
   pub start-forgets : (S : Tables) → Alike S T → start-of S ≡ start-of T
 
 -- of the rows of the past, after any calls
 pub record Of-past-rows (room : Room) (calls : List (List ℕ)) : Type 0 where
   -- they hold what is alive, by whatever test it is counted
-  pub rows-hold : (test : Alive → Bool) → count test (held (reference-rows (heard room calls))) ≡ count test (living (heard room calls))
+  pub rows-hold : (test : Alive → Bool) → count (by-what test) (held (reference-rows (heard room calls))) ≡ count test (living (heard room calls))
   -- and what is outstanding
-  pub pin-rows-hold : (test : Pin → Bool) → count test (held (pin-rows (heard room calls))) ≡ count test (outstanding (heard room calls))
+  pub pin-rows-hold : (test : Pin → Bool) → count (by-what test) (held (pin-rows (heard room calls))) ≡ count test (outstanding (heard room calls))
+
+-- of the leaks of the lines heard
+pub record Of-leaks (room : Room) (calls : List (List ℕ)) : Type 0 where
+  -- "ordered by making line, then rule and row": no two are of one line, since an R makes one thing at most
+  pub ascending : Ascending (leaks (heard room calls))
+  -- "one record for each outstanding buffer and each global or weak alive": "two equal buffers are two records"
+  pub buffers-listed : (t b : ℕ) → count (is-leak 8 t b) (leaks (heard room calls)) ≡ count (is-owned t b) (outstanding (heard room calls))
+  pub handles-listed : (h : ℕ) → count (is-leak 10 0 h) (leaks (heard room calls)) ≡ count (is-shared h) (living (heard room calls))
+  -- and nothing besides, each with the line of the R that made it
+  pub each-leaked : (x : Leak) → List·Memᴰ x (leaks (heard room calls)) → Leaked (heard room calls) x
+  pub made-by-R : (x : Leak) → List·Memᴰ x (leaks (heard room calls)) → Line-of-R (x .line) (heard room calls)
+  -- "The Z findings stay, and those of rules 8 and 10 count the records of their rule"
+  pub buffers-counted : (k : ℕ) → Broken (heard room calls) Z 8 0 k ↔ ((k ≡ count (of-rule 8) (leaks (Z ∷ heard room calls))) × (0 < k))
+  pub handles-counted : (k : ℕ) → Broken (heard room calls) Z 10 0 k ↔ ((k ≡ count (of-rule 10) (leaks (Z ∷ heard room calls))) × (0 < k))
 
 -- of lent tables after a start and any calls, refused ones among them
 pub record From-a-start (T : Tables) (calls : List (List ℕ)) : Type 0 where
@@ -68,6 +92,19 @@ pub record From-a-start (T : Tables) (calls : List (List ℕ)) : Type 0 where
       → (step-of (from-start T calls) bs .reply ≡ not-accepted k) ↔ Weighs (room-of T) (heard-by T calls) bs (refused k)
   -- 7: "after it the alive handles, the outstanding buffers, or a thread's items or frames would exceed room"
   pub seven-exactly : (bs : List ℕ) → (step-of (from-start T calls) bs .reply ≡ not-accepted 7) ↔ Out-of-room (room-of T) (heard-by T calls) bs
+  -- the list is the history's: its leaks, all and nothing besides
+  pub lists : (ns : List ℕ) → list-of (from-start T calls) ns ≡ list-after (heard-by T calls) ns
+  -- "4 when asked before Z"
+  pub four-before-Z : (ns : List ℕ) → (list-of (from-start T calls) ns .reply ≡ not-written 4) ↔ (¬ List·Memᴰ Z (heard-by T calls))
+  -- "7 when the slice holds fewer records than there are leaks"
+  pub seven-listed : (ns : List ℕ)
+      → (list-of (from-start T calls) ns .reply ≡ not-written 7)
+      ↔ (List·Memᴰ Z (heard-by T calls) × (length ns / leak-numbers < length (leaks (heard-by T calls))))
+  -- "The list is written to a lent slice": where that has four numbers for each, they are rule, thread, value and line of each, how many is told, and what is behind them stays
+  pub listed : (ns : List ℕ) → List·Memᴰ Z (heard-by T calls) → length (leaks (heard-by T calls)) * 4 ≤ length ns
+      → list-of (from-start T calls) ns
+      ≡ listing (written (length (leaks (heard-by T calls))))
+      (joined (leaks (heard-by T calls)) (λ x. x .rule ∷ x .thread ∷ x .value ∷ x .line ∷ []) ++ drop (length (leaks (heard-by T calls)) * 4) ns)
   -- 8 never comes
   pub never-eight : unfit (from-start T calls .book) ≡ false
   -- "all it leaves in lent rows, marks and book": the rows of the past, and each thread's record by the history
@@ -88,6 +125,7 @@ pub record From-a-start (T : Tables) (calls : List (List ℕ)) : Type 0 where
 pub record Demands : Type 0 where
   pub of-any-tables : (T : Tables) → Of-any-tables T
   pub of-past-rows : (room : Room) (calls : List (List ℕ)) → Of-past-rows room calls
+  pub of-leaks : (room : Room) (calls : List (List ℕ)) → Of-leaks room calls
   pub from-a-start : (T : Tables) → Long T → (calls : List (List ℕ)) → From-a-start T calls
   -- "The program stops at it": the report of a whole input, down to its bytes, is the history's; no invented Z or `end` counts
   pub reports : (T : Tables) → Long T → (input : List ℕ) → report-in T input ≡ report (room-of T) input

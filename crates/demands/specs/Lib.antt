@@ -1,6 +1,8 @@
 -- believed
 pub mod Calls
--- believed of any tables
 pub mod PastRows
+pub mod Leaks
+-- believed of any tables
 pub mod Tied
+pub mod Leaked
 pub mod Demands

@@ -10,6 +10,9 @@ use Rattle.rows.specs.Pins.{pins}
 use Rattle.rows.specs.declared.references.Reference.{Reference}
 use Rattle.rows.specs.declared.pins.Pin.{Pin as PinRow}
 use Rattle.history.specs.Past.{History, closed}
+use Rattle.history.specs.Handles.{Alive}
+use Rattle.history.specs.Buffers.{Pin}
+use Rattle.history.specs.Leaks.{Made}
 use Rattle.history.specs.Items.{items}
 use Rattle.history.specs.Frames.{frames}
 use Rattle.history.specs.Capacities.{capacities}
@@ -28,12 +31,19 @@ module _ {A B : Type 0} where
   encoded f (none ∷ s) = none ∷ encoded f s
   encoded f (some x ∷ s) = some (f x) ∷ encoded f s
 
+-- what was made, as a row
+abbrev pub reference-row : Made Alive → Reference
+reference-row x = reference-of (x .line) (x .what)
+
+abbrev pub pin-row : Made Pin → PinRow
+pin-row x = pin-row-of (x .line) (x .what)
+
 -- the lent rows that stand for the rows of the past, in a room of n
 unfoldable pub past-references : ℕ → History → List (Option Reference)
-past-references n past = encoded reference-of (padded n (reference-rows past))
+past-references n past = encoded reference-row (padded n (reference-rows past))
 
 unfoldable pub past-pins : ℕ → History → List (Option PinRow)
-past-pins n past = encoded pin-row-of (padded n (pin-rows past))
+past-pins n past = encoded pin-row (padded n (pin-rows past))
 
 -- a thread by the history, but for its open items
 unfoldable pub past-thread : ℕ → History → Thread

@@ -73,7 +73,7 @@ module _ (T : Tables) (top : Option Item) (many t env : ℕ) (hs : List ℕ) (li
     pub enter-stays : (y : Answer) → (k ≡ 0 → ⊥) → y ≡ refused-with k → leaves y T ≡ line-outcome line (N t env hs) top many T
     enter-stays y z ey = stays line (N t env hs) top many T y k enter-number z ey
 
-    pub enter-goes : (y : Answer) (S : Tables) → k ≡ 0 → y ≡ answer-of [] → ((i : ℕ) → S ≡ acted (N t env hs) i T)
+    pub enter-goes : (y : Answer) (S : Tables) → k ≡ 0 → y ≡ answer-of [] → ((i : ℕ) → S ≡ acted line (N t env hs) i T)
         → leaves y S ≡ line-outcome line (N t env hs) top many T
     enter-goes y S z ey es =
         goes line (N t env hs) top many T y [] S (sym enter-number ∙ z) ey (sym (enter-listed line t env hs (seen-in T))) (es (asked top))
@@ -87,7 +87,7 @@ module _ (T : Tables) (top : Option Item) (many t r line : ℕ) (closed : Bool) 
   pub leave-stays : (y : Answer) → (k ≡ 0 → ⊥) → y ≡ refused-with k → leaves y T ≡ line-outcome line (X t r) top many T
   leave-stays y z ey = stays line (X t r) top many T y k leave-number z ey
 
-  pub leave-goes : (v : LeaveSight) (y : Answer) (S : Tables) → k ≡ 0 → v ≡ leave-sight T t r → ((i : ℕ) → S ≡ acted (X t r) i T)
+  pub leave-goes : (v : LeaveSight) (y : Answer) (S : Tables) → k ≡ 0 → v ≡ leave-sight T t r → ((i : ℕ) → S ≡ acted line (X t r) i T)
       → y ≡ answer-of (listed (judged-leave line r v)) → leaves y S ≡ line-outcome line (X t r) top many T
   leave-goes v y S z ev es ey =
       goes line (X t r) top many T y _ S (sym leave-number ∙ z) ey
@@ -111,7 +111,7 @@ module _ (T : Tables) (top : Option Item) (many t env f a b c : ℕ) (n : ℤ) (
       (ap (λ (u : CallSight). listed (judged-call line env f a b c u)) ev ∙ call-found T line t env f a b c n)
       (es
       ∙ ap (λ (u : CallSight). called T t f a (u .a .row) (u .pb) (u .b .row)) ev
-      ∙ called-is-acted T t env f a b c n (asked top) _ _ _ (deleted-row T t f a b c) (place-told T t f a b c) (released-row T t f a b c))
+      ∙ called-is-acted T t env f a b c n line (asked top) _ _ _ (deleted-row T t f a b c) (place-told T t f a b c) (released-row T t f a b c))
 
 -- ---- R
 
@@ -135,15 +135,15 @@ module _ (T : Tables) (top : Option Item) (many t f h p : ℕ) (s : ℤ) (line :
     pub return-stays : (y : Answer) → (k ≡ 0 → ⊥) → y ≡ refused-with k → leaves y T ≡ line-outcome line (R t f (result-in-line f h s) p) top many T
     return-stays y z ey = stays line (R t f (result-in-line f h s) p) top many T y k return-number z ey
 
-    pub return-goes : (y : Answer) (S : Tables) (z : ℤ) (i : ℕ) → k ≡ 0 → z ≡ s → i ≡ asked top → S ≡ returned T (v .kind) (v .made .row) t f h z p i
+    pub return-goes : (y : Answer) (S : Tables) (z : ℤ) (i : ℕ) → k ≡ 0 → z ≡ s → i ≡ asked top → S ≡ returned T line (v .kind) (v .made .row) t f h z p i
         → y ≡ answer-of (found-return line h v) → leaves y S ≡ line-outcome line (R t f (result-in-line f h s) p) top many T
     return-goes y S z i q ez ei es ey =
         goes line (R t f (result-in-line f h s) p) top many T y _ S (sym return-number ∙ q) ey
         (ap (found-return line h) ev ∙ return-found T line t f h p s)
         (es
-        ∙ ap₂ (λ (u : ReturnSight) (w : ℤ). returned T (u .kind) (u .made .row) t f h w p i) ev ez
-        ∙ ap₂ (λ (kind : Result) (j : ℕ). returned T kind (return-sight T t f h .made .row) t f h s p j) (kind-told T t f h) ei
-        ∙ returned-is-acted T (return-sight T t f h .made .row) t f h s p (asked top) (handle-row T t f h) (buffer-row T t f h))
+        ∙ ap₂ (λ (u : ReturnSight) (w : ℤ). returned T line (u .kind) (u .made .row) t f h w p i) ev ez
+        ∙ ap₂ (λ (kind : Result) (j : ℕ). returned T line kind (return-sight T t f h .made .row) t f h s p j) (kind-told T t f h) ei
+        ∙ returned-is-acted T line (return-sight T t f h .made .row) t f h s p (asked top) (handle-row T t f h) (buffer-row T t f h))
 
 -- ---- Z
 
@@ -152,7 +152,7 @@ module _ (T : Tables) (line : ℕ) (closed : Bool) (ec : closed ≡ closed-in (T
   end-stays q ey =
       stays line Z top many T y 4 (ap (λ (o : Bool). if o then 4 else 0) (sym q ∙ ec) ∙ sym (end-told T top many)) (λ z. omega (arith, z)) ey
 
-  pub end-goes : (v : EndSight) (S : Tables) → closed ≡ false → v ≡ end-sight T → ((i : ℕ) → S ≡ acted Z i T) → y ≡ answer-of (found-end line v)
+  pub end-goes : (v : EndSight) (S : Tables) → closed ≡ false → v ≡ end-sight T → ((i : ℕ) → S ≡ acted line Z i T) → y ≡ answer-of (found-end line v)
       → leaves y S ≡ line-outcome line Z top many T
   end-goes v S q ev es ey =
       goes line Z top many T y _ S (end-told T top many ∙ ap (λ (o : Bool). if o then 4 else 0) (sym ec ∙ q)) ey (ap (found-end line) ev ∙ end-found T line) (es (asked top))

@@ -21,7 +21,7 @@ module _ (line : ℕ) (e : Line) (top : Option Item) (many : ℕ) (T : Tables) (
   stays k ek z ey =
       rw (ne-eqb (refusal-in e top many T) 0 (λ q. z (ek ∙ q))) (ap (λ (a : Answer). leaves a T) (ey ∙ ap refused-with ek))
 
-  pub goes : (fs : List Finding) (S : Tables) → refusal-in e top many T ≡ 0 → y ≡ answer-of fs → fs ≡ of-line line e (seen-in T) → S ≡ acted e (asked top) T
+  pub goes : (fs : List Finding) (S : Tables) → refusal-in e top many T ≡ 0 → y ≡ answer-of fs → fs ≡ of-line line e (seen-in T) → S ≡ acted line e (asked top) T
       → leaves y S ≡ line-outcome line e top many T
   unfolding line-outcome weighed-in
   goes fs S z ey ef es = rw (eq-eqb (refusal-in e top many T) 0 z) (ap₂ leaves (ey ∙ ap answer-of ef) es)

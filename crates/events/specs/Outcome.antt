@@ -18,11 +18,11 @@ pub record Outcome : Type 0 where
 abbrev pub leaves : Answer → Tables → Outcome
 leaves a T = record { answer = a; left = T }
 
--- a refusal leaves all untouched; `n` was asked of the open call on top
-abbrev pub outcome-of : Reply → Line → ℕ → Tables → Outcome
-outcome-of (not-accepted k) e n T = leaves (refused-with k) T
-outcome-of (accepted fs) e n T = leaves (answer-of fs) (acted e n T)
+-- a refusal leaves all untouched; line number `line`, `n` was asked of the open call on top
+abbrev pub outcome-of : Reply → ℕ → Line → ℕ → Tables → Outcome
+outcome-of (not-accepted k) line e n T = leaves (refused-with k) T
+outcome-of (accepted fs) line e n T = leaves (answer-of fs) (acted line e n T)
 
 -- line number `line`; `top` is on top of its thread's `many` open items
 unfoldable pub line-outcome : ℕ → Line → Option Item → ℕ → Tables → Outcome
-line-outcome line e top many T = outcome-of (weighed-in line e top many T) e (asked top) T
+line-outcome line e top many T = outcome-of (weighed-in line e top many T) line e (asked top) T

@@ -11,18 +11,19 @@ ghost use Rattle.book.specs.Threads.{top-is};
 ghost use Rattle.tables.specs.Tables.{tables};
 ghost use Rattle.events.specs.Outcome.{leaves, line-outcome};
 
-// `top` is on top of the thread's `many` open items.
+// Line number `line`; `top` is on top of the thread's `many` open items.
 pub fn enter(
     rows: &mut [Number],
     marks: &mut [u64],
     book: &mut [u64],
     top: Top,
     many: u32,
+    line: u32,
     t: u32,
     env: Handle,
     hs: &[Handle],
 ) -> Answer
-    ensures { λ r. ⌜ ((ps ns : List ℕ) (line : ℕ) → leaves r (tables (now (rows .exit)) (now (marks .exit)) ps ns (now (book .exit))) ≡ line-outcome line (N t env (now (hs .entry))) (top-is top) many (tables (now (rows .entry)) (now (marks .entry)) ps ns (now (book .entry)))) ⌝ }
+    ensures { λ r. ⌜ ((ps ns : List ℕ) → leaves r (tables (now (rows .exit)) (now (marks .exit)) ps ns (now (book .exit))) ≡ line-outcome line (N t env (now (hs .entry))) (top-is top) many (tables (now (rows .entry)) (now (marks .entry)) ps ns (now (book .entry)))) ⌝ }
 {
     if !weigh::enter::in_turn(book::is_closed(book), top) {
         return answers::refused(4);
@@ -32,6 +33,6 @@ pub fn enter(
     if k != 0 {
         return answers::refused(k);
     }
-    act::enter::enter(rows, marks, book, t, env, hs);
+    act::enter::enter(rows, marks, book, line, t, env, hs);
     answers::nothing()
 }

@@ -56,6 +56,7 @@ pub fn returns(
         pins,
         pinmarks,
         book,
+        line,
         kind,
         new.row,
         t,

@@ -52,7 +52,7 @@ module _ (t env f a b c : ℕ) (n : ℤ) where
   -- a release takes the buffer that it names, if that is outstanding
   pub released-after : (test : Pin → Bool) (l : List Pin) → is-buffer-place (fact-of f .b) ≡ true
       → count test (but-first (releases (C t env f a b c n)) l) + one (ltb 0 (count (same-pin (pin t f b)) l) && test (pin t f b)) ≡ count test l
-  released-after test l is = rw (releasing true is) (count-but-first test (same-pin (pin t f b)) (pin t f b) (λ x. same-pin-is (pin t f b) x) l)
+  released-after test l is = rw (releasing true is) (count-but-first test (same-pin (pin t f b)) (test (pin t f b)) (λ x h. ap test (same-pin-is (pin t f b) x h)) l)
 
   -- another C takes nothing
   pub nothing-released : (l : List Pin) → is-buffer-place (fact-of f .b) ≡ false → but-first (releases (C t env f a b c n)) l ≡ l

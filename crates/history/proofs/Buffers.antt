@@ -142,7 +142,7 @@ releases-same e x h = fun-ext λ y. go y (releases e y) refl (same-pin x y) refl
 one-less : (x : Pin) (l : List Pin) → count (same-pin x) (but-first (same-pin x) l) + one (ltb 0 (count (same-pin x) l)) ≡ count (same-pin x) l
 one-less x l =
     ap (λ (b : Bool). count (same-pin x) (but-first (same-pin x) l) + one b) (sym (ap (λ (b : Bool). ltb 0 (count (same-pin x) l) && b) (same-pin-self x) ∙ and-true (ltb 0 (count (same-pin x) l))))
-    ∙ count-but-first (same-pin x) (same-pin x) x (λ y. same-pin-is x y) l
+    ∙ count-but-first (same-pin x) (same-pin x) (same-pin x x) (λ y h. ap (same-pin x) (same-pin-is x y h)) l
 
 -- of those equal to it, a release ends one if it names it, and none if not
 pub after-release : (e : Line) (x : Pin) (l : List Pin)

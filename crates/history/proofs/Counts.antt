@@ -44,6 +44,31 @@ module _ {ℓ} {A : Type ℓ} where
   count-length f l = omega (arith, count-le f (λ x. true) (λ x h. refl) l, count-all l)
 
   -- those of f in two parts: those of g and those of h
+  pub keep-append : (f : A → Bool) (l m : List A) → keep f (l ++ m) ≡ keep f l ++ keep f m
+  keep-append f [] m = refl
+  keep-append f (x ∷ l) m = go (f x) (keep-append f l m)
+    where
+      go : (b : Bool) → keep f (l ++ m) ≡ keep f l ++ keep f m → (if b then x ∷ keep f (l ++ m) else keep f (l ++ m)) ≡ (if b then x ∷ keep f l else keep f l) ++ keep f m
+      go true ih = ap (λ (k : List A). x ∷ k) ih
+      go false ih = ih
+
+  pub keep-kept : (f g : A → Bool) (l : List A) → keep f (keep g l) ≡ keep (λ x. g x && f x) l
+  keep-kept f g [] = refl
+  keep-kept f g (x ∷ l) = go (g x) (keep-kept f g l)
+    where
+      go : (b : Bool) → keep f (keep g l) ≡ keep (λ y. g y && f y) l
+          → keep f (if b then x ∷ keep g l else keep g l) ≡ (if b && f x then x ∷ keep (λ y. g y && f y) l else keep (λ y. g y && f y) l)
+      go true ih = ap (λ (k : List A). if f x then x ∷ k else k) ih
+      go false ih = ih
+
+  pub length-keep : (f : A → Bool) (l : List A) → length (keep f l) ≡ count f l
+  length-keep f [] = refl
+  length-keep f (x ∷ l) = go (f x) (length-keep f l)
+    where
+      go : (b : Bool) → length (keep f l) ≡ count f l → length (if b then x ∷ keep f l else keep f l) ≡ (if b then suc (count f l) else count f l)
+      go true ih = ap suc ih
+      go false ih = ih
+
   pub count-parts : (f g h : A → Bool) (l : List A) → ((x : A) → List·Memᴰ x l → one (f x) ≡ one (g x) + one (h x)) → count f l ≡ count g l + count h l
   count-parts f g h [] e = refl
   count-parts f g h (x ∷ l) e =
@@ -97,14 +122,14 @@ module _ {ℓ} {A : Type ℓ} where
       go true k ih = sym (keep-all g l (omega (arith, h)))
       go false k ih = ap (λ (m : List A). x ∷ m) (ih (omega (arith, h)))
 
-  -- without the first of equal things: one thing less, if there is one
-  pub count-but-first : (f g : A → Bool) (a : A) → ((x : A) → g x ≡ true → x ≡ a) → (l : List A)
-      → count f (but-first g l) + one (ltb 0 (count g l) && f a) ≡ count f l
-  count-but-first f g a h [] = refl
-  count-but-first f g a h (x ∷ l) = go (g x) (h x) (count-but-first f g a h l)
+  -- without the first of things that a test takes alike: one thing less, if there is one
+  pub count-but-first : (f g : A → Bool) (v : Bool) → ((x : A) → g x ≡ true → f x ≡ v) → (l : List A)
+      → count f (but-first g l) + one (ltb 0 (count g l) && v) ≡ count f l
+  count-but-first f g v h [] = refl
+  count-but-first f g v h (x ∷ l) = go (g x) (h x) (count-but-first f g v h l)
     where
-      go : (b : Bool) → (b ≡ true → x ≡ a) → count f (but-first g l) + one (ltb 0 (count g l) && f a) ≡ count f l
-          → count f (if b then l else x ∷ but-first g l) + one (ltb 0 (if b then suc (count g l) else count g l) && f a) ≡ count f (x ∷ l)
+      go : (b : Bool) → (b ≡ true → f x ≡ v) → count f (but-first g l) + one (ltb 0 (count g l) && v) ≡ count f l
+          → count f (if b then l else x ∷ but-first g l) + one (ltb 0 (if b then suc (count g l) else count g l) && v) ≡ count f (x ∷ l)
       go true e ih = rw (lt-ltb 0 (suc (count g l)) (omega arith), ← e refl) (omega (arith, count-cons f x l))
       go false e ih = omega (arith, ih, count-cons f x l, count-cons f x (but-first g l))
 
@@ -178,6 +203,18 @@ module _ {ℓ} {A : Type ℓ} where
           first (inr h) = (List·Memᴰ·tail (ih h .0), ih h .1)
       go false e m ih = (List·Memᴰ·tail (ih m .0), ih m .1)
 
+  pub but-first-member : {x : A} (f : A → Bool) (l : List A) → List·Memᴰ x (but-first f l) → List·Memᴰ x l
+  but-first-member f [] m = m
+  but-first-member {x} f (y ∷ l) m = go (f y) m (but-first-member f l)
+    where
+      go : (q : Bool) → List·Memᴰ x (if q then l else y ∷ but-first f l) → (List·Memᴰ x (but-first f l) → List·Memᴰ x l) → List·Memᴰ x (y ∷ l)
+      go true m ih = List·Memᴰ·tail m
+      go false m ih = first (List·Memᴰ·cases-cons m)
+        where
+          first : (x ≡ y) ⊎ List·Memᴰ x (but-first f l) → List·Memᴰ x (y ∷ l)
+          first (inl h) = List·Memᴰ·head h
+          first (inr h) = List·Memᴰ·tail (ih h)
+
   pub member-kept : {x : A} (f : A → Bool) (l : List A) → List·Memᴰ x l → f x ≡ true → List·Memᴰ x (keep f l)
   member-kept f [] m h = absurd (List·Memᴰ·not-nil m)
   member-kept {x} f (y ∷ l) m h = go (List·Memᴰ·cases-cons m) (λ i. member-kept f l i h)
@@ -190,7 +227,20 @@ module _ {ℓ} {A : Type ℓ} where
       go (inl e) ih = rw (sym (ap f e) ∙ h) (List·Memᴰ·head e)
       go (inr i) ih = rest (f y) (ih i)
 
--- ---- members of a list mapped
+-- ---- a list mapped
+
+pub keep-map : {A B : Type 0} (f : B → Bool) (g : A → B) (l : List A) → keep f (map g l) ≡ map g (keep (λ x. f (g x)) l)
+keep-map f g [] = refl
+keep-map {A} {B} f g (x ∷ l) = go (f (g x)) (keep-map f g l)
+  where
+    go : (b : Bool) → keep f (map g l) ≡ map g (keep (λ y. f (g y)) l)
+        → (if b then g x ∷ keep f (map g l) else keep f (map g l)) ≡ map g (if b then x ∷ keep (λ y. f (g y)) l else keep (λ y. f (g y)) l)
+    go true ih = ap (λ (m : List B). g x ∷ m) ih
+    go false ih = ih
+
+pub count-map : {A B : Type 0} (f : B → Bool) (g : A → B) (l : List A) → count f (map g l) ≡ count (λ x. f (g x)) l
+count-map f g [] = refl
+count-map f g (x ∷ l) = omega (arith, count-cons f (g x) (map g l), count-cons (λ y. f (g y)) x l, count-map f g l)
 
 pub map-member : {A B : Type 0} {y : B} (f : A → B) (l : List A) → List·Memᴰ y (map f l) → (x : A) × List·Memᴰ x l × (y ≡ f x)
 map-member f [] m = absurd (List·Memᴰ·not-nil m)

@@ -22,6 +22,7 @@ pub mod Accepting
 pub mod Stacks
 pub mod Once
 pub mod Leaks
+pub mod LeakOrder
 pub mod Turns
 pub mod Refusals
 pub mod Envs
@@ -41,3 +42,4 @@ mod RefusedCases
 mod LineCases
 mod LimitCases
 mod AgainCases
+mod LeakCases

@@ -126,7 +126,7 @@ module _ (past : History) where
       (ended-local e t d h (ltb-false _ _ k))
   ended e (shared h) k g = either (or-cases _ _ g) (deleted e (shared h)) (λ y. absurd (false≢true y))
 
-  ends-it : (e : Line) (x : Alive) → Ends past e x → ends e past x ≡ true
+  pub ends-it : (e : Line) (x : Alive) → Ends past e x → ends e past x ≡ true
   unfolding ends deletes depth
   ends-it _ _ (deletes-local t env a b c d n k) = rw (k, eqb-self t, eqb-self a)
   ends-it _ _ (deletes-global t env a b c n k) = rw (k, eqb-self)
@@ -172,7 +172,7 @@ unless-made e past x not-so m =
     (λ h. keep-member (λ (y : Alive). not (ends e past y)) (living past) h .0)
 
 -- what a line does not end lives on
-pub lives-on : (e : Line) (past : History) (x : Alive) → ¬ Ends past e x → Lives x past → Lives x (e ∷ past)
+unfoldable pub lives-on : (e : Line) (past : History) (x : Alive) → ¬ Ends past e x → Lives x past → Lives x (e ∷ past)
 lives-on e past x d k =
     record {
       newer = e ∷ k .newer;

@@ -1,6 +1,6 @@
 -- All the sentences, proved. Assumes nothing.
 use mathlib.Core.Path.{refl}
-use Rattle.history.specs.Sentences.{On-breaches, On-handles, On-buffers, On-lines, On-refusals, On-input, On-replies, Shut-out}
+use Rattle.history.specs.Sentences.{On-breaches, On-handles, On-buffers, On-lines, On-refusals, On-leaks, On-input, On-replies, Shut-out}
 use Rattle.history.proofs.Living.{living-are, local-alive, shared-alive}
 use Rattle.history.proofs.Acts.{enter-items, call-items, leave-items, return-items, enter-frames, enter-capacities, enter-pending, pop-frames, pop-nothing, pop-capacities, return-pending, call-pending, push-frames, enter-monitors, exit-monitors, other-status-frames, other-status-capacities, other-status-monitors}
 use Rattle.history.proofs.Changes.{nothing-at-start, items-kept, frames-kept, capacities-kept, pending-kept, monitors-kept}
@@ -9,6 +9,7 @@ use Rattle.history.proofs.Findings.{findings-are, findings-ordered, fou
 use Rattle.history.proofs.Most.{one-a-place, at-most}
 use Rattle.history.proofs.Once.{alive-once, local-placed, shared-kind}
 use Rattle.history.proofs.Leaks.{leaks-by-kind}
+use Rattle.history.proofs.LeakOrder.{leaks-in-order, of-one-line}
 use Rattle.history.proofs.Buffers.{gets-are, releases-are, got-and-released}
 use Rattle.history.proofs.Families.{families-agree, paired, of-its-thread, of-no-thread}
 use Rattle.history.proofs.Capacities.{capacities-fit}
@@ -79,6 +80,9 @@ on-lines =
 pub on-refusals : On-refusals
 on-refusals =
     record { refusal-is = refusal-is; seven-is-room = seven-is-room; within-room = within-room; never-eight = never-eight; accepted-before = accepted-before; run-more = run-more }
+
+pub on-leaks : On-leaks
+on-leaks = record { in-order = leaks-in-order; of-one-line = of-one-line }
 
 pub on-input : On-input
 on-input = record { lines-joined = lines-joined; lines-cut = lines-cut }

@@ -18,18 +18,20 @@ pub mod Replies
 pub mod Runs
 pub mod Report
 pub mod Sentences
+pub mod Kinds
+pub mod Leaks
 -- believed of any tables
 -- from a start: seen by told-all
 pub mod Seen
 pub mod Breaches
 -- from a start: findings, of-line by findings-are, findings-ordered, told-all
 pub mod Findings
+pub mod Times
 pub mod Verdicts
+pub mod LeakOrder
 -- words
-pub mod Kinds
 pub mod Whole
 pub mod Changes
-pub mod Times
 pub mod Same
 pub mod Cut
 pub mod Families

@@ -2,13 +2,13 @@
 use Prim.Native.Nat.{ℕ, suc, pred, _+_, _≤_, _<_, max}
 use mathlib.Core.Path.{_≡_}
 use mathlib.Core.Logic.{_⊎_, _≢_, _↔_}
-use mathlib.Core.Bool.{true, false}
-use mathlib.Core.List.{List, [], _∷_, _++_, tail, List·Memᴰ}
+use mathlib.Core.Bool.{true, false, _&&_}
+use mathlib.Core.List.{List, [], _∷_, _++_, map, tail, List·Memᴰ}
 use mathlib.Core.Option.{some}
 use lib.Dec.{eqb}
 use lib.IntN.{ℤ, pos}
 use lib.ListN.{length}
-use Rattle.words.specs.Lists.{any, count, joined}
+use Rattle.words.specs.Lists.{any, keep, count, joined}
 use Rattle.words.specs.Text.{bytes, line-feed}
 use Rattle.facts.specs.Table.{_/_, fact-of, is-function, families, family, is-critical}
 use Rattle.facts.specs.Named.{PushLocalFrame, PopLocalFrame, DeleteGlobalRef, DeleteLocalRef, EnsureLocalCapacity, MonitorEnter, MonitorExit, DeleteWeakGlobalRef}
@@ -18,7 +18,7 @@ use Rattle.lines.specs.Reading.{Read, says, refused, read}
 use Rattle.history.specs.Past.{History, is-of}
 use Rattle.history.specs.Items.{in-native, in-call, items}
 use Rattle.history.specs.Frames.{Frame, entered, pushed, frames, depth}
-use Rattle.history.specs.Handles.{Alive, local, shared, is-local, is-shared, same-handle, living, alive-in}
+use Rattle.history.specs.Handles.{Alive, local, shared, is-local, is-shared, same-handle, global-or-weak, living, alive-in}
 use Rattle.history.specs.Capacities.{capacities}
 use Rattle.history.specs.Buffers.{Pin, critical, pin, same-pin, gets, releases, outstanding}
 use Rattle.history.specs.Thread.{pending, monitors, env-of}
@@ -41,6 +41,8 @@ use Rattle.history.specs.Times.{Gets, Releases, got, released}
 use Rattle.history.specs.Same.{Same-for}
 use Rattle.history.specs.Verdicts.{Weighs}
 use Rattle.history.specs.Runs.{told, Runs, Roomier, program-room, line}
+use Rattle.history.specs.Leaks.{Made, buffer-leak, handle-leak, leaks-of}
+use Rattle.history.specs.LeakOrder.{made-in-line, of-making-line, In-order}
 use Rattle.history.specs.Cut.{Cut}
 use Rattle.history.specs.Families.{is-get, is-release}
 use Rattle.history.specs.Bounds.{Bounded}
@@ -176,6 +178,14 @@ pub record On-refusals : Type 0 where
   pub accepted-before : (room : Room) (newer past : History) → Accepted room (newer ++ past) → Accepted room past
   -- more room, and no 7 from the smaller: equal runs
   pub run-more : (a b : Room) → Roomier a b → (lines : List (List ℕ)) (past : History) → run a past lines .refusal ≢ 7 → run b past lines ≡ run a past lines
+
+pub record On-leaks : Type 0 where
+  -- ordered by making line
+  pub in-order : (ps : List (Made Pin)) (hs : List (Made Alive)) → In-order (leaks-of ps hs)
+  -- then rule and row: of one line first the buffers, then the globals and weaks, all of them, in the order of their rows, and nothing besides
+  pub of-one-line : (n : ℕ) (ps : List (Made Pin)) (hs : List (Made Alive))
+      → keep (of-making-line n) (leaks-of ps hs)
+      ≡ map buffer-leak (keep (made-in-line n) ps) ++ map handle-leak (keep (λ x. global-or-weak (x .what) && made-in-line n x) hs)
 
 pub record On-input : Type 0 where
   -- joined again, the lines are the input

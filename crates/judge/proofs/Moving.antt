@@ -1,5 +1,5 @@
 -- An accepted line's items are moved, and the step is done. Assumes nothing.
-use Prim.Native.Nat.{ℕ, suc}
+use Prim.Native.Nat.{ℕ}
 use mathlib.Core.Path.{_≡_, refl, sym, ap, ap₂, _∙_}
 use mathlib.Core.Bool.{Bool, true, false}
 use mathlib.Core.List.{List}
@@ -28,7 +28,7 @@ use Rattle.answers.specs.Answer.{answer-of}
 use Rattle.tables.specs.Tables.{Tables, seen-in}
 use Rattle.tables.specs.Weighing.{refusal-in, weighed-in}
 use Rattle.tables.specs.Acting.{items-moved}
-use Rattle.tables.specs.Stepping.{follow, on-line, on-read, with-items, step-of}
+use Rattle.tables.specs.Stepping.{follow, next-line, on-line, on-read, with-items, step-of}
 use Rattle.events.specs.Outcome.{Outcome, leaves, outcome-of, line-outcome}
 use Rattle.judge.specs.Event.{read-as, thread-named, items-after}
 use Rattle.judge.specs.Outcome.{outcome, step-outcome, read-outcome, event-outcome, by-book}
@@ -80,20 +80,20 @@ module _ (T : Tables) (y : Answer) (S : Tables) where
   many-in e = length (items-in (T .book) (thread-of e))
 
   abbrev outcome-in : Line → Outcome
-  outcome-in e = line-outcome (suc (lines-in (T .book))) e (top-in e) (many-in e) T
+  outcome-in e = line-outcome (next-line T) e (top-in e) (many-in e) T
 
   -- by the reply, with the items moved or not
-  by-reply : (e : Line) (n : ℕ) (r : Reply) → ((j : ℕ) → r ≡ not-accepted j → j ≡ 0 → ⊥) → leaves y S ≡ outcome-of r e n T
-      → (y .refusal ≡ 0 → leaves y (with-book S (items-moved e (S .book))) ≡ outcome (follow e n r T)) × ((y .refusal ≡ 0 → ⊥) → leaves y S ≡ outcome (follow e n r T))
+  by-reply : (line : ℕ) (e : Line) (n : ℕ) (r : Reply) → ((j : ℕ) → r ≡ not-accepted j → j ≡ 0 → ⊥) → leaves y S ≡ outcome-of r line e n T
+      → (y .refusal ≡ 0 → leaves y (with-book S (items-moved e (S .book))) ≡ outcome (follow line e n r T)) × ((y .refusal ≡ 0 → ⊥) → leaves y S ≡ outcome (follow line e n r T))
   unfolding answer-of
-  by-reply e n (not-accepted j) h q = (λ z. absurd (h j refl (sym (ap (λ (o : Outcome). o .answer .refusal) q) ∙ z)), λ z. q)
-  by-reply e n (accepted fs) h q = (
+  by-reply line e n (not-accepted j) h q = (λ z. absurd (h j refl (sym (ap (λ (o : Outcome). o .answer .refusal) q) ∙ z)), λ z. q)
+  by-reply line e n (accepted fs) h q = (
     λ z. ap₂ leaves (ap (λ (o : Outcome). o .answer) q) (ap (λ (o : Outcome). with-items e (o .left)) q),
     λ z. absurd (z (ap (λ (o : Outcome). o .answer .refusal) q)),
   )
 
   -- a refusal is not 0
-  refused-not-0 : (e : Line) (j : ℕ) → weighed-in (suc (lines-in (T .book))) e (top-in e) (many-in e) T ≡ not-accepted j → j ≡ 0 → ⊥
+  refused-not-0 : (e : Line) (j : ℕ) → weighed-in (next-line T) e (top-in e) (many-in e) T ≡ not-accepted j → j ≡ 0 → ⊥
   unfolding weighed-in
   refused-not-0 e j = go (eqb number 0) refl
     where
@@ -101,7 +101,7 @@ module _ (T : Tables) (y : Answer) (S : Tables) where
       number = refusal-in e (top-in e) (many-in e) T
 
       go : (q : Bool) → eqb number 0 ≡ q
-          → (if q then accepted (of-line (suc (lines-in (T .book))) e (seen-in T)) else not-accepted number) ≡ not-accepted j → j ≡ 0 → ⊥
+          → (if q then accepted (of-line (next-line T) e (seen-in T)) else not-accepted number) ≡ not-accepted j → j ≡ 0 → ⊥
       go true p h = let z : _≡_ {A = ℕ} 0 1 = cc in λ k. omega arith
       go false p h = let same : number ≡ j = cc in λ k. eqb-false number 0 p (same ∙ k)
 
@@ -109,17 +109,17 @@ module _ (T : Tables) (y : Answer) (S : Tables) where
       → (y .refusal ≡ 0 → leaves y (with-book S (items-moved e (S .book))) ≡ outcome (on-line e (items-in (T .book) (thread-of e)) T))
       × ((y .refusal ≡ 0 → ⊥) → leaves y S ≡ outcome (on-line e (items-in (T .book) (thread-of e)) T))
   unfolding line-outcome
-  both e q = by-reply e (asked (top-in e)) (weighed-in (suc (lines-in (T .book))) e (top-in e) (many-in e) T) (refused-not-0 e) q
+  both e q = by-reply (next-line T) e (asked (top-in e)) (weighed-in (next-line T) e (top-in e) (many-in e) T) (refused-not-0 e) q
 
   accepted-on : (r : Read) (top : Option Item) (many : ℕ) → ((e : Line) → r ≡ says e → (top ≡ top-in e) × (many ≡ many-in e))
-      → leaves y S ≡ read-outcome (suc (lines-in (T .book))) r top many T → y .refusal ≡ 0 → leaves y (with-book S (items-after r (S .book))) ≡ outcome (on-read r T)
+      → leaves y S ≡ read-outcome (next-line T) r top many T → y .refusal ≡ 0 → leaves y (with-book S (items-after r (S .book))) ≡ outcome (on-read r T)
   accepted-on (refused k) top many at q z = q
-  accepted-on (says e) top many at q z = both e (q ∙ ap₂ (λ (o : Option Item) (i : ℕ). line-outcome (suc (lines-in (T .book))) e o i T) (at e refl .0) (at e refl .1)) .0 z
+  accepted-on (says e) top many at q z = both e (q ∙ ap₂ (λ (o : Option Item) (i : ℕ). line-outcome (next-line T) e o i T) (at e refl .0) (at e refl .1)) .0 z
 
   refused-on : (r : Read) (top : Option Item) (many : ℕ) → ((e : Line) → r ≡ says e → (top ≡ top-in e) × (many ≡ many-in e))
-      → leaves y S ≡ read-outcome (suc (lines-in (T .book))) r top many T → (y .refusal ≡ 0 → ⊥) → leaves y S ≡ outcome (on-read r T)
+      → leaves y S ≡ read-outcome (next-line T) r top many T → (y .refusal ≡ 0 → ⊥) → leaves y S ≡ outcome (on-read r T)
   refused-on (refused k) top many at q z = q
-  refused-on (says e) top many at q z = both e (q ∙ ap₂ (λ (o : Option Item) (i : ℕ). line-outcome (suc (lines-in (T .book))) e o i T) (at e refl .0) (at e refl .1)) .1 z
+  refused-on (says e) top many at q z = both e (q ∙ ap₂ (λ (o : Option Item) (i : ℕ). line-outcome (next-line T) e o i T) (at e refl .0) (at e refl .1)) .1 z
 
 -- the thread that the event names is the line's
 thread-is : (ev : Event) (hs : List ℕ) (e : Line) → read-as ev hs ≡ says e → thread-named ev ≡ thread-of e
@@ -133,14 +133,14 @@ thread-is (Event.Refused k) hs e h = absurd (never h)
 -- ---- the step
 
 module _ (T : Tables) (bs : List ℕ) (k : ℕ) (ev : Event) (hs : List ℕ) (t many line : ℕ) (top : Option Item) (y : Answer) (S : Tables)
-    (ek : k ≡ by-book (T .book)) (z : k ≡ 0) (el : line ≡ suc (lines-in (T .book))) (er : ev ≡ event-of (read bs)) (es : hs ≡ slots-of (read bs)) (et : t ≡ thread-named ev)
+    (ek : k ≡ by-book (T .book)) (z : k ≡ 0) (el : line ≡ next-line T) (er : ev ≡ event-of (read bs)) (es : hs ≡ slots-of (read bs)) (et : t ≡ thread-named ev)
     (ei : top ≡ top-of (items-in (T .book) t)) (em : many ≡ length (items-in (T .book) t)) (q : leaves y S ≡ event-outcome line ev hs top many T) where
   at : (e : Line) → read-as ev hs ≡ says e → (top ≡ top-of (items-in (T .book) (thread-of e))) × (many ≡ length (items-in (T .book) (thread-of e)))
   at e h =
       let own : t ≡ thread-of e = et ∙ thread-is ev hs e h in
       (ei ∙ ap (λ (i : ℕ). top-of (items-in (T .book) i)) own, em ∙ ap (λ (i : ℕ). length (items-in (T .book) i)) own)
 
-  told : leaves y S ≡ read-outcome (suc (lines-in (T .book))) (read-as ev hs) top many T
+  told : leaves y S ≡ read-outcome (next-line T) (read-as ev hs) top many T
   unfolding event-outcome
   told = q ∙ ap (λ (n : ℕ). read-outcome n (read-as ev hs) top many T) el
 

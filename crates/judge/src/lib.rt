@@ -75,6 +75,7 @@ fn on_event(
             book,
             top,
             many,
+            line,
             thread,
             env,
             &handles[..count as usize],

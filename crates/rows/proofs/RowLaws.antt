@@ -58,11 +58,11 @@ module _ {A : Type 0} (L : Layout A) where
   ended-out T r h = rw (le-ltb r (room L T) h)
 
   -- ---- what stands in a row
-  at-same : (rs : List ℕ) (r : ℕ) (x : A) → r * L .stride + L .stride ≤ length rs → row-at L (put-row (L .stride) rs r (L .numbers x)) r ≡ x
+  pub at-same : (rs : List ℕ) (r : ℕ) (x : A) → r * L .stride + L .stride ≤ length rs → row-at L (put-row (L .stride) rs r (L .numbers x)) r ≡ x
   unfolding row-at
   at-same rs r x h = ap (L .row-of) (row-same (L .stride) (L .numbers x) (L .whole x) rs r h) ∙ L .back x
 
-  at-other : (rs vs : List ℕ) (r k : ℕ) → length vs ≡ L .stride → (k ≡ r → ⊥) → row-at L (put-row (L .stride) rs r vs) k ≡ row-at L rs k
+  pub at-other : (rs vs : List ℕ) (r k : ℕ) → length vs ≡ L .stride → (k ≡ r → ⊥) → row-at L (put-row (L .stride) rs r vs) k ≡ row-at L rs k
   unfolding row-at
   at-other rs vs r k e n = ap (L .row-of) (row-other (L .stride) vs e rs r k n)
 

@@ -2,6 +2,7 @@
 use mathlib.Core.Path.{_≡_, refl, sym, ap, ap₂, _∙_}
 use mathlib.Core.Bool.{Bool, true, false, _&&_}
 use mathlib.Core.List.{List, _++_, append-nil}
+use mathlib.Core.Option.{none, some}
 use Prim.Native.Nat.{ℕ, zero, suc, _+_, _-_, _*_, _/_, _%_, _^_, _≤_, _<_}
 use native.Mathlib.Nat.{add-zero}
 use native.Mathlib.Numerals.{add-one}
@@ -9,13 +10,16 @@ use native.Mathlib.Decide.{decLt}
 use native.Mathlib.Omega.{arith}
 use borrow.Author.Fill.{fill-none, fill-more}
 use borrow.Author.Tests.{lt-ltb, le-ltb}
-use lib.ListN.{length, getD, set, replicate, drop}
+use lib.ListN.{length, getD, set, replicate, drop, List·getD-eq-default}
 use lib.Seq.{drop-length}
 use lib.Dec.{ltb}
 use Rattle.words.specs.Choice.{one}
 use Rattle.rows.specs.Scan.{how-many, lowest, some-below}
 use Rattle.rows.specs.Marks.{word, in-word, used, free, marked, unmarked}
 use Rattle.rows.specs.Table.{Layout, Table, table, put-row, room, row-at, matches, passes, free-row, alive, counted, some-row, stored, taken, ended, ended-if, ended-from, ended-all, cleared}
+use Rattle.rows.specs.View.{slot, view}
+use Rattle.rows.proofs.SlotLaws.{getD-each}
+use Rattle.rows.proofs.ViewLaws.{length-view}
 use Rattle.rows.proofs.ScanLaws.{how-many-ext, each-fails, none-passes, lowest-none}
 use Rattle.rows.proofs.MarkLaws.{word-unused, word-used, sum-next, search-hit, search-last}
 
@@ -28,6 +32,24 @@ module _ {A : Type 0} (L : Layout A) where
   pub alive-rows : (rs ms : List ℕ) (n r : ℕ) → n ≡ room L (table rs ms) → r ≡ how-many (used ms) n → r ≡ alive L (table rs ms)
   unfolding alive
   alive-rows rs ms n r a b = cc
+
+  -- ---- a slot: past the room, used, or not
+  pub slot-past : (T : Table) (n r : ℕ) → n ≡ room L T → n ≤ r → none ≡ getD (view L T) r none
+  slot-past T n r a l = sym (List·getD-eq-default (view L T) none (omega (arith, length-view L T)))
+
+  within : (T : Table) (n r : ℕ) → n ≡ room L T → r < n → getD (view L T) r none ≡ slot L T r
+  unfolding view
+  within T n r a l = getD-each (slot L T) (room L T) r none (omega arith)
+
+  pub slot-used : (rs ms : List ℕ) (n r : ℕ) (b : Bool) (x : A) → n ≡ room L (table rs ms) → r < n → b ≡ used ms r → b ≡ true → x ≡ row-at L rs r
+      → some x ≡ getD (view L (table rs ms)) r none
+  unfolding slot
+  slot-used rs ms n r b x a l e y f = ap some f ∙ rw (within (table rs ms) n r a l, ← e, y)
+
+  pub slot-free : (rs ms : List ℕ) (n r : ℕ) (b : Bool) → n ≡ room L (table rs ms) → r < n → b ≡ used ms r → b ≡ false
+      → none ≡ getD (view L (table rs ms)) r none
+  unfolding slot
+  slot-free rs ms n r b a l e y = rw (within (table rs ms) n r a l, ← e, y)
 
   -- ---- a row stored, or ended
   pub store-some : (rs ms rs' ms' : List ℕ) (x : A) (n r : ℕ) → n ≡ room L (table rs ms) → r < n

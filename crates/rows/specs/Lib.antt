@@ -4,9 +4,9 @@ pub mod Marks
 pub mod Table
 pub mod References
 pub mod Pins
+pub mod Slots
 -- believed of any tables
 pub mod Scan
-pub mod Slots
 pub mod View
 pub mod Exact
 -- computed: judge::step

@@ -1,23 +1,31 @@
--- Reference rows: thread (0 for global and weak), handle, frame from 1 (0 likewise). Assumes nothing.
+-- Reference rows: thread (0 for global and weak), handle, frame from 1 (0 likewise), making line. Assumes nothing.
 use mathlib.Core.Path.{refl}
 use mathlib.Core.Bool.{Bool, _&&_}
 use mathlib.Core.List.{[], _∷_}
+use mathlib.Core.Option.{Option, none, some}
 use Prim.Native.Nat.{ℕ}
 use lib.ListN.{getD}
 use lib.Dec.{eqb, leb}
 use Rattle.rows.specs.declared.references.Reference.{Reference}
+use Rattle.rows.specs.declared.references.Held.{Held}
+use Rattle.rows.specs.declared.references.Held.the-variants.{Row, Nothing}
 use Rattle.rows.specs.Table.{Layout}
 
--- three numbers to a row
+-- four numbers to a row
 abbrev pub references : Layout Reference
 references =
     record {
-      stride = 3;
-      numbers = λ x. x .thread ∷ x .handle ∷ x .frame ∷ [];
-      row-of = λ vs. record { thread = getD vs 0 0; handle = getD vs 1 0; frame = getD vs 2 0 };
+      stride = 4;
+      numbers = λ x. x .thread ∷ x .handle ∷ x .frame ∷ x .line ∷ [];
+      row-of = λ vs. record { thread = getD vs 0 0; handle = getD vs 1 0; frame = getD vs 2 0; line = getD vs 3 0 };
       whole = λ x. refl;
       back = λ x. refl;
     }
+
+-- what is told of a slot
+abbrev pub told : Held → Option Reference
+told (Row x) = some x
+told Nothing = none
 
 -- the row is of thread t
 abbrev pub of-thread : ℕ → Reference → Bool

@@ -10,6 +10,9 @@ pub type Number = words::Handle;
 // Marks to a word.
 pub const WORD: usize = 64;
 
+// The most rows of a room.
+pub const MOST: usize = 65536;
+
 ghost use mathlib.Core.Path.{_≡_};
 ghost use Prim.Native.Nat.{_+_, _*_, _≤_};
 ghost use lib.ListN.{length, replicate};

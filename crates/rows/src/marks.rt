@@ -1,4 +1,5 @@
 // The room of rows and marks, and the marks: one bit for each row, sixty-four to a word.
+use super::MOST;
 use super::Number;
 use super::WORD;
 ghost use mathlib.Core.Path.{_≡_};
@@ -8,9 +9,6 @@ ghost use Rattle.words.specs.Choice.{one};
 ghost use Rattle.rows.specs.Scan.{how-many, lowest};
 ghost use Rattle.rows.specs.Marks.{word, in-word, used, free, marked, unmarked};
 ghost use Rattle.rows.specs.Table.{most};
-
-// The most rows of a room.
-const MOST: usize = 65536;
 
 // The lesser of two.
 fn lesser(a: usize, b: usize) -> usize

@@ -1,9 +1,10 @@
-// Pin rows: thread, family and buffer of each buffer that is outstanding.
+// Pin rows: thread, family and buffer of each buffer that is outstanding, and the line that made it.
 use super::Number;
 use super::WORD;
 use super::clear_row;
 use super::marks::clear_mark;
 use super::marks::free_below;
+use super::marks::is_used;
 use super::marks::one;
 use super::marks::room_of;
 use super::marks::set_mark;
@@ -12,20 +13,29 @@ use super::sought::Sought;
 use super::sought::find_first;
 ghost use mathlib.Core.Path.{_≡_};
 ghost use Prim.Native.Nat.{_+_, _*_, _/_, _<_, _≤_};
-ghost use lib.ListN.{length};
+ghost use mathlib.Core.Option.{none};
+ghost use lib.ListN.{length, getD};
 ghost use Rattle.rows.specs.Scan.{how-many, lowest};
 ghost use Rattle.rows.specs.Marks.{word, in-word};
 ghost use Rattle.rows.specs.Table.{table, put-row, room, row-at, matches, passes, free-row, alive, found, some-row, stored, ended};
-ghost use Rattle.rows.specs.Pins.{pins, of-thread, is-buffer};
+ghost use Rattle.rows.specs.View.{view};
+ghost use Rattle.rows.specs.Pins.{pins, told, of-thread, is-buffer};
 
 // Numbers to a row: what a caller lends for so many rows.
-pub const STRIDE: usize = 3;
+pub const STRIDE: usize = 4;
 
 // A row: thread is 0 unless the family is critical.
 pub struct Pin {
     pub thread: Number,
     pub family: Number,
     pub buffer: Number,
+    pub line: Number,
+}
+
+// What stands in a row of the room, where it is used.
+pub enum Held {
+    Row(Pin),
+    Nothing,
 }
 
 // The lesser of rows and marks, at most 65,536.
@@ -59,6 +69,21 @@ pub(crate) fn read(rows: &[Number], r: usize) -> Pin
         thread: rows[at],
         family: rows[at + 1],
         buffer: rows[at + 2],
+        line: rows[at + 3],
+    }
+}
+
+// What stands in row r of the room, where it is used.
+pub fn slot(rows: &[Number], marks: &[u64], r: usize) -> Held
+    ensures { λ h. ⌜ told h ≡ getD (view pins (table (now (rows .entry)) (now (marks .entry)))) r none ⌝ }
+{
+    if room(rows, marks) <= r {
+        return Held::Nothing;
+    }
+    if is_used(marks, r) {
+        Held::Row(read(rows, r))
+    } else {
+        Held::Nothing
     }
 }
 
@@ -71,6 +96,7 @@ fn write(rows: &mut [Number], r: usize, row: Pin)
     rows[at] = row.thread;
     rows[at + 1] = row.family;
     rows[at + 2] = row.buffer;
+    rows[at + 3] = row.line;
 }
 
 // Row r holds this and is marked; nothing where there is no row r.

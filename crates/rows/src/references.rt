@@ -1,10 +1,11 @@
-// Reference rows: thread, handle and frame of each handle that is alive.
+// Reference rows: thread, handle and frame of each handle that is alive, and the line that made it.
 use super::Number;
 use super::WORD;
 use super::clear_row;
 use super::marks::clear_mark;
 use super::marks::count_of;
 use super::marks::free_below;
+use super::marks::is_used;
 use super::marks::one;
 use super::marks::room_of;
 use super::marks::set_mark;
@@ -15,20 +16,29 @@ use super::sought::find_first;
 use super::sought::holds;
 ghost use mathlib.Core.Path.{_≡_};
 ghost use Prim.Native.Nat.{_+_, _*_, _/_, _<_, _≤_};
-ghost use lib.ListN.{length};
+ghost use mathlib.Core.Option.{none};
+ghost use lib.ListN.{length, getD};
 ghost use Rattle.rows.specs.Scan.{how-many, lowest};
 ghost use Rattle.rows.specs.Marks.{word, in-word};
 ghost use Rattle.rows.specs.Table.{table, put-row, room, row-at, matches, passes, free-row, alive, found, counted, stored, taken, ended, ended-if, ended-from, ended-all};
-ghost use Rattle.rows.specs.References.{references, of-thread, has-handle, is-handle, in-frame, from-frame};
+ghost use Rattle.rows.specs.View.{view};
+ghost use Rattle.rows.specs.References.{references, told, of-thread, has-handle, is-handle, in-frame, from-frame};
 
 // Numbers to a row: what a caller lends for so many rows.
-pub const STRIDE: usize = 3;
+pub const STRIDE: usize = 4;
 
 // A row: thread and frame are 0 for global and weak handles, else from 1.
 pub struct Reference {
     pub thread: Number,
     pub handle: Number,
     pub frame: Number,
+    pub line: Number,
+}
+
+// What stands in a row of the room, where it is used.
+pub enum Held {
+    Row(Reference),
+    Nothing,
 }
 
 // The lesser of rows and marks, at most 65,536.
@@ -62,6 +72,21 @@ pub(crate) fn read(rows: &[Number], r: usize) -> Reference
         thread: rows[at],
         handle: rows[at + 1],
         frame: rows[at + 2],
+        line: rows[at + 3],
+    }
+}
+
+// What stands in row r of the room, where it is used.
+pub fn slot(rows: &[Number], marks: &[u64], r: usize) -> Held
+    ensures { λ h. ⌜ told h ≡ getD (view references (table (now (rows .entry)) (now (marks .entry)))) r none ⌝ }
+{
+    if room(rows, marks) <= r {
+        return Held::Nothing;
+    }
+    if is_used(marks, r) {
+        Held::Row(read(rows, r))
+    } else {
+        Held::Nothing
     }
 }
 
@@ -74,6 +99,7 @@ fn write(rows: &mut [Number], r: usize, row: Reference)
     rows[at] = row.thread;
     rows[at + 1] = row.handle;
     rows[at + 2] = row.frame;
+    rows[at + 3] = row.line;
 }
 
 // Row r holds this and is marked; nothing where there is no row r.

@@ -52,15 +52,15 @@ module _ (T : Tables) (bs : List ℕ) where
       go true q = omega (arith, at-most line e (seen-in T), few-findings e)
       go false q = λ z. false≢true (sym q ∙ eq-eqb (refusal-in e top many T) 0 z)
 
-  followed-proper : (e : Line) (n : ℕ) (r : Reply) → Proper r → Proper (follow e n r T .reply)
-  followed-proper e n (accepted fs) h = h
-  followed-proper e n (not-accepted k) h = h
+  followed-proper : (line : ℕ) (e : Line) (n : ℕ) (r : Reply) → Proper r → Proper (follow line e n r T .reply)
+  followed-proper line e n (accepted fs) h = h
+  followed-proper line e n (not-accepted k) h = h
 
   read-proper : (x : Read) → read bs ≡ x → Proper (on-read x T .reply)
   read-proper (refused k) h = λ z. let low = refused-by-number bs k h .0 in absurd (omega (arith, low, z))
   read-proper (says e) h =
       let is = items-in (T .book) (thread-of e) in
-      followed-proper e (asked (top-of is)) (weighed-in (suc (lines-in (T .book))) e (top-of is) (length is) T)
+      followed-proper (suc (lines-in (T .book))) e (asked (top-of is)) (weighed-in (suc (lines-in (T .book))) e (top-of is) (length is) T)
       (weighed-proper (suc (lines-in (T .book))) e (top-of is) (length is))
 
   proper : Proper (step-of T bs .reply)

@@ -1,2 +1,3 @@
 pub mod RowCounts
 pub mod Sights
+pub mod Leaking

@@ -47,9 +47,9 @@ delete-owner f t = if eqb f DeleteLocalRef then t else 0
 abbrev pub pin-owner : ℕ → ℕ → ℕ
 pin-owner f t = if is-critical (family f) then t else 0
 
--- X ends the rows of its native's frames; 20 those of the top frame, if it was pushed
-unfoldable pub references-after : Line → Tables → Table
-references-after e T =
+-- X ends the rows of its native's frames; 20 those of the top frame, if it was pushed; what line number `line` makes carries that number
+unfoldable pub references-after : ℕ → Line → Tables → Table
+references-after line e T =
     if-X e then (λ t r. ended-all references (from-frame t (suc (length (without-native (thread-in (T .book) t .frames))))) (T .references))
     else if-C e then
     (λ t env f a b c n.
@@ -57,15 +57,15 @@ references-after e T =
     else if eqb f PopLocalFrame && top-pushed (thread-in (T .book) t .frames) then
     ended-all references (from-frame t (length (thread-in (T .book) t .frames))) (T .references)
     else T .references)
-    else all-taken references (T .references) (map reference-of (made-by e (seen-in T)))
+    else all-taken references (T .references) (map (reference-of line) (made-by e (seen-in T)))
 
 -- a release ends the lowest matching row
-unfoldable pub pins-after : Line → Tables → Table
-pins-after e T =
+unfoldable pub pins-after : ℕ → Line → Tables → Table
+pins-after line e T =
     if-C e then
     (λ t env f a b c n.
     if is-buffer-place (fact-of f .b) then first-ended pins (is-buffer (pin-owner f t) (family f) b) (T .pins) else T .pins)
-    else all-taken pins (T .pins) (map pin-row-of (gets e))
+    else all-taken pins (T .pins) (map (pin-row-of line) (gets e))
 
 -- ---- the book
 
@@ -98,10 +98,10 @@ book-after e n T =
     else if-Z e then closed-set (T .book)
     else T .book
 
--- all but the open items; `n` was asked of the open call on top
-unfoldable pub acted : Line → ℕ → Tables → Tables
-acted e n T =
-    record { references = references-after e T; pins = pins-after e T; book = line-counted (book-after e n T) }
+-- all but the open items; line number `line`, `n` was asked of the open call on top
+unfoldable pub acted : ℕ → Line → ℕ → Tables → Tables
+acted line e n T =
+    record { references = references-after line e T; pins = pins-after line e T; book = line-counted (book-after e n T) }
 
 -- ---- the open items
 

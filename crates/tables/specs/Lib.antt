@@ -1,5 +1,6 @@
 -- believed
 pub mod Tables
+pub mod Listing
 -- believed of any tables
 pub mod Weighing
 pub mod Acting

@@ -33,13 +33,17 @@ abbrev pub with-items : Line → Tables → Tables
 with-items e T = record { references = T .references; pins = T .pins; book = items-moved e (T .book) }
 
 -- a refusal leaves all untouched
-abbrev pub follow : Line → ℕ → Reply → Tables → Stepped
-follow e n (not-accepted k) T = untouched k T
-follow e n (accepted fs) T = stepped (accepted fs) (with-items e (acted e n T))
+abbrev pub follow : ℕ → Line → ℕ → Reply → Tables → Stepped
+follow line e n (not-accepted k) T = untouched k T
+follow line e n (accepted fs) T = stepped (accepted fs) (with-items e (acted line e n T))
+
+-- the number of the next accepted line
+abbrev pub next-line : Tables → ℕ
+next-line T = suc (lines-in (T .book))
 
 -- a line that was read
 abbrev pub on-line : Line → List Item → Tables → Stepped
-on-line e is T = follow e (asked (top-of is)) (weighed-in (suc (lines-in (T .book))) e (top-of is) (length is) T) T
+on-line e is T = follow (next-line T) e (asked (top-of is)) (weighed-in (next-line T) e (top-of is) (length is) T) T
 
 abbrev pub on-read : Read → Tables → Stepped
 on-read (refused k) T = untouched k T

@@ -22,21 +22,22 @@ pub record Tables : Type 0 where
 abbrev pub tables : List ℕ → List ℕ → List ℕ → List ℕ → List ℕ → Tables
 tables rs ms ps ns b = record { references = table rs ms; pins = table ps ns; book = b }
 
--- ---- a row and what it stands for: thread 0 is for a global or weak, and for a buffer of no thread
+-- ---- a row and what it stands for: thread 0 is for a global or weak, and for a buffer of no thread; the making line is forgotten
 
 abbrev pub alive-of : Reference → Alive
 alive-of x = if eqb (x .thread) 0 then shared (x .handle) else local (x .thread) (x .frame) (x .handle)
 
-abbrev pub reference-of : Alive → Reference
-reference-of (local t d h) = record { thread = t; handle = h; frame = d }
-reference-of (shared h) = record { thread = 0; handle = h; frame = 0 }
+-- the row of a handle that line `line` made
+abbrev pub reference-of : ℕ → Alive → Reference
+reference-of line (local t d h) = record { thread = t; handle = h; frame = d; line = line }
+reference-of line (shared h) = record { thread = 0; handle = h; frame = 0; line = line }
 
 abbrev pub pin-of : PinRow → Pin
 pin-of x = if eqb (x .thread) 0 then ordinary (x .family) (x .buffer) else critical (x .thread) (x .family) (x .buffer)
 
-abbrev pub pin-row-of : Pin → PinRow
-pin-row-of (ordinary k b) = record { thread = 0; family = k; buffer = b }
-pin-row-of (critical t k b) = record { thread = t; family = k; buffer = b }
+abbrev pub pin-row-of : ℕ → Pin → PinRow
+pin-row-of line (ordinary k b) = record { thread = 0; family = k; buffer = b; line = line }
+pin-row-of line (critical t k b) = record { thread = t; family = k; buffer = b; line = line }
 
 -- ---- what is seen
 

@@ -10,7 +10,7 @@ use Rattle.judge.proofs.on_event.Statement.{statement}
 use Rattle.judge.proofs.on_event.Tie as tie
 
 returns : tie.Need-returns
-returns c = let at-enter = c .before .before .before .before .before .before in let at-event = at-enter .before .before .before .before .before .before in of-enter _ _ _ _ _ _ _ (at-event .event .given .1) (at-enter .enter .ensures _ _ _)
+returns c = let at-enter = c .before .before .before .before .before .before in let at-event = at-enter .before .before .before .before .before .before in of-enter _ _ _ _ _ _ _ (at-event .event .given .1) (at-enter .enter .ensures _ _)
 
 returns-2 : tie.Need-returns-2
 returns-2 c = let at-leave = c .before .before .before .before .before .before in let at-event2 = at-leave .before .before .before .before .before .before .before in of-leave _ _ _ _ _ _ _ (at-event2 .event2 .given .1) (at-leave .leave .ensures _)

@@ -14,5 +14,5 @@ get-spec =
     (λ c κs. search needs)
     (λ c. search needs)
     (λ c. search needs)
-    (λ c. let at-store = c .before .before .before .before in let at-pin-owner = at-store .before .before .before in let at-family = at-pin-owner .before in let at-if1 = at-family .before in let at-is-buffer-result = at-if1 .before in buffer-stored _ _ _ _ _ _ _ (at-is-buffer-result .is-buffer-result .ensures) _ _ _ (at-if1 .if1 .taken) (at-family .family .ensures) (at-pin-owner .pin-owner .ensures) (at-store .store .ensures))
-    (λ c. no-buffer-stored _ _ _ _ _ _ _ (c .before .is-buffer-result .ensures) (c .if1 .left)))
+    (λ c. let at-store = c .before .before .before .before in let at-pin-owner = at-store .before .before .before in let at-family = at-pin-owner .before in let at-if1 = at-family .before in let at-is-buffer-result = at-if1 .before in buffer-stored _ _ _ _ _ _ _ _ (at-is-buffer-result .is-buffer-result .ensures) _ _ _ (at-if1 .if1 .taken) (at-family .family .ensures) (at-pin-owner .pin-owner .ensures) (at-store .store .ensures))
+    (λ c. no-buffer-stored _ _ _ _ _ _ _ _ (c .before .is-buffer-result .ensures) (c .if1 .left)))

@@ -13,5 +13,5 @@ make-spec =
     (λ c κs. search needs)
     (λ c. search needs)
     (λ c. search needs)
-    (λ c. let at-store = c .before .before .before .before in let at-row-of = at-store .before in let at-if1 = at-row-of .before .before .before in let at-is-handle-result = at-if1 .before in handle-stored _ _ _ _ _ _ _ (at-is-handle-result .is-handle-result .ensures) _ _ (at-if1 .if1 .taken) (at-row-of .row-of .ensures) (at-store .store .ensures))
-    (λ c. no-handle-stored _ _ _ _ _ _ _ (c .before .is-handle-result .ensures) (c .if1 .left)))
+    (λ c. let at-store = c .before .before .before .before in let at-row-of = at-store .before in let at-if1 = at-row-of .before .before .before in let at-is-handle-result = at-if1 .before in handle-stored _ _ _ _ _ _ _ _ (at-is-handle-result .is-handle-result .ensures) _ _ (at-if1 .if1 .taken) (at-row-of .row-of .ensures) (at-store .store .ensures))
+    (λ c. no-handle-stored _ _ _ _ _ _ _ _ (c .before .is-handle-result .ensures) (c .if1 .left)))
