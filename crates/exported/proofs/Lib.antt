@@ -1,3 +1,4 @@
 mod Fronts
 mod Answered
 mod Judging
+mod Listing

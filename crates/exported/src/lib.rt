@@ -1,6 +1,7 @@
-// The judge for C and Rust: a start and one step over lent slices, the findings as numbers; and a whole trace with its report.
+// The judge for C and Rust: a start and one step over lent slices, the findings as numbers; the list of leaks; and a whole trace with its report.
 use answers::Answer;
 use history::Finding;
+use leaks::Listed;
 use rows::Number;
 use trace::Reported;
 use words::Handle;
@@ -10,8 +11,10 @@ ghost use lib.ListN.{length, take};
 ghost use Rattle.answers.specs.Answer.{most-found};
 ghost use Rattle.tables.specs.Tables.{tables};
 ghost use Rattle.tables.specs.Stepping.{start-of};
+ghost use Rattle.tables.specs.Listing.{list-of};
 ghost use Rattle.trace.specs.Whole.{whole-outcome};
 ghost use Rattle.exported.specs.Judged.{length-told, judges, judged};
+ghost use Rattle.exported.specs.Listed.{Few, number-listed, tells-list, list-told};
 ghost use Rattle.exported.specs.Told.{numbers, most-numbers, put-at, in-front, number-told, tells, step-told};
 
 // The numbers of a finding, and of the most findings of a line.
@@ -94,6 +97,34 @@ pub extern "C" fn weir_step(
     let answer = judge::step(line, rows, marks, pins, pinmarks, book);
     list(found, answer);
     number_told(answer.refusal, answer.count)
+}
+
+// How many records were written, or below zero the number given instead.
+fn number_listed(listed: Listed) -> i32
+    requires { ⌜ Few listed ⌝ }
+    ensures { λ r. ⌜ r ≡ number-listed listed ⌝ }
+{
+    match listed {
+        Listed::Written(n) => n as i32,
+        Listed::Refused(k) => 0 - (k as i32),
+    }
+}
+
+// The leaks after Z, rule, thread, value and making line of each, at the front of `leaks`, ordered by making line, then rule and row: how
+// many there are, or below zero the number given instead, and then nothing is written. The tables are read alone.
+#[no_mangle]
+pub extern "C" fn weir_leaks(
+    rows: &[Number],
+    marks: &[u64],
+    pins: &[Number],
+    pinmarks: &[u64],
+    book: &[u64],
+    leaks: &mut [Number],
+) -> i32
+    ensures { λ r. ⌜ tells-list r (now (leaks .exit)) ≡ list-told (list-of (tables (now (rows .entry)) (now (marks .entry)) (now (pins .entry)) (now (pinmarks .entry)) (now (book .entry))) (now (leaks .entry))) ⌝ }
+{
+    let listed = leaks::list(rows, marks, pins, pinmarks, book, leaks);
+    number_listed(listed)
 }
 
 // How long the report is, written or not; 0 over a short book.

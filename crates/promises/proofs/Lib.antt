@@ -1,3 +1,4 @@
 mod Lines
 mod Steps
+mod Leaks
 mod Kept

@@ -10,9 +10,11 @@ use denote.Triple.Clauses.{Lasts, atExit}
 use Rattle.lines.proofs as lines
 use Rattle.writer.proofs as writer
 use Rattle.judge.proofs as judge
+use Rattle.leaks.proofs as leaks
 use Rattle.lines.specs.declared.Event.{Event}
 use Rattle.lines.specs.declared.Wrote.{Wrote}
 use Rattle.answers.specs.declared.Answer.{Answer}
+use Rattle.leaks.specs.declared.Listed.{Listed}
 use Rattle.tables.specs.Tables.{Tables, tables}
 
 -- a call of `lines::read_line` on these bytes answers e and leaves these slots
@@ -53,6 +55,16 @@ pub record Steps (T : Tables) (bs : List ℕ) (r : Answer) (S : Tables) : Type 0
   pub lent : tables (now (args .1 .0)) (now (args .1 .1 .0)) (now (args .1 .1 .1 .0)) (now (args .1 .1 .1 .1 .0)) (now (args .1 .1 .1 .1 .1 .0)) ≡ T
   pub given-back : tables (left .1 .0) (left .1 .1 .0) (left .1 .1 .1 .0) (left .1 .1 .1 .1 .0) (left .1 .1 .1 .1 .1 .0) ≡ S
   pub promised : judge.step.Reads.Learnt κs args r (atExit judge.step.ended κs args left)
+
+-- a call of `leaks::list` on tables T and a slice ns answers r and leaves ns'
+pub record Lists (T : Tables) (ns : List ℕ) (r : Listed) (ns' : List ℕ) : Type 0 where
+  pub κs : Lfts (leaks.list.ended .signature .lifetimes)
+  pub args : Args (leaks.list.ended .signature) κs
+  pub left : Lasts leaks.list.ended κs args
+  pub read : tables (now (args .0)) (now (args .1 .0)) (now (args .1 .1 .0)) (now (args .1 .1 .1 .0)) (now (args .1 .1 .1 .1 .0)) ≡ T
+  pub slice : now (args .1 .1 .1 .1 .1 .0) ≡ ns
+  pub given-back : left .1 .1 .1 .1 .1 .0 ≡ ns'
+  pub promised : leaks.list.Reads.Learnt κs args r (atExit leaks.list.ended κs args left)
 
 -- a start on tables T, then a step for each of these lines, newest first, each on what the one before left: at last S is left
 pub data Called (T : Tables) : List (List ℕ) → Tables → Type 0 where

@@ -1,8 +1,7 @@
 -- What is demanded of the code, each demand as one statement about calls of its public functions. Assumes nothing.
 use Prim.Native.Nat.{ℕ, _≤_}
 use mathlib.Core.Path.{_≡_}
-use mathlib.Core.Logic.{_≢_}
-use mathlib.Core.Bool.{false}
+use mathlib.Core.Logic.{_⊎_, _≢_}
 use mathlib.Core.List.{List}
 use lib.ListN.{length, take}
 use Rattle.lines.specs.Line.{most-handles}
@@ -14,8 +13,13 @@ use Rattle.history.specs.Replies.{reply}
 use Rattle.answers.specs.declared.Answer.{Answer}
 use Rattle.answers.specs.Answer.{refused-with, answered}
 use Rattle.tables.specs.Tables.{Tables}
+use Rattle.tables.specs.Listing.{lists}
+use Rattle.leaks.specs.declared.Listed.{Listed}
+use Rattle.leaks.specs.declared.Listed.the-variants as Listed
+use Rattle.leaks.specs.Reply.{reply-of}
+use Rattle.demands.specs.Leaks.{list-after}
 use Rattle.demands.specs.Calls.{room-of, Long, from-start, heard-by}
-use Rattle.promises.specs.Calls.{Reads, Writes, Steps, Called}
+use Rattle.promises.specs.Calls.{Reads, Writes, Steps, Lists, Called}
 
 -- demand 1: "A refusal gives its number from document 01 and changes no table, no count and no finding", whatever the tables hold
 abbrev pub Refusal-changes-nothing : Type 0
@@ -43,6 +47,15 @@ Answers = (T S S' : Tables) (calls : List (List ℕ)) (bs : List ℕ) (r : Answe
 abbrev pub Tables-are : Type 0
 Tables-are = (T S : Tables) (calls : List (List ℕ)) → Called T calls S → S ≡ from-start T calls
 
+-- the list after them is that of the leaks of the lines heard: 4 before Z, then 7, and else all of them and nothing besides
+abbrev pub Leaks-listed : Type 0
+Leaks-listed = (T S : Tables) (calls : List (List ℕ)) (ns ns' : List ℕ) (r : Listed) → Long T → Called T calls S → Lists S ns r ns'
+    → lists (reply-of r) ns' ≡ list-after (heard-by T calls) ns
+
+-- and a list that is not written leaves the slice as it was, whatever the tables hold
+abbrev pub Unlisted-changes-nothing : Type 0
+Unlisted-changes-nothing = (T : Tables) (ns ns' : List ℕ) (k : ℕ) → Lists T ns (Listed.Refused k) ns' → (ns' ≡ ns) × ((k ≡ 8) ⊎ (k ≡ 4) ⊎ (k ≡ 7))
+
 pub record Promises : Type 0 where
   pub refusal-changes-nothing : Refusal-changes-nothing
   pub refusal-number : Refusal-number
@@ -50,3 +63,5 @@ pub record Promises : Type 0 where
   pub read-is-written : Read-is-written
   pub answers : Answers
   pub tables-are : Tables-are
+  pub leaks-listed : Leaks-listed
+  pub unlisted-changes-nothing : Unlisted-changes-nothing

@@ -16,10 +16,11 @@ use Rattle.numbers.specs.declared.Room.{Room}
 use Rattle.numbers.specs.declared.Room.the-variants.{To, Short}
 use Rattle.numbers.proofs.Put.{put-one, put-put, length-put, roomy}
 use Rattle.history.specs.Report.{field-then, last-field, shown-finding, word-for, end-line}
+use Rattle.history.specs.Leaks.{shown-leak}
 use Rattle.history.specs.declared.Finding.{Finding}
 use Rattle.answers.specs.declared.Answer.{Answer}
 use Rattle.answers.specs.Answer.{no-finding}
-use Rattle.report.specs.Shown.{shown-answer, field-with, two-fields, three-fields, end-head, Fills}
+use Rattle.report.specs.Shown.{leak, shown-answer, field-with, two-fields, three-fields, end-head, leak-head, Fills}
 
 -- ---- zs is xs and then ys
 
@@ -58,6 +59,22 @@ end-parts closed lines refusal printed =
           ap (λ (bs : List ℕ). bytes "end" ++ (tab ∷ (word-for refusal closed ++ (tab ∷ bs)))) (three-are lines refusal printed)
           ∙ ap (λ (bs : List ℕ). bytes "end" ++ (tab ∷ bs)) (sym (append-assoc (word-for refusal closed) (tab ∷ []) (three-fields lines refusal printed)));
     }
+
+-- of a leak, its numbers and the last three of them
+abbrev pub leak-fields : ℕ → ℕ → ℕ → ℕ → List ℕ
+leak-fields rule thread value line = field-with rule tab ++ three-fields thread value line
+
+module _ (rule thread value line : ℕ) where
+  pub leak-parts : Parts (shown-leak (leak rule thread value line)) leak-head (leak-fields rule thread value line)
+  leak-parts =
+      record {
+        whole =
+            ap (λ (bs : List ℕ). bytes "leak" ++ (tab ∷ (digits rule ++ (tab ∷ bs)))) (three-are thread value line)
+            ∙ ap (λ (bs : List ℕ). bytes "leak" ++ (tab ∷ bs)) (sym (append-assoc (digits rule) (tab ∷ []) (three-fields thread value line)));
+      }
+
+  pub fields-parts : Parts (leak-fields rule thread value line) (field-with rule tab) (three-fields thread value line)
+  fields-parts = record { whole = refl }
 
 -- what stands before the numbers, by the tests
 module _ (closed : Bool) (refusal : ℕ) where

@@ -1,9 +1,10 @@
-// What the program prints: the findings of a line, and the last line of a report.
+// What the program prints: the findings of a line, the last line of a report, and the leaks behind it.
 use answers::Answer;
 use history::Finding;
 use lines::LINE_FEED;
 use lines::TAB;
 use numbers::Room;
+use words::Handle;
 ghost use mathlib.Core.Path.{_≡_};
 ghost use mathlib.Core.Bool.{true, false};
 ghost use Prim.Native.Nat.{suc, _+_, _<_, _≤_};
@@ -11,10 +12,14 @@ ghost use lib.ListN.{length, take};
 ghost use Rattle.numbers.specs.Decimal.{digits};
 ghost use Rattle.numbers.specs.Writing.{Puts};
 ghost use Rattle.history.specs.Report.{shown-finding, end-line};
-ghost use Rattle.report.specs.Shown.{most-shown, shown-answer, field-with, three-fields, end-head, Fills};
+ghost use Rattle.history.specs.Leaks.{shown-leak};
+ghost use Rattle.report.specs.Shown.{most-shown, longest-leak, leak, shown-answer, field-with, three-fields, end-head, Fills};
 
 // The findings of a line have at most so many bytes.
 pub const MOST_SHOWN: usize = 504;
+
+// A leak has at most so many.
+pub const LONGEST_LEAK: usize = 89;
 
 // There is room for w bytes at a place of a buffer of `len`.
 fn has_room(len: usize, at: usize, w: usize) -> bool
@@ -187,6 +192,32 @@ pub fn put_end(
     if has_room(out.len(), at, end_width(closed, lines, refusal, printed)) {
         let i = put_head(out, at, closed, refusal);
         return Room::To(put_three(out, i, lines, refusal as u32, printed));
+    }
+    Room::Short
+}
+
+// How long a leak is.
+pub fn leak_width(rule: Handle, thread: Handle, value: Handle, line: Handle) -> usize
+    ensures { λ r. ⌜ (r ≡ length (shown-leak (leak rule thread value line))) × (r ≤ longest-leak) ⌝ }
+{
+    b"leak\t".len() + field_width(rule) + three_width(thread, value, line)
+}
+
+// Writes a leak at a place; where there is no room nothing is written.
+pub fn put_leak(
+    out: &mut [u8],
+    at: usize,
+    rule: Handle,
+    thread: Handle,
+    value: Handle,
+    line: Handle,
+) -> Room
+    ensures { λ r. ⌜ Puts (now (out .entry)) at (shown-leak (leak rule thread value line)) r (now (out .exit)) ⌝ }
+{
+    if has_room(out.len(), at, leak_width(rule, thread, value, line)) {
+        let i = put_bytes(out, at, b"leak\t");
+        let j = put_field(out, i, rule, TAB);
+        return Room::To(put_three(out, j, thread, value, line));
     }
     Room::Short
 }

@@ -25,7 +25,7 @@ end-tight κs args = (
 pub enter-tight : Tight events.enter.enter.ended events.enter.enter.Reads.Asked events.enter.enter.Reads.Learnt
 enter-tight κs args = (
   tt,
-  λ x y p q. by (λ (o : Outcome). given (o .answer) (with-table (o .left .references) (o .left .book, x .left .1 .1 .1))) (p [] [] 0) (q [] [] 0),
+  λ x y p q. by (λ (o : Outcome). given (o .answer) (with-table (o .left .references) (o .left .book, x .left .1 .1 .1))) (p [] []) (q [] []),
 )
 
 pub leave-tight : Tight events.leave.leave.ended events.leave.leave.Reads.Asked events.leave.leave.Reads.Learnt

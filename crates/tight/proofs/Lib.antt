@@ -12,6 +12,7 @@ pub mod Report
 pub mod Sight
 pub mod Weigh
 pub mod Act
+pub mod Leaks
 pub mod Events
 pub mod Judge
 pub mod Exported

@@ -14,3 +14,9 @@ end-width-tight κs args = (tt, λ x y. by-reply-first x y)
 
 pub put-end-tight : Tight report.put_end.ended report.put_end.Reads.Asked report.put_end.Reads.Learnt
 put-end-tight κs args = (tt, by-puts)
+
+pub leak-width-tight : Tight report.leak_width.ended report.leak_width.Reads.Asked report.leak_width.Reads.Learnt
+leak-width-tight κs args = (tt, λ x y. by-reply-first x y)
+
+pub put-leak-tight : Tight report.put_leak.ended report.put_leak.Reads.Asked report.put_leak.Reads.Learnt
+put-leak-tight κs args = (tt, by-puts)

@@ -1,5 +1,10 @@
 -- That the promises of the lent rows and marks are tight. Assumes nothing.
+use mathlib.Core.Path.{_≡_, refl, sym, _∙_}
 use Rattle.rows.proofs as rows
+use Rattle.rows.specs.References.{told}
+use Rattle.rows.specs.Pins.{told as pin-told}
+use Rattle.rows.specs.declared.references.Held.{Held}
+use Rattle.rows.specs.declared.pins.Held.{Held as PinHeld}
 use Rattle.tight.specs.Tight.{Tight}
 use Rattle.tight.proofs.Shapes.{by-reply, by-table, by-reply-and-table}
 
@@ -14,6 +19,15 @@ references-lowest-free-tight κs args = (tt, by-reply)
 
 pub references-alive-tight : Tight rows.references.alive.ended rows.references.alive.Reads.Asked rows.references.alive.Reads.Learnt
 references-alive-tight κs args = (tt, by-reply)
+
+one-slot : (x y : Held) → told x ≡ told y → x ≡ y
+one-slot (Held.Row a) (Held.Row b) e = cc
+one-slot (Held.Row a) Held.Nothing e = cc
+one-slot Held.Nothing (Held.Row b) e = cc
+one-slot Held.Nothing Held.Nothing e = refl
+
+pub references-slot-tight : Tight rows.references.slot.ended rows.references.slot.Reads.Asked rows.references.slot.Reads.Learnt
+references-slot-tight κs args = (tt, λ x y p q. by-reply x y (one-slot (x .reply) (y .reply) (p ∙ sym q)) refl)
 
 pub references-store-tight : Tight rows.references.store.ended rows.references.store.Reads.Asked rows.references.store.Reads.Learnt
 references-store-tight κs args = (tt, by-table)
@@ -44,6 +58,15 @@ pins-lowest-free-tight κs args = (tt, by-reply)
 
 pub pins-alive-tight : Tight rows.pins.alive.ended rows.pins.alive.Reads.Asked rows.pins.alive.Reads.Learnt
 pins-alive-tight κs args = (tt, by-reply)
+
+one-pin-slot : (x y : PinHeld) → pin-told x ≡ pin-told y → x ≡ y
+one-pin-slot (PinHeld.Row a) (PinHeld.Row b) e = cc
+one-pin-slot (PinHeld.Row a) PinHeld.Nothing e = cc
+one-pin-slot PinHeld.Nothing (PinHeld.Row b) e = cc
+one-pin-slot PinHeld.Nothing PinHeld.Nothing e = refl
+
+pub pins-slot-tight : Tight rows.pins.slot.ended rows.pins.slot.Reads.Asked rows.pins.slot.Reads.Learnt
+pins-slot-tight κs args = (tt, λ x y p q. by-reply x y (one-pin-slot (x .reply) (y .reply) (p ∙ sym q)) refl)
 
 pub pins-store-tight : Tight rows.pins.store.ended rows.pins.store.Reads.Asked rows.pins.store.Reads.Learnt
 pins-store-tight κs args = (tt, by-table)
