@@ -1,5 +1,5 @@
 -- What a read answered, and the streams after it. Assumes nothing.
-use Prim.Native.Nat.{ℕ, _+_, _-_, _≤_, _<_}
+use Prim.Native.Nat.{ℕ, _+_, _-_, _≤_}
 use mathlib.Core.Path.{_≡_, refl, sym, ap, subst, _∙_}
 use mathlib.Core.Bool.{Bool, true, false}
 use mathlib.Core.List.{List}
@@ -28,7 +28,7 @@ no-more-than {small} {large} n e h m = subst (Moved large) (sym e) (go n m)
     go (negsuc k) m = m
 
 pub failed-so : (n : ℤ) {z : ℤ} (s : Streams) → z ≡ n → ltZ z (pos 0) ≡ true
-    → _≡_ {A = Streams} (record { read = s .read; ended = s .ended; unreadable = true; printed = s .printed; unwritable = s .unwritable }) (with-read s n)
+    → _≡_ {A = Streams} (record { leaks = s .leaks; read = s .read; ended = s .ended; unreadable = true; printed = s .printed; unwritable = s .unwritable }) (with-read s n)
 failed-so (pos a) s e h = absurd (not-suc-le-zero (ltb-true a 0 (subst (λ (m : ℤ). ltZ m (pos 0) ≡ true) e h)))
 failed-so (negsuc a) s e h = refl
 
@@ -41,9 +41,9 @@ sum-fits (pos a) {s = s} e m few h = subst (λ (k : ℤ). Fits w64 (s .read + na
 sum-fits (negsuc a) e m few h = absurd (subst T (subst (λ (m : ℤ). ltZ m (pos 0) ≡ false) e h) tt)
 
 pub gave-so : (n : ℤ) {z : ℤ} (s : Streams) → z ≡ n → ltZ z (pos 0) ≡ false
-    → _≡_ {A = Streams} (record { read = s .read + natAbs z; ended = eqb (natAbs z) 0; unreadable = s .unreadable; printed = s .printed; unwritable = s .unwritable }) (with-read s n)
+    → _≡_ {A = Streams} (record { leaks = s .leaks; read = s .read + natAbs z; ended = eqb (natAbs z) 0; unreadable = s .unreadable; printed = s .printed; unwritable = s .unwritable }) (with-read s n)
 gave-so (pos a) s e h =
-    ap (λ (k : ℤ). record { read = s .read + natAbs k; ended = eqb (natAbs k) 0; unreadable = s .unreadable; printed = s .printed; unwritable = s .unwritable }) e
+    ap (λ (k : ℤ). record { leaks = s .leaks; read = s .read + natAbs k; ended = eqb (natAbs k) 0; unreadable = s .unreadable; printed = s .printed; unwritable = s .unwritable }) e
 gave-so (negsuc a) s e h = absurd (subst T (subst (λ (m : ℤ). ltZ m (pos 0) ≡ false) e h) tt)
 
 pub moved-fits : {s q : Streams} (n : ℤ) → q ≡ with-read s n → Moved buffer-size n → Few s 0 → Fits w64 (q .read + q .printed)

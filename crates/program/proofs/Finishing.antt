@@ -1,56 +1,115 @@
--- The last line printed, and the report whole. Assumes nothing.
-use Prim.Native.Nat.{ℕ, _+_, _≤_}
+-- The last line and the leaks printed, and the output whole. Assumes nothing.
+use Prim.Native.Nat.{ℕ, _+_, _*_, _-_, _≤_, _<_}
 use mathlib.Core.Path.{_≡_, refl, sym, ap, ap₂, subst, _∙_}
-use mathlib.Core.Bool.{Bool, true, false, false≢true}
-use mathlib.Core.List.{List, _++_}
+use mathlib.Core.Bool.{Bool, true, false, _||_, false≢true}
+use mathlib.Core.List.{List, [], _++_}
 use native.Mathlib.Omega.{arith}
 use lib.ListN.{length, take, drop, length-append, length-drop}
-use lib.Seq.{take-at, take-all}
+use lib.Seq.{take-at, drop-at, drop-drop}
 use Rattle.numbers.specs.Writing.{put}
-use Rattle.history.specs.Report.{report}
-use Rattle.history.specs.Runs.{program-room}
-use Rattle.program.specs.declared.Run.{Run}
+use Rattle.report.specs.Shown.{longest-leak}
 use Rattle.program.specs.declared.streams.Streams.{Streams}
-use Rattle.program.specs.Progress.{buffer-size, Few}
-use Rattle.program.specs.Printing.{Newest, Due, Whole, Reported, Has-printed}
-use Rattle.program.specs.Running.{Failed, not-read, not-written, Left}
+use Rattle.tables.specs.Tables.{Tables}
+use Rattle.tables.specs.Listing.{leak-numbers}
+use Rattle.program.specs.Progress.{buffer-size, most-leaks, Few}
+use Rattle.program.specs.Printing.{output, Newest, Due, Whole, Reported, Has-printed}
+use Rattle.program.specs.Listing.{listing-of, records-in, Lists, shown-from}
+use Rattle.program.specs.Running.{Left, Good, Records-left, Leaks-left}
+use Rattle.program.proofs.Records.{shown-none, shown-pieces}
 
-pub failed-reported : {s : Streams} → Failed s → Reported s
-unfolding Reported
-failed-reported (not-read h) r w = absurd (false≢true (sym r ∙ h))
-failed-reported (not-written h) r w = absurd (false≢true (sym w ∙ h))
+-- ---- bytes at the front of a buffer are printed
 
-module _ {r : Run} {line out' : List ℕ} {n : ℕ} (out : List ℕ) (left : Left r line) (put-is : (n ≡ length line) × (n ≤ buffer-size) × (out' ≡ put out 0 line)) where
-  front : take n out' ≡ line
-  front = ap₂ take (put-is .0) (put-is .2) ∙ take-at line (drop (0 + length line) out) (length line) refl
+module _ {out' : List ℕ} {n : ℕ} (out bytes : List ℕ) (size : n ≡ length bytes) (is : out' ≡ put out 0 bytes) where
+  front : take n out' ≡ bytes
+  front = ap₂ take size is ∙ take-at bytes (drop (0 + length bytes) out) (length bytes) refl
 
-  fits : n ≤ length out'
-  fits = omega (arith, put-is .0, ap length (put-is .2) ∙ length-append line (drop (0 + length line) out))
+  pub printable : {moved : ℕ} (s : Streams) → Newest s moved → Due s bytes → Few s n → Newest s moved × (n ≤ length out') × Due s (take n out') × Few s n
+  printable s newest due few =
+      (newest, omega (arith, size, ap length is ∙ length-append bytes (drop (0 + length bytes) out)), subst (Due s) (sym front) due, few)
 
-  due : Due (r .streams) (take n out')
-  unfolding Due
-  due =
+-- ---- of what is left
+
+module _ {bytes : List ℕ} (s : Streams) (xs ys : List ℕ) (left : Left s bytes) (parts : bytes ≡ xs ++ ys) where
+  next-due : Due s xs
+  unfolding Left Due
+  next-due =
       record {
-        input = left .last .input;
-        read = left .last .read;
-        says = λ more behind.
-            let there = left .last .says more behind .0 in
-            subst (λ (b : List ℕ). take (length b) (drop (r .streams .printed) (report program-room (left .last .input ++ more))) ≡ b) (sym front)
-            (ap (take (length line)) there ∙ take-all (length line) line (omega arith));
+        input = left .input;
+        read = left .read;
+        says = λ more behind. ap (take (length xs)) (left .says more behind .0 ∙ parts) ∙ take-at xs ys (length xs) refl;
       }
 
-  pub last-due : {moved : ℕ} → Newest (r .streams) moved → Newest (r .streams) moved × (n ≤ length out') × Due (r .streams) (take n out') × Few (r .streams) n
-  last-due newest = (newest, fits, due, record { read = left .streams .read; printed = omega (arith, left .streams .printed, put-is .1) })
-
-  pub printed-whole : {q : Streams} → Has-printed (r .streams) n q → Reported q
-  unfolding Reported Whole
-  printed-whole {q} e =
-      subst Reported (sym (e .after))
-      (λ _ _.
-      record {
-        input = left .last .input;
-        read = left .last .read;
+  then-left : {q : Streams} → Has-printed s (length xs) q → Left q ys
+  unfolding Left
+  then-left h =
+      subst (λ (x : Streams). Left x ys) (sym (h .after))
+      (record {
+        input = left .input;
+        read = left .read;
         says = λ more behind.
-            let there = left .last .says more behind in
-            omega (arith, put-is .0, ap length (there .0), there .1, length-drop (r .streams .printed) (report program-room (left .last .input ++ more)));
+            let there = left .says more behind in
+            let out = output (s .leaks) (left .input ++ more) in
+            let rest : drop (s .printed) out ≡ xs ++ ys = there .0 ∙ parts in (
+              sym (drop-drop (length xs) (s .printed) out) ∙ ap (drop (length xs)) rest ∙ drop-at xs ys (length xs) refl,
+              omega (arith, ap length rest, length-append xs ys, length-drop (s .printed) out, there .1),
+            );
       })
+
+none-left : (s : Streams) → Left s [] → Whole s
+unfolding Left Whole
+none-left s left =
+    record {
+      input = left .input;
+      read = left .read;
+      says = λ more behind.
+          let there = left .says more behind in
+          omega (arith, ap length (there .0), there .1, length-drop (s .printed) (output (s .leaks) (left .input ++ more)));
+    }
+
+-- ---- the records, a piece after the other
+
+pub listed-left : {asked : Bool} {ns' : List ℕ} {n : ℕ} (s : Streams) (T : Tables) (ns : List ℕ) → asked ≡ s .leaks → Lists asked T ns n ns' → length ns ≡ most-leaks * leak-numbers
+    → Leaks-left s T → Good s → Records-left s ns' 0 n
+unfolding Leaks-left
+listed-left {asked} {ns'} {n} s T ns e l size left good =
+    let here = left ns size good in
+    subst (λ (k : ℕ). Records-left s ns' 0 k) (sym (l .count ∙ ap (λ (b : Bool). records-in (listing-of b T ns .reply)) e))
+    (subst (λ (m : List ℕ). Records-left s m 0 (records-in (listing-of (s .leaks) T ns .reply))) (sym (l .left ∙ ap (λ (b : Bool). listing-of b T ns .left) e)) here)
+
+pub good : {b : Bool} (s : Streams) → b ≡ s .unreadable || s .unwritable → b ≡ false → Good s
+good s e f = go (s .unreadable) (s .unwritable) refl refl (sym e ∙ f)
+  where
+    go : (x y : Bool) → s .unreadable ≡ x → s .unwritable ≡ y → x || y ≡ false → Good s
+    go true y ex ey h = absurd (false≢true (sym h))
+    go false true ex ey h = absurd (false≢true (sym h))
+    go false false ex ey h = (ex, ey)
+
+module _ {s : Streams} {ns : List ℕ} {from to count n : ℕ} (here : Records-left s ns from (count - from))
+    (piece : (from < to) × (to ≤ count) × (longest-leak * (to - from) ≤ buffer-size)) (size : n ≡ length (shown-from ns from (to - from))) (short : n ≤ longest-leak * (to - from)) where
+  parts : shown-from ns from (count - from) ≡ shown-from ns from (to - from) ++ shown-from ns to (count - to)
+  parts = shown-pieces ns from to count (omega (arith, piece .0)) (piece .1)
+
+  pub piece-due : Due s (shown-from ns from (to - from))
+  piece-due = next-due s (shown-from ns from (to - from)) (shown-from ns to (count - to)) (here .left) parts
+
+  pub piece-few : Few s n
+  piece-few = record { read = here .few .read; printed = omega (arith, here .few .printed, short, piece .1, piece .0) }
+
+  pub rest-left : {q : Streams} → Has-printed s n q → Records-left q ns to (count - to)
+  rest-left {q} h =
+      record {
+        within = omega (arith, here .within, piece .0, piece .1);
+        few = record {
+          read = omega (arith, ap (λ (x : Streams). x .read) (h .after), here .few .read);
+          printed = omega (arith, ap (λ (x : Streams). x .printed) (h .after), here .few .printed, short, piece .1, piece .0);
+        };
+        left = then-left s (shown-from ns from (to - from)) (shown-from ns to (count - to)) (here .left) parts (subst (λ (k : ℕ). Has-printed s k q) size h);
+      }
+
+pub all-printed : {s : Streams} {ns : List ℕ} {done count : ℕ} → count ≤ done → (Good s → Records-left s ns done (count - done)) → Reported s
+unfolding Reported
+all-printed {s} {ns} {done} {count} h here = λ r w. none-left s (subst (Left s) (shown-none ns done count h) (here (r, w) .left))
+
+pub failed-reported : {b : Bool} (s : Streams) → b ≡ s .unreadable || s .unwritable → b ≡ true → Reported s
+unfolding Reported
+failed-reported s e t = λ r w. absurd (false≢true (sym (ap₂ _||_ r w) ∙ sym e ∙ t))

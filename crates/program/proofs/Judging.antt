@@ -1,5 +1,5 @@
--- One part of the input after the other is judged as the run of the whole input says, and what is printed of it is the report's. Assumes nothing.
-use Prim.Native.Nat.{ℕ, _+_, _≤_}
+-- One part of the input after the other is judged as the run of the whole input says, and what is printed of it is what is due. Assumes nothing.
+use Prim.Native.Nat.{ℕ, _+_, _*_}
 use mathlib.Core.Path.{_≡_, refl, sym, ap, subst, _∙_}
 use mathlib.Core.Bool.{Bool, true, false, false≢true}
 use mathlib.Core.List.{List, [], _∷_, _++_, append-assoc, append-nil}
@@ -8,13 +8,15 @@ use lib.IntN.{pos}
 use lib.ListN.{length, take, drop, length-append}
 use lib.Seq.{take-at, drop-at}
 use Rattle.history.specs.Replies.{Reply, accepted, not-accepted}
-use Rattle.history.specs.Report.{lines-of, report, end-line}
+use Rattle.history.specs.Report.{run, lines-of, end-line}
 use Rattle.history.specs.Runs.{program-room}
 use Rattle.history.specs.declared.Finding.{Finding}
 use Rattle.book.specs.Threads.{lines-in, closed-in}
 use Rattle.tables.specs.Tables.{Tables}
 use Rattle.tables.specs.Stepping.{step-of, start-of}
+use Rattle.tables.specs.Listing.{leak-numbers}
 use Rattle.demands.specs.Calls.{Ran, ran, go-on-in, run-in, printed}
+use Rattle.demands.specs.Tied.{All-tied}
 use Rattle.run.specs.declared.Passed.{Passed}
 use Rattle.run.specs.declared.Stop.{Stop}
 use Rattle.run.specs.declared.Stop.the-variants as Stop
@@ -24,8 +26,12 @@ use Rattle.run.proofs.Going.{all-shown-append}
 use Rattle.run.proofs.Passing.{Learnt}
 use Rattle.pieces.specs.Pieces.{Behind}
 use Rattle.program.specs.declared.streams.Streams.{Streams}
-use Rattle.program.specs.Printing.{Reports, Due, nothing-yet, with-read, with-printed}
-use Rattle.program.proofs.Lent.{lent, report-is}
+use Rattle.program.specs.Printing.{output, Due, nothing-yet, with-read, with-printed, Has-printed}
+use Rattle.program.specs.Progress.{most-leaks, most-leaked, Few}
+use Rattle.program.specs.Listing.{listing-of}
+use Rattle.program.specs.Running.{Left, Leaks-left}
+use Rattle.program.proofs.Records.{leaks-shown, Has, listed}
+use Rattle.program.proofs.Lent.{lent, output-is, tied-lent}
 
 -- what was read is judged but for the bytes that are unread: the run of the input goes on from these tables, and what it found so far was printed
 pub record Judged (T : Tables) (s : Streams) (findings : ℕ) (unread : List ℕ) : Type 0 where
@@ -45,8 +51,8 @@ pub record All-judged (T : Tables) (s : Streams) (findings refusal : ℕ) : Type
   pub printed : length (all-shown found) ≡ s .printed
   pub same : (next : List ℕ) → Behind (s .ended) next → run-in (start-of lent) [] (lines-of (input ++ next)) ≡ ran T found refusal
 
-pub judged-start : {S : Tables} → S ≡ start-of lent → Judged S nothing-yet 0 []
-judged-start e = record { input = []; found = []; read = refl; count = refl; printed = refl; same = λ next _. ap (λ (X : Tables). run-in X [] (lines-of next)) (sym e) }
+pub judged-start : {S : Tables} (leaks : Bool) → S ≡ start-of lent → Judged S (nothing-yet leaks) 0 []
+judged-start leaks e = record { input = []; found = []; read = refl; count = refl; printed = refl; same = λ next _. ap (λ (X : Tables). run-in X [] (lines-of next)) (sym e) }
 
 -- ---- more is read, or there is no more
 
@@ -92,14 +98,17 @@ between : {n : ℕ} (a b c : List ℕ) → length a ≡ n → take (length b) (d
 between {n} a b c e = ap (take (length b)) (drop-at a (b ++ c) n e) ∙ take-at b c (length b) refl
 
 -- of the findings fs, then gs, the bytes of gs come after those of fs
-shown-between : {n : ℕ} (fs gs : List Finding) (r : Ran) → length (all-shown fs) ≡ n → Begins (fs ++ gs) (r .found) → take (length (all-shown gs)) (drop n (printed r)) ≡ all-shown gs
+shown-between : {n : ℕ} (fs gs : List Finding) (r : Ran) (tail : List ℕ) → length (all-shown fs) ≡ n → Begins (fs ++ gs) (r .found)
+    → take (length (all-shown gs)) (drop n (printed r ++ tail)) ≡ all-shown gs
 unfolding printed
-shown-between {n} fs gs r e b =
-    let last = end-line (closed-in (r .left .book)) (lines-in (r .left .book)) (r .refusal) (length (r .found)) in
+shown-between {n} fs gs r tail e b =
+    let end = end-line (closed-in (r .left .book)) (lines-in (r .left .book)) (r .refusal) (length (r .found)) in
+    let last = end ++ tail in
     let parts : all-shown (r .found) ≡ all-shown fs ++ (all-shown gs ++ all-shown (b .rest)) =
     ap all-shown (b .is ∙ append-assoc fs gs (b .rest)) ∙ all-shown-append fs (gs ++ b .rest) ∙ ap (λ (x : List ℕ). all-shown fs ++ x) (all-shown-append gs (b .rest))
     in
-    ap (λ (x : List ℕ). take (length (all-shown gs)) (drop n (x ++ last))) parts
+    ap (λ (x : List ℕ). take (length (all-shown gs)) (drop n x)) (append-assoc (all-shown (r .found)) end tail)
+    ∙ ap (λ (x : List ℕ). take (length (all-shown gs)) (drop n (x ++ last))) parts
     ∙ ap (λ (x : List ℕ). take (length (all-shown gs)) (drop n x))
     (append-assoc (all-shown fs) (all-shown gs ++ all-shown (b .rest)) last ∙ ap (λ (x : List ℕ). all-shown fs ++ x) (append-assoc (all-shown gs) (all-shown (b .rest)) last))
     ∙ between (all-shown fs) (all-shown gs) (all-shown (b .rest) ++ last) e
@@ -131,9 +140,10 @@ module _ {T S : Tables} {s : Streams} {n : ℕ} {unread out out' : List ℕ} {p 
         input = j .input;
         read = j .read;
         says = λ next behind.
-            subst (λ (b : List ℕ). take (length b) (drop (s .printed) (report program-room (j .input ++ next))) ≡ b) (sym (k .front))
-            (ap (λ (b : List ℕ). take (length (all-shown (k .found))) (drop (s .printed) b)) (report-is (j .input ++ next) ∙ ap printed (run-on next behind))
-            ∙ shown-between (j .found) (k .found) (from-stop (p .stop) S all-found (drop (p .taken) unread ++ next)) (j .printed)
+            let tail = leaks-shown (s .leaks) (run program-room [] (lines-of (j .input ++ next)) .accepted) in
+            subst (λ (b : List ℕ). take (length b) (drop (s .printed) (output (s .leaks) (j .input ++ next))) ≡ b) (sym (k .front))
+            (ap (λ (b : List ℕ). take (length (all-shown (k .found))) (drop (s .printed) b)) (output-is (s .leaks) (j .input ++ next) ∙ ap (λ (r : Ran). printed r ++ tail) (run-on next behind))
+            ∙ shown-between (j .found) (k .found) (from-stop (p .stop) S all-found (drop (p .taken) unread ++ next)) tail (j .printed)
             (begins (p .stop) S all-found (drop (p .taken) unread ++ next)));
       }
 
@@ -175,23 +185,67 @@ module _ {T S : Tables} {s : Streams} {n : ℕ} {unread out out' : List ℕ} {p 
   pub judged-end : p .stop ≡ Stop.End → All-judged S (with-printed s (p .put) true) (n + p .findings) 0
   judged-end q = ends 0 Stop.End q (λ fs b. refl)
 
--- ---- the last line is what is left of the report
+-- ---- the last line comes next, and then the leaks
 
-pub last-left : {T : Tables} {s : Streams} {n refusal : ℕ} → All-judged T s n refusal
-    → Reports s (λ report. (drop (s .printed) report ≡ end-line (closed-in (T .book)) (lines-in (T .book)) refusal n) × (s .printed ≤ length report))
-unfolding printed
-last-left {T} {s} {n} {refusal} a =
-    record {
-      input = a .input;
-      read = a .read;
-      says = λ next behind.
-          let whole : report program-room (a .input ++ next) ≡ all-shown (a .found) ++ end-line (closed-in (T .book)) (lines-in (T .book)) refusal n = shown-whole next behind in (
-            ap (drop (s .printed)) whole ∙ drop-at (all-shown (a .found)) (end-line (closed-in (T .book)) (lines-in (T .book)) refusal n) (s .printed) (a .printed),
-            omega (arith, ap length whole ∙ length-append (all-shown (a .found)) (end-line (closed-in (T .book)) (lines-in (T .book)) refusal n), a .printed),
-          );
-    }
-  where
-    shown-whole : (next : List ℕ) → Behind (s .ended) next → report program-room (a .input ++ next) ≡ all-shown (a .found) ++ end-line (closed-in (T .book)) (lines-in (T .book)) refusal n
-    shown-whole next behind =
-        report-is (a .input ++ next) ∙ ap printed (a .same next behind)
-        ∙ ap (λ (k : ℕ). all-shown (a .found) ++ end-line (closed-in (T .book)) (lines-in (T .book)) refusal k) (a .count)
+module _ {T : Tables} {s : Streams} {n refusal : ℕ} (a : All-judged T s n refusal) where
+  line : List ℕ
+  line = end-line (closed-in (T .book)) (lines-in (T .book)) refusal n
+
+  tail : List ℕ → List ℕ
+  tail next = leaks-shown (s .leaks) (run program-room [] (lines-of (a .input ++ next)) .accepted)
+
+  in-parts : (next : List ℕ) → Behind (s .ended) next → output (s .leaks) (a .input ++ next) ≡ all-shown (a .found) ++ (line ++ tail next)
+  unfolding printed line tail
+  in-parts next behind =
+      output-is (s .leaks) (a .input ++ next)
+      ∙ ap (λ (r : Ran). printed r ++ tail next) (a .same next behind)
+      ∙ ap (λ (k : ℕ). (all-shown (a .found) ++ end-line (closed-in (T .book)) (lines-in (T .book)) refusal k) ++ tail next) (a .count)
+      ∙ append-assoc (all-shown (a .found)) line (tail next)
+
+  pub last-due : Due s (end-line (closed-in (T .book)) (lines-in (T .book)) refusal n)
+  unfolding Due line
+  last-due =
+      record {
+        input = a .input;
+        read = a .read;
+        says = λ next behind.
+            ap (λ (b : List ℕ). take (length line) (drop (s .printed) b)) (in-parts next behind) ∙ between (all-shown (a .found)) line (tail next) (a .printed);
+      }
+
+  listed-as : (next : List ℕ) → Behind (s .ended) next → (ns : List ℕ) → length ns ≡ most-leaks * leak-numbers → Has (listing-of (s .leaks) T ns) (tail next)
+  unfolding tail
+  listed-as next behind ns size =
+      let k = tied-lent (a .input ++ next) in
+      let same : run-in (start-of lent) [] (lines-of (a .input ++ next)) .left ≡ T = ap (λ (r : Ran). r .left) (a .same next behind) in
+      listed (s .leaks) T (run program-room [] (lines-of (a .input ++ next)) .accepted)
+      (subst (λ (X : Tables). All-tied program-room X (run program-room [] (lines-of (a .input ++ next)) .accepted)) same (k .tied)) (k .accepts) ns size
+
+  -- the last line is printed, and the leaks are what is left
+  pub leaks-left : {q : Streams} → Has-printed s (length (end-line (closed-in (T .book)) (lines-in (T .book)) refusal n)) q → Few q most-leaked → Leaks-left q T
+  unfolding Leaks-left Left line
+  leaks-left {q} p few =
+      subst (λ (x : Streams). Leaks-left x T) (sym (p .after))
+      (λ ns size _.
+      let some = listed-as [] (λ _. refl) ns size .few in
+      record {
+        within = omega (arith, some);
+        few = record {
+          read = omega (arith, few .read, ap (λ (x : Streams). x .read) (p .after));
+          printed = omega (arith, few .printed, ap (λ (x : Streams). x .printed) (p .after), some);
+        };
+        left = record {
+          input = a .input;
+          read = a .read;
+          says = λ next behind.
+              let past-line : length (all-shown (a .found) ++ line) ≡ s .printed + length line =
+              length-append (all-shown (a .found)) line ∙ ap (λ (k : ℕ). k + length line) (a .printed)
+              in
+              let whole : output (s .leaks) (a .input ++ next) ≡ (all-shown (a .found) ++ line) ++ tail next =
+              in-parts next behind ∙ sym (append-assoc (all-shown (a .found)) line (tail next))
+              in (
+                ap (drop (s .printed + length line)) whole ∙ drop-at (all-shown (a .found) ++ line) (tail next) (s .printed + length line) past-line
+                    ∙ sym (listed-as next behind ns size .shown),
+                omega (arith, ap length whole ∙ length-append (all-shown (a .found) ++ line) (tail next), past-line),
+              );
+        };
+      })

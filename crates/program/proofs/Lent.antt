@@ -1,7 +1,8 @@
--- The tables that the program lends, and the report of an input over them. Assumes nothing.
+-- The tables that the program lends, and what an input has printed over them. Assumes nothing.
 use Prim.Native.Nat.{ℕ, _*_, _/_, min}
-use mathlib.Core.Path.{_≡_, refl, sym, ap, _∙_}
-use mathlib.Core.List.{List, []}
+use mathlib.Core.Path.{_≡_, sym, ap, subst, _∙_}
+use mathlib.Core.Bool.{Bool, true, false}
+use mathlib.Core.List.{List, [], _++_, append-nil}
 use native.Mathlib.Omega.{arith}
 use lib.ListN.{length, replicate, length-replicate}
 use Rattle.rows.specs.Marks.{word}
@@ -9,14 +10,17 @@ use Rattle.rows.specs.Table.{room, most}
 use Rattle.rows.specs.References.{references}
 use Rattle.rows.specs.Pins.{pins}
 use Rattle.history.specs.Acceptance.{Room}
-use Rattle.history.specs.Report.{lines-of, report}
+use Rattle.history.specs.Report.{run, lines-of, report}
 use Rattle.history.specs.Runs.{program-room}
 use Rattle.book.specs.Layout.{whole}
 use Rattle.tables.specs.Tables.{Tables, tables}
 use Rattle.tables.specs.Stepping.{start-of}
 use Rattle.demands.specs.Calls.{room-of, Long, run-in, printed, report-in}
+use Rattle.demands.specs.Leaks.{report-and-leaks}
 use Rattle.demands.proofs.Foreign.{start-is}
-use Rattle.demands.proofs.Runs.{reports-are}
+use Rattle.demands.proofs.Runs.{reports-are, Left-tied, left-tied}
+use Rattle.program.specs.Printing.{output}
+use Rattle.program.proofs.Records.{leaks-shown}
 
 -- with one bit of a mark to a row, sixty-four to a word
 abbrev pub marks-for : ℕ → ℕ
@@ -63,6 +67,16 @@ long-lent : Long lent
 unfolding lent
 long-lent = omega (arith, long-as whole)
 
-pub report-is : (input : List ℕ) → report program-room input ≡ printed (run-in (start-of lent) [] (lines-of input))
+report-is : (input : List ℕ) → report program-room input ≡ printed (run-in (start-of lent) [] (lines-of input))
 unfolding report-in
 report-is input = ap (λ (r : Room). report r input) (sym room-lent) ∙ sym (reports-are lent long-lent input)
+
+pub output-is : (leaks : Bool) (input : List ℕ)
+    → output leaks input ≡ printed (run-in (start-of lent) [] (lines-of input)) ++ leaks-shown leaks (run program-room [] (lines-of input) .accepted)
+unfolding output report-and-leaks
+output-is true input = ap (λ (b : List ℕ). b ++ leaks-shown true (run program-room [] (lines-of input) .accepted)) (report-is input)
+output-is false input = report-is input ∙ sym (append-nil (printed (run-in (start-of lent) [] (lines-of input))))
+
+pub tied-lent : (input : List ℕ) → Left-tied program-room (run-in (start-of lent) [] (lines-of input) .left) (run program-room [] (lines-of input) .accepted)
+tied-lent input =
+    subst (λ (r : Room). Left-tied r (run-in (start-of lent) [] (lines-of input) .left) (run r [] (lines-of input) .accepted)) room-lent (left-tied lent long-lent input)

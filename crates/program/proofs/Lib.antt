@@ -1,4 +1,5 @@
 pub mod Answered
+pub mod Records
 pub mod Lent
 pub mod Judging
 pub mod Reading

@@ -1,6 +1,6 @@
 -- The unread bytes moved to the front, and more read behind them. Assumes nothing.
 use Prim.Native.Nat.{ℕ, _+_, _-_, _≤_}
-use mathlib.Core.Path.{_≡_, refl, sym, ap, ap₂, _∙_}
+use mathlib.Core.Path.{_≡_, refl, sym, ap, _∙_}
 use mathlib.Core.Bool.{Bool, true, false, false≢true}
 use mathlib.Core.List.{List}
 use native.Mathlib.Omega.{arith}
@@ -15,10 +15,19 @@ use Rattle.program.specs.declared.Run.{Run}
 use Rattle.program.specs.declared.streams.Streams.{Streams}
 use Rattle.program.specs.Progress.{buffer-size}
 use Rattle.program.specs.Printing.{with-read, Has-read}
-use Rattle.program.specs.Running.{at-failure, not-read, Unread, unread-in, More-read, has-read, has-failed, Passes-on, Turned, wants-more, failed}
+use Rattle.program.specs.Running.{at-failure, not-read, Unread, More-read, has-read, has-failed, Passes-on, Turned, wants-more, failed}
 
-pub more-failed : {r q : Run} {s : Streams} {b : Bool} {buf buf' : List ℕ} → q .stop ≡ at-failure → q .streams ≡ s → b ≡ s .unreadable → b ≡ true → More-read r buf q buf'
-more-failed stop is e t = has-failed stop (not-read (ap (λ (x : Streams). x .unreadable) is ∙ sym e ∙ t))
+keeps-leaks : {s q : Streams} {room : ℕ} → Has-read s room q → q .leaks ≡ s .leaks
+keeps-leaks {s} {q} h = go (h .answer) (h .after)
+  where
+    go : (z : ℤ) → q ≡ with-read s z → q .leaks ≡ s .leaks
+    go (pos n) a = ap (λ (x : Streams). x .leaks) a
+    go (negsuc n) a = ap (λ (x : Streams). x .leaks) a
+
+pub more-failed : {r q : Run} {s : Streams} {room : ℕ} {b : Bool} {buf buf' : List ℕ} → Has-read (r .streams) room s → q .stop ≡ at-failure → q .streams ≡ s → b ≡ s .unreadable → b ≡ true
+    → More-read r buf q buf'
+more-failed h stop is e t =
+    has-failed (record { stop = stop; why = not-read (ap (λ (x : Streams). x .unreadable) is ∙ sym e ∙ t); leaks = ap (λ (x : Streams). x .leaks) is ∙ keeps-leaks h })
 
 -- a read that did not fail gave so many bytes
 record Gave (s : Streams) (room : ℕ) (q : Streams) : Type 0 where
@@ -69,4 +78,4 @@ module _ {r : Run} {q : Streams} {b : Bool} {x y : ℕ} (u : Unread r) (h : Has-
 
 pub read-turned : {r w q : Run} {p : Passed} {buf buf' : List ℕ} → p .stop ≡ Stop.More → Passes-on r p w → More-read w buf q buf' → Turned r p buf q buf'
 read-turned {w = w} h on (has-read n reads) = wants-more h w on n reads
-read-turned h on (has-failed stop fails) = failed stop fails
+read-turned h on (has-failed fails) = failed (record { stop = fails .stop; why = fails .why; leaks = fails .leaks ∙ ap (λ (x : Streams). x .leaks) (on .streams) })

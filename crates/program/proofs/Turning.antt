@@ -1,5 +1,5 @@
 -- A turn: what it prints, and the run after it. Assumes nothing.
-use Prim.Native.Nat.{ℕ, _+_, _≤_}
+use Prim.Native.Nat.{ℕ, _+_}
 use mathlib.Core.Path.{_≡_, refl, sym, ap, subst, _∙_}
 use mathlib.Core.Bool.{Bool, true, false, false≢true, or-true}
 use mathlib.Core.List.{List}
@@ -10,10 +10,15 @@ use Rattle.program.specs.declared.Run.{Run}
 use Rattle.program.specs.declared.streams.Streams.{Streams}
 use Rattle.program.specs.Progress.{Few}
 use Rattle.program.specs.Printing.{Newest, with-printed, Has-printed}
-use Rattle.program.specs.Running.{Failed, not-written, Unread, Fits, Passes-on, Ends-so}
+use Rattle.program.specs.Running.{at-failure, Failed, not-read, not-written, Good, Fails, Unread, Fits, Passes-on, Ends-so}
 
-pub not-wrote : {s q : Streams} {b : Bool} → q ≡ s → b ≡ s .unwritable → b ≡ true → Failed q
-not-wrote is e t = not-written (ap (λ (x : Streams). x .unwritable) is ∙ sym e ∙ t)
+pub not-wrote : {r q : Run} {s : Streams} {n : ℕ} {b : Bool} → Has-printed (r .streams) n s → q .stop ≡ at-failure → q .streams ≡ s → b ≡ s .unwritable → b ≡ true → Fails r q
+not-wrote h stop is e t =
+    record {
+      stop = stop;
+      why = not-written (ap (λ (x : Streams). x .unwritable) is ∙ sym e ∙ t);
+      leaks = ap (λ (x : Streams). x .leaks) is ∙ ap (λ (x : Streams). x .leaks) (h .after);
+    }
 
 pub wrote : {q : Streams} {b : Bool} (s : Streams) (n : ℕ) → Has-printed s n q → b ≡ q .unwritable → b ≡ false → q ≡ with-printed s n true
 wrote {q} s n h e good = go (h .answer) (h .after)
@@ -40,3 +45,8 @@ module _ {r : Run} {p : Passed} {out : List ℕ} {s : Streams} (f : Fits r p out
 -- the streams of the run that is left are the last
 pub still-newest : {s q : Streams} {moved : ℕ} → q ≡ s → Newest s moved → Newest q moved
 still-newest {moved = moved} is n = subst (λ (x : Streams). Newest x moved) (sym is) n
+
+-- no call has failed where none has
+pub is-good : {s : Streams} → Failed s → Good s → ⊥
+is-good (not-read h) good = false≢true (sym (good .0) ∙ h)
+is-good (not-written h) good = false≢true (sym (good .1) ∙ h)

@@ -12,7 +12,6 @@ use lib.Seq.{length-take-le, take-add, drop-drop, drop-at}
 use Rattle.lines.specs.Line.{longest}
 use Rattle.history.specs.Replies.{most-lines}
 use Rattle.history.proofs.Stacks.{at-most-a-million}
-use Rattle.book.specs.Threads.{lines-in}
 use Rattle.answers.specs.Answer.{most-found}
 use Rattle.tables.specs.Tables.{Tables}
 use Rattle.tables.specs.Stepping.{start-of}
@@ -25,10 +24,11 @@ use Rattle.run.proofs.Following.{start-follows}
 use Rattle.run.proofs.Passing.{Learnt, learnt, few-bytes}
 use Rattle.program.specs.declared.Run.{Run}
 use Rattle.program.specs.declared.streams.Streams.{Streams}
-use Rattle.program.specs.Progress.{buffer-size, most-printed, lines-accepted, one-if, come-by, most-come-by}
+use Rattle.program.specs.Progress.{buffer-size, most-findings, most-leaked, Few, lines-accepted, one-if, come-by, most-come-by}
 use Rattle.program.specs.Printing.{nothing-yet, with-read, with-printed}
-use Rattle.program.specs.Running.{at-judged, Failed, unread-in, Fits, Reads, Passes-on, Ends-so, Turned, is-full, wants-more, is-refused, is-at-end, failed, last-line, Left, Finished}
-use Rattle.program.proofs.Judging.{Judged, All-judged, due, judged-more, judged-full, judged-wants, judged-refused, judged-end, last-left}
+use Rattle.program.specs.Running.{at-judged, Failed, unread-in, Fits, Reads, Passes-on, Ends-so, Turned, is-full, wants-more, is-refused, is-at-end, failed, Finished, Ends, with-last, without, Good, Leaks-left}
+use Rattle.program.proofs.Turning.{is-good}
+use Rattle.program.proofs.Judging.{Judged, All-judged, due, judged-more, judged-full, judged-wants, judged-refused, judged-end, last-due, leaks-left}
 
 -- ---- the lines accepted are those of the history
 
@@ -45,7 +45,8 @@ module _ {T : Tables} {n : ℕ} (k : Follows T n) where
 
 -- ---- a run that goes on
 
-pub record Going (T : Tables) (r : Run) (buf : List ℕ) : Type 0 where
+pub record Going (leaks : Bool) (T : Tables) (r : Run) (buf : List ℕ) : Type 0 where
+  pub asked : r .streams .leaks ≡ leaks
   pub size : length buf ≡ buffer-size
   pub goes : r .stop ≡ 0
   pub none-refused : r .refusal ≡ 0
@@ -62,10 +63,11 @@ judged-as : {T : Tables} {n m : ℕ} {s q : Streams} {b d : List ℕ} → q ≡ 
 judged-as {T} {n} {m} {s} {q} {b} {d} es en eb j =
     subst (λ (x : Streams). Judged T x m d) (sym es) (subst (λ (x : ℕ). Judged T s x d) (sym en) (subst (Judged T s n) (sym eb) j))
 
-pub going-start : {S : Tables} {r : Run} {buf : List ℕ} (T : Tables) → Long T → S ≡ start-of T → length buf ≡ buffer-size → r .from ≡ 0 → r .to ≡ 0 → r .streams ≡ nothing-yet
-    → r .findings ≡ 0 → r .refusal ≡ 0 → r .stop ≡ 0 → Judged S nothing-yet 0 [] → Going S r buf
-going-start {S} {r} {buf} T long e size from to streams findings refusal stop judged =
+pub going-start : {leaks : Bool} {S : Tables} {r : Run} {buf : List ℕ} (T : Tables) → Long T → S ≡ start-of T → length buf ≡ buffer-size → r .from ≡ 0 → r .to ≡ 0 → r .streams ≡ nothing-yet leaks
+    → r .findings ≡ 0 → r .refusal ≡ 0 → r .stop ≡ 0 → Judged S (nothing-yet leaks) 0 [] → Going leaks S r buf
+going-start {leaks} {S} {r} {buf} T long e size from to streams findings refusal stop judged =
     record {
+      asked = ap (λ (x : Streams). x .leaks) streams;
       size = size;
       goes = stop;
       none-refused = refusal;
@@ -78,8 +80,8 @@ going-start {S} {r} {buf} T long e size from to streams findings refusal stop ju
       judged = judged-as streams findings (λ i. take (to i - from i) (drop (from i) buf)) judged;
     }
 
-come-by-most : {T : Tables} {r : Run} {buf : List ℕ} → Going T r buf → come-by T r ≤ most-come-by
-come-by-most {T} {r} g = omega (arith, few-of (g .follows), g .within, one-most (r .streams .ended))
+come-by-most : {leaks : Bool} {T : Tables} {r : Run} {buf : List ℕ} → Going leaks T r buf → come-by T r ≤ most-come-by
+come-by-most {leaks} {T} {r} g = omega (arith, few-of (g .follows), g .within, one-most (r .streams .ended))
   where
     one-most : (b : Bool) → one-if b ≤ 1
     one-most true = omega arith
@@ -87,7 +89,7 @@ come-by-most {T} {r} g = omega (arith, few-of (g .follows), g .within, one-most 
 
 -- ---- the loop has passed a part of what is unread
 
-module _ {T S : Tables} {r : Run} {buf out' : List ℕ} {p : Passed} {ended : Bool} (out : List ℕ) (g : Going T r buf) (room : length out ≡ buffer-size) (kept : length out' ≡ length out)
+module _ {leaks : Bool} {T S : Tables} {r : Run} {buf out' : List ℕ} {p : Passed} {ended : Bool} (out : List ℕ) (g : Going leaks T r buf) (room : length out ≡ buffer-size) (kept : length out' ≡ length out)
     (told : ended ≡ r .streams .ended) (e : leaves p S out' ≡ piece-outcome ended T (unread-in buf r) out) where
   known : Learnt (r .streams .ended) T (unread-in buf r) out p S out'
   known = learnt kept (e ∙ ap (λ (b : Bool). piece-outcome b T (unread-in buf r) out) told)
@@ -165,7 +167,7 @@ module _ {T S : Tables} {r : Run} {buf out' : List ℕ} {p : Passed} {ended : Bo
   -- ---- the turn goes on
 
   module _ {q : Run} {buf' : List ℕ} (goes : q .stop ≡ 0) (same : length buf' ≡ length buf) where
-    after-read : p .stop ≡ Stop.More → (w : Run) → Passes-on r p w → (n : ℕ) → Reads w buf q buf' n → Going S q buf'
+    after-read : p .stop ≡ Stop.More → (w : Run) → Passes-on r p w → (n : ℕ) → Reads w buf q buf' n → Going leaks S q buf'
     after-read h w on n reads =
         let rest = w .to - w .from in
         let new = take n (drop rest buf') in
@@ -180,6 +182,7 @@ module _ {T S : Tables} {r : Run} {buf out' : List ℕ} {p : Passed} {ended : Bo
         reads .streams ∙ (λ i. with-read (on .streams i) (pos (sym long-new i)))
         in
         record {
+          asked = ap (λ (x : Streams). x .leaks) (reads .streams) ∙ ap (λ (x : Streams). x .leaks) (on .streams) ∙ g .asked;
           size = same ∙ g .size;
           goes = goes;
           none-refused = reads .refusal ∙ on .refusal ∙ g .none-refused;
@@ -193,9 +196,10 @@ module _ {T S : Tables} {r : Run} {buf out' : List ℕ} {p : Passed} {ended : Bo
               (judged-more new (before-end h) (judged-wants (g .judged) known h));
         }
 
-    pub going-on : Turned r p buf q buf' → Going S q buf'
+    pub going-on : Turned r p buf q buf' → Going leaks S q buf'
     going-on (is-full h on is) =
         record {
+          asked = ap (λ (x : Streams). x .leaks) (on .streams) ∙ g .asked;
           size = same ∙ g .size;
           goes = goes;
           none-refused = on .refusal ∙ g .none-refused;
@@ -210,7 +214,7 @@ module _ {T S : Tables} {r : Run} {buf out' : List ℕ} {p : Passed} {ended : Bo
     going-on (wants-more h w on n reads) = after-read h w on n reads
     going-on (is-refused k h ends) = absurd (omega (arith, ends .stop, goes))
     going-on (is-at-end h ends) = absurd (omega (arith, ends .stop, goes))
-    going-on (failed stop why) = absurd (omega (arith, stop, goes))
+    going-on (failed fails) = absurd (omega (arith, fails .stop, goes))
 
     more : Turned r p buf q buf' → come-by T r < come-by S q
     unfolding lines
@@ -237,40 +241,78 @@ module _ {T S : Tables} {r : Run} {buf out' : List ℕ} {p : Passed} {ended : Bo
         go (suc m) z = omega (arith, covered, accepted, taken-within, on .from, on .to, reads .from, reads .to, z, ap one-if (before-end h))
     more (is-refused k h ends) = absurd (omega (arith, ends .stop, goes))
     more (is-at-end h ends) = absurd (omega (arith, ends .stop, goes))
-    more (failed stop why) = absurd (omega (arith, stop, goes))
+    more (failed fails) = absurd (omega (arith, fails .stop, goes))
 
     pub fewer-left : Turned r p buf q buf' → most-come-by - come-by S q < most-come-by - come-by T r
     fewer-left t = omega (arith, more t, come-by-most (going-on t))
 
   -- ---- or it is the last
 
-  pub finished : {q : Run} {buf' : List ℕ} → (q .stop ≡ 0 → ⊥) → Turned r p buf q buf' → Finished (S .book) q
-  finished {q} {buf'} stops t = record { few-lines = few-in-book; ends = ends t; fails = fails t }
-    where
-      few-in-book : lines-in (S .book) ≤ most-lines
-      few-in-book = omega (arith, few-of following, following .count, following .tied .tables .lines)
+  module _ {q : Run} {buf' : List ℕ} (stops : q .stop ≡ 0 → ⊥) (t : Turned r p buf q buf') where
+    -- all is judged, and the last line and the leaks can be counted
+    record Done : Type 0 where
+      judged : All-judged S (q .streams) (q .findings) (q .refusal)
+      findings : q .findings ≤ most-findings
+      streams : Few (q .streams) (buffer-size + most-leaked)
 
-      all-but-last : (k : ℕ) → Ends-so r p k q → All-judged S (with-printed (r .streams) (p .put) true) (r .findings + p .findings) k → Left q (last-line (S .book) q)
-      all-but-last k so all =
-          record {
-            few-findings = omega (arith, so .findings, few-found, few-lines);
-            streams = record { read = omega (arith, ap (λ (x : Streams). x .read) (so .streams), g .read, few-lines, accepted, g .within); printed = omega (arith, printed-then (so .streams), few-lines) };
-            last = last-left
-                (subst (λ (s : Streams). All-judged S s (q .findings) (q .refusal)) (sym (so .streams))
-                (subst (λ (n : ℕ). All-judged S (with-printed (r .streams) (p .put) true) n (q .refusal)) (sym (so .findings))
-                (subst (All-judged S (with-printed (r .streams) (p .put) true) (r .findings + p .findings)) (sym (so .refusal)) all)));
-          }
+    done-so : (k : ℕ) → Ends-so r p k q → All-judged S (with-printed (r .streams) (p .put) true) (r .findings + p .findings) k → Done
+    done-so k so all =
+        record {
+          judged =
+              subst (λ (s : Streams). All-judged S s (q .findings) (q .refusal)) (sym (so .streams))
+              (subst (λ (n : ℕ). All-judged S (with-printed (r .streams) (p .put) true) n (q .refusal)) (sym (so .findings))
+              (subst (All-judged S (with-printed (r .streams) (p .put) true) (r .findings + p .findings)) (sym (so .refusal)) all));
+          findings = omega (arith, so .findings, few-found, few-lines);
+          streams = record { read = omega (arith, ap (λ (x : Streams). x .read) (so .streams), g .read, few-lines, accepted, g .within); printed = omega (arith, printed-then (so .streams), few-lines) };
+        }
 
-      ends : Turned r p buf q buf' → q .stop ≡ at-judged → Left q (last-line (S .book) q)
-      ends (is-full h on is) one = absurd (stops (on .stop))
-      ends (wants-more h w on n reads) one = absurd (stops (reads .stop ∙ on .stop))
-      ends (is-refused k h so) one = all-but-last k so (judged-refused (g .judged) known k h)
-      ends (is-at-end h so) one = all-but-last (r .refusal) so (subst (All-judged S (with-printed (r .streams) (p .put) true) (r .findings + p .findings)) (sym (g .none-refused)) (judged-end (g .judged) known h))
-      ends (failed stop why) one = absurd (omega (arith, stop, one))
+    done : q .stop ≡ at-judged → Done
+    done one = go t
+      where
+        go : Turned r p buf q buf' → Done
+        go (is-full h on is) = absurd (stops (on .stop))
+        go (wants-more h w on n reads) = absurd (stops (reads .stop ∙ on .stop))
+        go (is-refused k h so) = done-so k so (judged-refused (g .judged) known k h)
+        go (is-at-end h so) = done-so (r .refusal) so (subst (All-judged S (with-printed (r .streams) (p .put) true) (r .findings + p .findings)) (sym (g .none-refused)) (judged-end (g .judged) known h))
+        go (failed fails) = absurd (omega (arith, fails .stop, one))
 
-      fails : Turned r p buf q buf' → (q .stop ≡ at-judged → ⊥) → Failed (q .streams)
-      fails (is-full h on is) not = absurd (stops (on .stop))
-      fails (wants-more h w on n reads) not = absurd (stops (reads .stop ∙ on .stop))
-      fails (is-refused k h so) not = absurd (not (so .stop))
-      fails (is-at-end h so) not = absurd (not (so .stop))
-      fails (failed stop why) not = why
+    pub finished : Finished (S .book) q
+    finished =
+        record {
+          lines = omega (arith, few-of following, following .count, following .tied .tables .lines);
+          last = λ one.
+              let d = done one in
+              record { findings = d .findings; streams = record { read = d .streams .read; printed = omega (arith, d .streams .printed) }; due = last-due (d .judged) };
+        }
+
+    pub still-asked : {s : Streams} → Ends (S .book) q s → s .leaks ≡ leaks
+    still-asked {s} e = of-end e ∙ of-turn t
+      where
+        of-end : Ends (S .book) q s → s .leaks ≡ q .streams .leaks
+        of-end (with-last one short h) = ap (λ (x : Streams). x .leaks) (h .after)
+        of-end (without not is) = ap (λ (x : Streams). x .leaks) is
+
+        of-turn : Turned r p buf q buf' → q .streams .leaks ≡ leaks
+        of-turn (is-full h on is) = ap (λ (x : Streams). x .leaks) (on .streams) ∙ g .asked
+        of-turn (wants-more h w on n reads) = ap (λ (x : Streams). x .leaks) (reads .streams) ∙ ap (λ (x : Streams). x .leaks) (on .streams) ∙ g .asked
+        of-turn (is-refused k h so) = ap (λ (x : Streams). x .leaks) (so .streams) ∙ g .asked
+        of-turn (is-at-end h so) = ap (λ (x : Streams). x .leaks) (so .streams) ∙ g .asked
+        of-turn (failed fails) = fails .leaks ∙ g .asked
+
+    pub leaks-then : {s : Streams} → Ends (S .book) q s → Leaks-left s S
+    unfolding Leaks-left
+    leaks-then (with-last one short h) =
+        let d = done one in
+        leaks-left (d .judged) h
+        (record {
+          read = omega (arith, ap (λ (x : Streams). x .read) (h .after), d .streams .read);
+          printed = omega (arith, ap (λ (x : Streams). x .printed) (h .after), d .streams .printed, short);
+        })
+    leaks-then {s} (without not is) = λ ns size good. absurd (is-good (go t) (subst Good is good))
+      where
+        go : Turned r p buf q buf' → Failed (q .streams)
+        go (is-full h on is) = absurd (stops (on .stop))
+        go (wants-more h w on n reads) = absurd (stops (reads .stop ∙ on .stop))
+        go (is-refused k h so) = absurd (not (so .stop))
+        go (is-at-end h so) = absurd (not (so .stop))
+        go (failed fails) = fails .why

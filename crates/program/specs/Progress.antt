@@ -4,8 +4,10 @@ use Prim.Native.Nat.{ℕ, suc, _+_, _*_, _-_, _≤_}
 use mathlib.Core.Bool.{Bool, true, false}
 use Rattle.lines.specs.Line.{longest}
 use Rattle.history.specs.Replies.{most-lines}
+use Rattle.history.specs.Runs.{program-room}
 use Rattle.book.specs.Threads.{lines-in}
 use Rattle.answers.specs.Answer.{most-found}
+use Rattle.report.specs.Shown.{longest-leak}
 use Rattle.tables.specs.Tables.{Tables}
 use Rattle.program.specs.declared.Run.{Run}
 use Rattle.program.specs.declared.streams.Streams.{Streams}
@@ -20,9 +22,16 @@ most-findings = most-found * most-lines
 abbrev pub most-read : ℕ
 most-read = suc longest * most-lines + buffer-size
 
--- a buffer for the findings of each accepted line, and one for the last line
+-- each row holds one
+abbrev pub most-leaks : ℕ
+most-leaks = program-room .references + program-room .pins
+
+abbrev pub most-leaked : ℕ
+most-leaked = longest-leak * most-leaks
+
+-- a buffer for the findings of each accepted line, one for the last line, and the leaks
 abbrev pub most-printed : ℕ
-most-printed = buffer-size * suc most-lines
+most-printed = buffer-size * suc most-lines + most-leaked
 
 -- with n bytes more to be printed
 pub record Few (s : Streams) (n : ℕ) : Type 0 where

@@ -1,7 +1,10 @@
-// The judge program: reads a trace from standard input, judges what each read brought, and prints the report on standard output as it goes.
-// What it needs does not grow with the trace.
+// The judge program: reads a trace from standard input, judges what each read brought, and prints the report on standard output as it goes, and the leaks behind it where
+// it is asked for them. What it needs does not grow with the trace.
+mod arguments; // arguments.rt: what the program is asked for
+mod listing; // listing.rt: the leaks
 mod streams; // streams.rt: standard input and standard output
 
+use arguments::Asked;
 use libc::STDERR_FILENO;
 use libc::STDIN_FILENO;
 use libc::STDOUT_FILENO;
@@ -9,14 +12,16 @@ use run::Passed;
 use run::Stop;
 use streams::Streams;
 ghost use mathlib.Core.Path.{_≡_};
-ghost use Prim.Native.Nat.{_-_, _≤_, _<_};
+ghost use Prim.Native.Nat.{_*_, _-_, _≤_, _<_};
 ghost use lib.ListN.{length, take};
 ghost use Rattle.numbers.specs.Writing.{put};
 ghost use Rattle.history.specs.Replies.{most-lines};
-ghost use Rattle.book.specs.Threads.{lines-in};
+ghost use Rattle.book.specs.Threads.{lines-in, closed-in};
+ghost use Rattle.report.specs.Shown.{longest-leak};
+ghost use Rattle.tables.specs.Tables.{tables};
 ghost use Rattle.program.specs.Printing.{Newest, Due, Has-read, Has-printed, Reported};
 ghost use Rattle.program.specs.Progress.{buffer-size, most-findings, Few};
-ghost use Rattle.program.specs.Running.{Unread, More-read, Fits, Turned, last-line, Finished};
+ghost use Rattle.program.specs.Running.{Unread, More-read, Fits, Turned, last-line, Finished, Ends, Good, Records-left, Leaks-left};
 
 // The program lends so many reference and pin rows.
 const REFERENCE_ROWS: usize = 2048;
@@ -33,8 +38,14 @@ const PIN_MARKS: usize = PIN_ROWS / rows::WORD;
 
 const BOOK_NUMBERS: usize = book::WHOLE;
 
-// What is read stands in a buffer of this size, and so do the findings to be written.
+// So many numbers of records are lent to the list of the leaks, a record for each row.
+const LEAK_NUMBERS: usize = (REFERENCE_ROWS + PIN_ROWS) * leaks::NUMBERS;
+
+// What is read stands in a buffer of this size, and so do the findings and the leaks to be written.
 const BUFFER: usize = 65536;
+
+// So many leaks fit it, however long they are.
+const PIECE: usize = BUFFER / report::LONGEST_LEAK;
 
 // Why a run stops: a line was refused or the input is at its end, or a call failed.
 const JUDGED: u8 = 1;
@@ -142,7 +153,7 @@ fn finish(
     out: &mut [u8; BUFFER],
 ) -> Streams
     requires { ⌜ Finished (now book) run × Newest (run .streams) (now moved) ⌝ }
-    ensures { λ q. ⌜ Reported q ⌝ }
+    ensures { λ q. ⌜ Ends (now (book .entry)) run q × Newest q (now (moved .exit)) ⌝ }
 {
     let streams = run.streams;
     if run.stop != JUDGED {
@@ -152,8 +163,66 @@ fn finish(
     print(streams, moved, out, n)
 }
 
-// Judges the input until a line is refused, it is at its end or a call fails, and prints the report. On an input without end it stops too: see specs/Progress.antt.
+// The records that fit the buffer go from `from` up to here.
+fn piece_end(from: usize, count: usize) -> usize
+    requires { ⌜ from < count ⌝ }
+    ensures { λ to. ⌜ (from < to) × (to ≤ count) × (longest-leak * (to - from) ≤ buffer-size) ⌝ }
+{
+    if count - from < PIECE {
+        return count;
+    }
+    from + PIECE
+}
+
+// Prints the first `count` records, a buffer of them after another. Where a call failed none follow.
+fn print_leaks(
+    before: Streams,
+    moved: &mut usize,
+    records: &[u32; LEAK_NUMBERS],
+    count: usize,
+    out: &mut [u8; BUFFER],
+) -> Streams
+    requires { ⌜ Newest before (now moved) × (Good before → Records-left before (now records) 0 count) ⌝ }
+    ensures { λ q. ⌜ (q .leaks ≡ before .leaks) × Reported q ⌝ }
+{
+    let mut streams = before;
+    let mut done = 0;
+    while done < count {
+        if streams::has_failed(streams) {
+            return streams;
+        }
+        let to = piece_end(done, count);
+        let n = listing::put_records(out, records, done, to);
+        streams = print(streams, moved, out, n);
+        done = to;
+    }
+    streams
+}
+
+// The leaks behind the last line.
+fn add_leaks(
+    streams: Streams,
+    moved: &mut usize,
+    rows: &[u32; REFERENCE_NUMBERS],
+    marks: &[u64; REFERENCE_MARKS],
+    pins: &[u32; PIN_NUMBERS],
+    pinmarks: &[u64; PIN_MARKS],
+    book: &[u64; BOOK_NUMBERS],
+    out: &mut [u8; BUFFER],
+) -> Streams
+    requires { ⌜ Newest streams (now moved) × Leaks-left streams (tables (now rows) (now marks) (now pins) (now pinmarks) (now book)) ⌝ }
+    ensures { λ q. ⌜ (q .leaks ≡ streams .leaks) × Reported q ⌝ }
+{
+    let mut records = [0; LEAK_NUMBERS];
+    let asked = streams::with_leaks(streams);
+    let count = listing::list(asked, rows, marks, pins, pinmarks, book, &mut records);
+    print_leaks(streams, moved, &records, count, out)
+}
+
+// Judges the input until a line is refused, it is at its end or a call fails, and prints the report, and the leaks behind it where they are asked for. On an input without end it stops too: see
+// specs/Progress.antt.
 fn judge_all(
+    leaks: bool,
     buf: &mut [u8],
     rows: &mut [u32; REFERENCE_NUMBERS],
     marks: &mut [u64; REFERENCE_MARKS],
@@ -163,14 +232,14 @@ fn judge_all(
     out: &mut [u8; BUFFER],
 ) -> Streams
     requires { ⌜ length (now buf) ≡ buffer-size ⌝ }
-    ensures { λ q. ⌜ Reported q ⌝ }
+    ensures { λ q. ⌜ (q .leaks ≡ leaks) × Reported q ⌝ }
 {
     judge::start(rows, marks, pins, pinmarks, book);
     let mut moved = 0;
     let mut so_far = Run {
         from: 0,
         to: 0,
-        streams: streams::untouched(),
+        streams: streams::untouched(leaks),
         findings: 0,
         refusal: 0,
         stop: 0,
@@ -191,12 +260,23 @@ fn judge_all(
         );
         so_far = turned(so_far, passed, &mut moved, buf, out);
         if so_far.stop != 0 {
-            return finish(so_far, &mut moved, book, out);
+            let finished = finish(so_far, &mut moved, book, out);
+            return add_leaks(finished, &mut moved, rows, marks, pins, pinmarks, book, out);
         }
     }
 }
 
-fn main() {
+// Whether Z was accepted.
+fn is_closed(book: &[u64; BOOK_NUMBERS]) -> bool
+    ensures { λ r. ⌜ r ≡ closed-in (now (book .entry)) ⌝ }
+{
+    book::is_closed(book)
+}
+
+// Judges standard input, and says on standard error what its report cannot say.
+fn judge_input(leaks: bool) -> Streams
+    ensures { λ q. ⌜ (q .leaks ≡ leaks) × Reported q ⌝ }
+{
     let mut buf = io::large_buffer();
     let mut out = io::large_buffer();
     let mut rows = [0; REFERENCE_NUMBERS];
@@ -205,6 +285,7 @@ fn main() {
     let mut pinmarks = [0; PIN_MARKS];
     let mut book = [0; BOOK_NUMBERS];
     let ended = judge_all(
+        leaks,
         &mut buf,
         &mut rows,
         &mut marks,
@@ -215,5 +296,31 @@ fn main() {
     );
     if streams::is_unreadable(ended) {
         io::write_all(STDERR_FILENO, b"judge: the input could not be read\n");
+        return ended;
+    }
+    if leaks & !streams::has_failed(ended) & !is_closed(&book) {
+        io::write_all(
+            STDERR_FILENO,
+            b"judge: the trace has no end (no Z), so no leaks are listed\n",
+        );
+    }
+    ended
+}
+
+fn main() {
+    let asked = arguments::asked_for();
+    match asked {
+        Asked::Report => {
+            judge_input(false);
+        }
+        Asked::ReportAndLeaks => {
+            judge_input(true);
+        }
+        Asked::Another => {
+            io::write_all(
+                STDERR_FILENO,
+                b"judge: the program takes --leaks or no argument, and a trace on standard input\n",
+            );
+        }
     }
 }

@@ -1,14 +1,16 @@
 // Standard input and standard output: how much has gone through them. The numbers of `Streams` are changed here alone, by calls of `read` and `write`; `moved`, a sum of them
 // that is kept apart, shuts out `Streams` of before the last call.
 ghost use mathlib.Core.Path.{_≡_};
+ghost use mathlib.Core.Bool.{_||_};
 ghost use Prim.Native.Nat.{_≤_, _<_};
 ghost use lib.ListN.{length};
 ghost use Rattle.libc.specs.Io.{Moved};
 ghost use Rattle.program.specs.Progress.{buffer-size, Few};
 ghost use Rattle.program.specs.Printing.{standard-input, standard-output, nothing-yet, Newest, Due, with-read, Has-read, with-printed, Has-printed};
 
-// How many bytes were read, whether the input has ended behind them, whether a read failed, how many bytes were printed and whether a write failed.
+// Whether the leaks are printed behind the report; how many bytes were read, whether the input has ended behind them, whether a read failed, how many bytes were printed and whether a write failed.
 pub(crate) struct Streams {
+    leaks: bool,
     read: usize,
     ended: bool,
     unreadable: bool,
@@ -17,16 +19,23 @@ pub(crate) struct Streams {
 }
 
 // Nothing has gone through them.
-pub(crate) fn untouched() -> Streams
-    ensures { λ q. ⌜ q ≡ nothing-yet ⌝ }
+pub(crate) fn untouched(leaks: bool) -> Streams
+    ensures { λ q. ⌜ q ≡ nothing-yet leaks ⌝ }
 {
     Streams {
+        leaks,
         read: 0,
         ended: false,
         unreadable: false,
         printed: 0,
         unwritable: false,
     }
+}
+
+pub(crate) fn with_leaks(streams: Streams) -> bool
+    ensures { λ r. ⌜ r ≡ streams .leaks ⌝ }
+{
+    streams.leaks
 }
 
 pub(crate) fn bytes_read(streams: Streams) -> usize
@@ -51,6 +60,12 @@ pub(crate) fn is_unwritable(streams: Streams) -> bool
     ensures { λ r. ⌜ r ≡ streams .unwritable ⌝ }
 {
     streams.unwritable
+}
+
+pub(crate) fn has_failed(streams: Streams) -> bool
+    ensures { λ r. ⌜ r ≡ streams .unreadable || streams .unwritable ⌝ }
+{
+    streams.unreadable | streams.unwritable
 }
 
 // After a read that answered so. The input has ended where it gave nothing.
@@ -91,7 +106,7 @@ fn after_write(streams: Streams, n: usize, written: bool) -> Streams
     next
 }
 
-// Hands bytes over to standard output: those of the report that come next.
+// Hands bytes over to standard output: those that come next.
 pub(crate) fn hand_over(streams: Streams, moved: &mut usize, file: i32, bytes: &[u8]) -> Streams
     requires { ⌜ (file ≡ standard-output) × Newest streams (now moved) × Due streams (now bytes) × Few streams (length (now bytes)) ⌝ }
     ensures { λ q. ⌜ Has-printed streams (length (now (bytes .entry))) q × Newest q (now (moved .exit)) ⌝ }

@@ -17,7 +17,8 @@ read-more-spec =
     (λ c κs. search needs)
     (λ c. search needs)
     (λ c. let s = c .stopped .ensures in
-    (more-failed (s .0) (s .1) (c .before .before .is-unreadable .ensures) (c .before .if1 .taken), still-newest (s .1) (c .before .before .before .before .before .read-behind .ensures .1)))
+    let got = c .before .before .before .before .before .read-behind .ensures in
+    (more-failed (got .0) (s .0) (s .1) (c .before .before .is-unreadable .ensures) (c .before .if1 .taken), still-newest (s .1) (got .1)))
     (λ c κs. search needs)
     (λ c κs. search needs)
     (λ c. let at-if = c .before .before in

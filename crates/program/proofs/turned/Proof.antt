@@ -17,7 +17,8 @@ turned-spec =
     (λ c κs. search needs)
     (λ c κs. search needs)
     (λ c. let s = c .stopped .ensures in
-    (failed (s .0) (not-wrote (s .1) (c .before .before .is-unwritable .ensures) (c .before .if1 .taken)), still-newest (s .1) (c .before .before .before .before .before .before .before .print .ensures .1)))
+    let wrote-so = c .before .before .before .before .before .before .before .print .ensures in
+    (failed (not-wrote (wrote-so .0) (s .0) (s .1) (c .before .before .is-unwritable .ensures) (c .before .if1 .taken)), still-newest (s .1) (wrote-so .1)))
     (λ c. search needs)
     (λ c κs. search needs)
     (λ c. search needs)
