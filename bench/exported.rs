@@ -48,6 +48,20 @@ extern "C" {
         out: *mut u8,
         out_length: usize,
     ) -> usize;
+    fn weir_leaks(
+        rows: *const Number,
+        rows_length: usize,
+        marks: *const Word,
+        marks_length: usize,
+        pins: *const Number,
+        pins_length: usize,
+        pin_marks: *const Word,
+        pin_marks_length: usize,
+        book: *const Word,
+        book_length: usize,
+        leaks: *mut Number,
+        leaks_length: usize,
+    ) -> i32;
 }
 
 pub fn start(lent: Lent) {
@@ -108,6 +122,26 @@ pub fn judge(trace: &[u8], lent: Lent, out: &mut [u8]) -> usize {
             lent.book.len(),
             out.as_mut_ptr(),
             out.len(),
+        )
+    }
+}
+
+pub fn leaks(lent: Lent, leaks: &mut [Number]) -> i32 {
+    // SAFETY: each pointer is that of a slice of the length that follows it.
+    unsafe {
+        weir_leaks(
+            lent.rows.as_ptr(),
+            lent.rows.len(),
+            lent.marks.as_ptr(),
+            lent.marks.len(),
+            lent.pins.as_ptr(),
+            lent.pins.len(),
+            lent.pin_marks.as_ptr(),
+            lent.pin_marks.len(),
+            lent.book.as_ptr(),
+            lent.book.len(),
+            leaks.as_mut_ptr(),
+            leaks.len(),
         )
     }
 }

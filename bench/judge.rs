@@ -1,8 +1,10 @@
 //! Holds the proved step to the plain judge's on every line of the given traces, then times both over the rows that the program lends.
 
-#[allow(dead_code)] // a whole trace is judged by tests/foreign.rs alone
+mod clock;
+#[allow(dead_code)] // whole traces and leak lists are not timed here
 mod exported;
 
+use clock::{median, time};
 use plain::judge::Judge;
 use plain::lent::reply::{reply, MOST_NUMBERS};
 use plain::lent::slices::Slices;
@@ -13,10 +15,6 @@ use std::process::ExitCode;
 
 /// The judges take turns after so many lines.
 const TURN: usize = 10_000;
-
-extern "C" {
-    fn clock_gettime(clock: i32, time: *mut Time) -> i32;
-}
 
 fn main() -> ExitCode {
     let arguments: Vec<String> = std::env::args().skip(1).collect();
@@ -107,11 +105,6 @@ fn times(lines: &[&[u8]], rounds: usize) -> (f64, f64) {
     (median(taken.0), median(taken.1))
 }
 
-fn median(mut numbers: Vec<f64>) -> f64 {
-    numbers.sort_by(f64::total_cmp);
-    numbers[numbers.len() / 2]
-}
-
 /// The proved judge and its tables.
 struct Proved {
     slices: Slices,
@@ -131,29 +124,4 @@ impl Proved {
     fn step(&mut self, line: &[u8]) -> i32 {
         exported::step(line, self.slices.lend(), &mut self.found)
     }
-}
-
-/// What `clock_gettime` writes on a 64-bit Linux.
-#[repr(C)]
-struct Time {
-    seconds: i64,
-    nanoseconds: i64,
-}
-
-/// The processor time that this thread has taken, in nanoseconds.
-fn taken() -> f64 {
-    const CLOCK_THREAD_CPUTIME_ID: i32 = 3;
-    let mut time = Time {
-        seconds: 0,
-        nanoseconds: 0,
-    };
-    // SAFETY: the function writes one time where it is told to.
-    unsafe { clock_gettime(CLOCK_THREAD_CPUTIME_ID, &mut time) };
-    time.seconds as f64 * 1e9 + time.nanoseconds as f64
-}
-
-fn time(turn: impl FnOnce()) -> f64 {
-    let start = taken();
-    turn();
-    taken() - start
 }

@@ -1,12 +1,12 @@
-//! Holds the proved judge to the plain one over foreign tables: each reply, the findings, the reports of whole traces, every number of every slice and those around it.
+//! Holds the proved judge to the plain one over foreign tables: each reply, the findings, the reports of whole traces, the leak lists, every number of every slice and those around it.
 
 #[path = "../bench/exported.rs"]
 mod exported;
 
 use plain::coverage::Coverage;
-use plain::foreign::{self, is_over, line, Foreign};
-use plain::lent::book::WHOLE;
-use plain::lent::reply::{reply, MOST_NUMBERS, SHORT_FOUND};
+use plain::foreign::{self, a_z, is_over, line, of_list, Foreign};
+use plain::lent::book::{CLOSED, WHOLE};
+use plain::lent::reply::{list_reply, reply, MOST_NUMBERS, SHORT_FOUND};
 use plain::lent::slices::Slices;
 use plain::limits::{Number, Word, MOST_ROOM};
 use plain::make::{make, PROFILES};
@@ -24,6 +24,8 @@ const GUARD: usize = 300;
 /// The most steps of a case, and of one with a great room.
 const STEPS: usize = 24;
 const GREAT_STEPS: usize = 8;
+/// The leak lists that are asked for after the steps of a case, each in a slice of another length.
+const LISTS: usize = 3;
 /// The lines of a long trace, and a report's bytes beyond which its findings are copied in more pieces than one.
 const LONG_TRACE: usize = 4_000;
 const LONG_REPORT: usize = 4_096;
@@ -39,7 +41,7 @@ struct Wish {
 
 /// What came up.
 struct Seen {
-    steps: Coverage,
+    steps_and_lists: Coverage,
     /// Steps not taken, as there was no room for the most findings of a line.
     short_found: u64,
     /// Whole traces: their reports written, the long ones among them, slices short for them, and books short.
@@ -52,7 +54,7 @@ struct Seen {
 impl Seen {
     fn new() -> Seen {
         Seen {
-            steps: Coverage::of_foreign(),
+            steps_and_lists: Coverage::of_foreign(),
             short_found: 0,
             reports: 0,
             long_reports: 0,
@@ -69,13 +71,14 @@ impl Seen {
             self.short_slices,
             self.short_books,
         ];
-        self.steps.is_whole() && !told.contains(&0)
+        self.steps_and_lists.is_whole() && !told.contains(&0)
     }
 }
 
 impl Display for Seen {
     fn fmt(&self, out: &mut Formatter) -> fmt::Result {
-        write!(out, "{}; short found: {}", self.steps, self.short_found)?;
+        write!(out, "{}", self.steps_and_lists)?;
+        write!(out, "; short found: {}", self.short_found)?;
         write!(out, "; whole traces: reports {}", self.reports)?;
         write!(out, " (long {})", self.long_reports)?;
         write!(out, ", short slices {}", self.short_slices)?;
@@ -137,7 +140,7 @@ fn wish(arguments: &[String]) -> Option<Wish> {
     })
 }
 
-/// Both judges take the same steps over tables of their own, from the same numbers; what first differs.
+/// Both judges take the same steps over tables of their own, from the same numbers, and list the leaks of what is left; what first differs.
 fn compare(seed: u64, seen: &mut Seen) -> Result<(), String> {
     let mut random = Random::new(seed);
     let Foreign {
@@ -158,15 +161,24 @@ fn compare(seed: u64, seen: &mut Seen) -> Result<(), String> {
         book: Guarded::new(slices.book, &mut random),
     };
     let mut proved = plain.clone();
-    for number in 1..=1 + random.below(most) {
+    let steps = if random.percent(20) {
+        0
+    } else {
+        1 + random.below(most)
+    };
+    for number in 1..=steps {
         let (told, same) = if random.percent(4) {
             plain.start();
             exported::start(proved.lend());
-            seen.steps.add_start();
+            seen.steps_and_lists.add_start();
             ("a start".to_string(), Ok(()))
         } else if random.percent(3) {
-            let same = compare_reports(&mut plain, &mut proved, seen, &mut random);
+            let same = compare_reports(&mut plain, &mut proved, seen, &mut random)
+                .and_then(|()| compare_lists(&mut plain, &mut proved, seen, &mut random));
             ("a whole trace".to_string(), same)
+        } else if random.percent(5) {
+            let same = compare_lists(&mut plain, &mut proved, seen, &mut random);
+            ("a leak list".to_string(), same)
         } else {
             let line = line(&plain.tables(), &mut lines, &mut random);
             let same = compare_replies(&mut plain, &mut proved, &line, seen, &mut random);
@@ -177,6 +189,19 @@ fn compare(seed: u64, seen: &mut Seen) -> Result<(), String> {
         if is_over(&plain.tables()) && random.percent(40) {
             break;
         }
+    }
+    if random.percent(70) {
+        let closed = a_z(&mut random);
+        for tables in [&mut plain, &mut proved] {
+            if let Some(number) = tables.book.get_mut(CLOSED) {
+                *number = closed;
+            }
+        }
+    }
+    for _ in 0..LISTS {
+        compare_lists(&mut plain, &mut proved, seen, &mut random)
+            .and_then(|()| compare_slices(&proved, &plain))
+            .map_err(|what| format!("tables {profile}, a leak list after {steps} steps: {what}"))?;
     }
     Ok(())
 }
@@ -198,7 +223,7 @@ fn compare_replies(
     let mut found = wanted_found.clone();
     let step = || {
         let stepped = plain.step(line);
-        seen.steps.add(&plain.tables(), line, &stepped);
+        seen.steps_and_lists.add(&plain.tables(), line, &stepped);
         stepped
     };
     let wanted = reply(step, &mut wanted_found);
@@ -263,6 +288,31 @@ fn compare_reports(
     }
     out.compare("out", &wanted_out)?;
     trace.compare("trace", &wanted_trace)
+}
+
+/// Both list the leaks of the tables; the proved list is held to the plain one, and the numbers behind it, or all where it is refused, to what was there.
+fn compare_lists(
+    plain: &mut Tables,
+    proved: &mut Tables,
+    seen: &mut Seen,
+    random: &mut Random,
+) -> Result<(), String> {
+    let leaks = plain.tables().leaks();
+    let length = of_list(random, leaks.as_ref().map_or(0, Vec::len));
+    let any = (0..length).map(|_| random.number() as Number).collect();
+    let mut wanted_list = Guarded::new(any, random);
+    let mut list = wanted_list.clone();
+    let listed = plain.list_leaks(&mut wanted_list);
+    seen.steps_and_lists.add_list(&listed.and(leaks));
+    let wanted = list_reply(listed);
+    let given = exported::leaks(proved.lend(), &mut list);
+    if given != wanted {
+        let length = list.len();
+        return Err(format!(
+            "the reply to a list of {length} numbers is {given}, not {wanted}"
+        ));
+    }
+    list.compare("list", &wanted_list)
 }
 
 /// A line as it is told, cut if it is very long.

@@ -6,8 +6,10 @@ it is left unchanged.
 import os, pathlib, re, shutil, subprocess, tempfile
 
 ROOT = pathlib.Path(__file__).resolve().parent.parent
-DEFINITIONS = ['words', 'facts', 'numbers', 'lines', 'history']
-TYPE = re.compile(r'^use words::Handle;\n|^pub type [^\n]*\n|^(?:pub )?(?:enum|struct) .*?^}\n', re.M | re.S)
+HISTORY = ['words', 'facts', 'numbers', 'lines', 'history']
+DEFINITIONS = HISTORY + ['rows', 'book', 'tables', 'demands']
+TYPE = re.compile(r'^pub type [^\n]*\n|^(?:pub(?:\(crate\))? )?(?:enum|struct) .*?^}\n', re.M | re.S)
+USE = re.compile(r'^use ([\w:]+)::(?:(\w+)|\{([^}]*)\});$', re.M)
 
 
 class Stopped(Exception):
@@ -15,9 +17,9 @@ class Stopped(Exception):
 
 
 class Repository:
-    """Crates with their proofs, those of the definitions or others."""
+    """Crates with their proofs."""
 
-    def __init__(self, crates=DEFINITIONS):
+    def __init__(self, crates):
         self.folder = pathlib.Path(tempfile.mkdtemp(prefix='scratch.'))
         self.crates = self.folder / 'crates'
         for name in crates:
@@ -52,11 +54,19 @@ class Repository:
         shutil.rmtree(self.folder)
 
 
+def types_of(text):
+    """The types of a file of code, and the types of others that they name."""
+    types = TYPE.findall(text)
+    named = set(re.findall(r'\b[A-Z]\w*', ' '.join(types)))
+    uses = ((path, name.strip()) for path, one, some in USE.findall(text) for name in (one or some).split(','))
+    return ['use %s::%s;\n' % use for use in uses if use[1] in named] + types
+
+
 class Definitions(Repository):
     """The definitions and the types that they name, without functions and proofs, and an empty crate that sees them all."""
 
     def __init__(self, crate):
-        super().__init__()
+        super().__init__(DEFINITIONS)
         (self.crates / crate / 'src').mkdir(parents=True)
         (self.crates / crate / 'src' / 'lib.rt').write_text('// There is no code here.\n')
         self.list.append(crate + ': ' + ' '.join(DEFINITIONS))
@@ -65,7 +75,7 @@ class Definitions(Repository):
     def copy(self, name):
         shutil.copytree(ROOT / 'crates' / name / 'specs', self.crates / name / 'specs')
         (self.crates / name / 'src').mkdir()
-        types = {f.stem: TYPE.findall(f.read_text()) for f in sorted((ROOT / 'crates' / name / 'src').glob('*.rt'))}
+        types = {f.stem: types_of(f.read_text()) for f in sorted((ROOT / 'crates' / name / 'src').glob('*.rt'))}
         modules = [module for module in types if types[module] and module != 'lib']
         types['lib'] += ['pub mod %s;\n' % module for module in modules]
         for module in ['lib'] + modules:

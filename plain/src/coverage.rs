@@ -1,11 +1,12 @@
 //! What a set of steps brings up: lines accepted, functions called, numbers in unused places, each refusal by its cause, each
-//! rule by line letter and place.
+//! rule by line letter and place; and what leak lists bring up: each rule by the kind of leak, refusals, what orders two leaks.
 
 use crate::facts::*;
 use crate::findings::Findings;
 use crate::form::{form, with_fields, Form, FORMS};
 use crate::judge::Judge;
 use crate::lent::book::{Fault, Top};
+use crate::lent::leaks::Leak;
 use crate::lent::Tables;
 use crate::limits::{Handle, Word, MOST_BYTES, MOST_FRAMES, MOST_ITEMS, THREADS};
 use crate::line::{self, Event};
@@ -84,6 +85,20 @@ const BREACHES: [(u8, u8, &str); 26] = [
     (11, 3, "C"),
 ];
 
+/// The rules and kinds of leaks from a start.
+const LEAKS: [(u8, &str); 4] = [
+    (8, "ordinary"),
+    (8, "critical"),
+    (10, "global"),
+    (10, "weak"),
+];
+
+/// The kind of a leak over foreign tables alone: a row of thread 0 whose handle is neither.
+const FOREIGN_LEAK: (u8, &str) = (10, "neither");
+
+/// What tells two leaks that follow each other apart in their order; from a start it is the line.
+const ORDERS: [&str; 3] = ["line", "rule", "row"];
+
 #[derive(Clone, Copy, Debug, PartialEq, Eq, PartialOrd, Ord)]
 enum What {
     Start,
@@ -96,6 +111,12 @@ enum What {
     Refused(Refusal, &'static str),
     /// A rule, a place and a line letter.
     Found(u8, u8, &'static str),
+    /// A leak list without any leak.
+    NoLeak,
+    /// A rule and a kind of leak.
+    Leaked(u8, &'static str),
+    Ordered(&'static str),
+    Unlisted(Refusal),
 }
 
 /// Counts of what came up; what can come up and did not stands there with 0.
@@ -105,19 +126,21 @@ pub struct Coverage(BTreeMap<What, u64>);
 impl Coverage {
     /// Of whole traces.
     pub fn of_traces() -> Coverage {
-        let functions = FIRST_FUNCTION..=LAST_FUNCTION;
-        let unused = functions.flat_map(|function| {
-            let places = known(function).places.into_iter().enumerate();
-            let unused = places.filter(|place| place.1 == PlaceKind::Unused);
-            unused.map(move |(place, _)| What::Unused(function, place))
-        });
-        Coverage::of(unused.chain([What::Ended("open"), What::Ended("closed")]))
+        Coverage::of(in_traces())
     }
 
-    /// Of steps over foreign tables.
+    /// Of whole traces and their leak lists.
+    pub fn of_traces_and_lists() -> Coverage {
+        let in_lists = in_lists(&LEAKS, &ORDERS[..1], &[OUT_OF_STEP]);
+        Coverage::of(in_traces().chain(in_lists))
+    }
+
+    /// Of steps and leak lists over foreign tables.
     pub fn of_foreign() -> Coverage {
         let causes = FOREIGN_CAUSES.map(|(refusal, cause)| What::Refused(refusal, cause));
-        Coverage::of([What::Start].into_iter().chain(causes))
+        let leaks = [&LEAKS[..], &[FOREIGN_LEAK]].concat();
+        let in_lists = in_lists(&leaks, &ORDERS, &[UNFIT_BOOK, OUT_OF_STEP, NO_ROOM]);
+        Coverage::of([What::Start].into_iter().chain(causes).chain(in_lists))
     }
 
     /// What can come up everywhere, and this.
@@ -164,18 +187,35 @@ impl Coverage {
         }
     }
 
-    /// Adds what a judge with these rows says of a trace.
-    pub fn add_trace(&mut self, trace: &[u8], reference_rows: usize, pin_rows: usize) {
+    /// Adds what a judge with these rows says of a trace; the judge as it is then.
+    pub fn add_trace(&mut self, trace: &[u8], reference_rows: usize, pin_rows: usize) -> Judge {
         let mut judge = Judge::new(reference_rows, pin_rows);
         for line in trace.split_inclusive(|&byte| byte == b'\n') {
             let stepped = judge.step(line);
             self.add(&judge.tables(), line, &stepped);
             if stepped.is_err() {
-                return;
+                return judge;
             }
         }
         let is_closed = judge.tables().book.is_closed();
         self.count(What::Ended(if is_closed { "closed" } else { "open" }));
+        judge
+    }
+
+    /// Adds a leak list, or its refusal.
+    pub fn add_list(&mut self, listed: &Result<Vec<Leak>, Refusal>) {
+        match listed {
+            Err(refusal) => self.count(What::Unlisted(*refusal)),
+            Ok(leaks) if leaks.is_empty() => self.count(What::NoLeak),
+            Ok(leaks) => {
+                for leak in leaks {
+                    self.count(What::Leaked(leak.rule, kind(leak)));
+                }
+                for pair in leaks.windows(2) {
+                    self.count(What::Ordered(order(&pair[0], &pair[1])));
+                }
+            }
+        }
     }
 
     /// Whether everything came up that can.
@@ -205,6 +245,15 @@ impl fmt::Display for Coverage {
                 What::Found(rule, place, letter) => {
                     (format!("rule {rule}"), Some(format!("{letter}@{place}")))
                 }
+                What::NoLeak => ("lists without a leak".to_string(), None),
+                What::Leaked(rule, kind) => {
+                    (format!("leaks of rule {rule}"), Some(kind.to_string()))
+                }
+                What::Ordered(by) => ("leaks in order".to_string(), Some(format!("by {by}"))),
+                What::Unlisted(refusal) => {
+                    let sort = "lists refused".to_string();
+                    (sort, Some(format!("with {refusal}:")))
+                }
             };
             if sorts.last().is_none_or(|(last, ..)| *last != sort) {
                 sorts.push((sort, Vec::new(), Vec::new()));
@@ -223,6 +272,49 @@ impl fmt::Display for Coverage {
             }
         });
         write!(out, "{}", told.collect::<Vec<_>>().join("; "))
+    }
+}
+
+/// What comes up in whole traces alone.
+fn in_traces() -> impl Iterator<Item = What> {
+    let functions = FIRST_FUNCTION..=LAST_FUNCTION;
+    let unused = functions.flat_map(|function| {
+        let places = known(function).places.into_iter().enumerate();
+        let unused = places.filter(|place| place.1 == PlaceKind::Unused);
+        unused.map(move |(place, _)| What::Unused(function, place))
+    });
+    unused.chain([What::Ended("open"), What::Ended("closed")])
+}
+
+/// What comes up in leak lists: these kinds of leaks, orders and refusals.
+fn in_lists(
+    leaks: &[(u8, &'static str)],
+    orders: &[&'static str],
+    refusals: &[Refusal],
+) -> Vec<What> {
+    let leaks = leaks.iter().map(|&(rule, kind)| What::Leaked(rule, kind));
+    let orders = orders.iter().map(|by| What::Ordered(by));
+    let refusals = refusals.iter().map(|&refusal| What::Unlisted(refusal));
+    let all = leaks.chain(orders).chain(refusals);
+    all.chain([What::NoLeak]).collect()
+}
+
+fn kind(leak: &Leak) -> &'static str {
+    match (leak.rule, leak.value % 4) {
+        (8, _) if leak.thread == 0 => "ordinary",
+        (8, _) => "critical",
+        (_, GLOBAL) => "global",
+        (_, WEAK) => "weak",
+        _ => FOREIGN_LEAK.1,
+    }
+}
+
+/// What tells a leak from the next one in their order.
+fn order(leak: &Leak, next: &Leak) -> &'static str {
+    match (leak.line == next.line, leak.rule == next.rule) {
+        (false, _) => "line",
+        (true, false) => "rule",
+        (true, true) => "row",
     }
 }
 

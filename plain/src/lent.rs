@@ -1,9 +1,10 @@
-//! The judge over lent tables, whatever they hold: a start and a step.
+//! The judge over lent tables, whatever they hold: a start, a step and the leak list.
 //!
 //! Document 01 gives the layout and the rules. Where it says nothing of foreign numbers they mean what the definitions
 //! of the proved judge make of them; a comment says so at each such place.
 
 pub mod book;
+pub mod leaks;
 pub mod pins;
 pub mod references;
 pub mod reply;

@@ -24,8 +24,8 @@ pub const MOST_FRAMES: usize = 64;
 pub const NATIVE_CAPACITY: u32 = 16;
 
 /// The numbers of a reference row and of a pin row.
-pub const REFERENCE_NUMBERS: usize = 3;
-pub const PIN_NUMBERS: usize = 3;
+pub const REFERENCE_NUMBERS: usize = 4;
+pub const PIN_NUMBERS: usize = 4;
 /// The most rows that count as room.
 pub const MOST_ROOM: usize = 65_536;
 /// The reference rows and pin rows the program lends.

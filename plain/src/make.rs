@@ -56,6 +56,9 @@ pub struct Profile {
     /// A call is of a favoured function.
     favoured: u32,
     functions: &'static [u32],
+    /// A trace ends by a refusal, or by Z; any other is left open.
+    refused: u32,
+    closed: u32,
     /// The refusals by which a trace may end.
     refusals: &'static [Refusal],
     harm: Harm,
@@ -88,11 +91,13 @@ const MIXED: Profile = Profile {
         6, 19, 20, 21, 22, 23, 24, 25, 26, 31, 32, 64, 67, 104, 154, 165, 166, 217, 218, 222, 223,
         226, 227,
     ],
+    refused: 45,
+    closed: 40,
     refusals: &[4, 5, 6],
     harm: Harm::None,
 };
 
-pub const PROFILES: [Profile; 18] = [
+pub const PROFILES: [Profile; 19] = [
     MIXED,
     Profile {
         name: "breaches",
@@ -215,6 +220,24 @@ pub const PROFILES: [Profile; 18] = [
         ..MIXED
     },
     Profile {
+        name: "leaks",
+        usual_lines: (20, 300),
+        threads: (1, 4),
+        numbers: 3,
+        spoilt: 4,
+        nested: 10,
+        left: 4,
+        pending: 2,
+        favoured: 95,
+        functions: &[
+            21, 21, 22, 226, 226, 227, 165, 165, 165, 166, 166, 169, 169, 170, 183, 191, 222, 222,
+            223, 224, 224, 225,
+        ],
+        refused: 15,
+        closed: 75,
+        ..MIXED
+    },
+    Profile {
         name: "bytes",
         usual_lines: (1, 80),
         left: 20,
@@ -271,7 +294,7 @@ const FEW: Profile = Profile {
 };
 
 /// Profiles of short traces in which the same few things come up again and again.
-pub const DENSE: [Profile; 6] = [
+pub const DENSE: [Profile; 7] = [
     Profile {
         name: "locals",
         functions: &[6, 6, 6, 19, 19, 20, 20, 23, 23, 24, 26],
@@ -286,6 +309,17 @@ pub const DENSE: [Profile; 6] = [
     Profile {
         name: "pinned",
         functions: &[6, 165, 165, 166, 166, 170, 222, 223, 223, 224, 225],
+        ..FEW
+    },
+    Profile {
+        name: "leaking",
+        spoilt: 3,
+        stale: 0,
+        nested: 5,
+        left: 3,
+        functions: &[21, 21, 22, 226, 227, 165, 165, 165, 166, 166, 222, 222, 223],
+        refused: 5,
+        closed: 90,
         ..FEW
     },
     Profile {
@@ -383,17 +417,19 @@ struct Maker<'a> {
 impl Maker<'_> {
     /// Makes a trace that ends open, closed or refused, and sometimes goes on after that.
     fn trace(&mut self, lines: usize) {
-        match self.random.below(100) {
-            0..45 => {
-                let refusal = self.random.pick(self.profile.refusals);
-                self.accepted(lines * 3 / 4);
-                self.refused(refusal, lines.div_ceil(4));
-            }
-            45..85 => {
-                self.accepted(lines.saturating_sub(1));
-                self.lines.push(b"Z\n".to_vec());
-            }
-            _ => self.accepted(lines),
+        let &Profile {
+            refused, closed, ..
+        } = self.profile;
+        let end = self.random.below(100) as u32;
+        if end < refused {
+            let refusal = self.random.pick(self.profile.refusals);
+            self.accepted(lines * 3 / 4);
+            self.refused(refusal, lines.div_ceil(4));
+        } else if end < refused + closed {
+            self.accepted(lines.saturating_sub(1));
+            self.lines.push(b"Z\n".to_vec());
+        } else {
+            self.accepted(lines);
         }
         if self.random.percent(40) {
             for _ in 0..self.random.between(1, 3) {

@@ -1,21 +1,46 @@
-//! The judgement of a whole input and the report it prints.
+//! The judgement of a whole input, the report it prints, and the lines of its leaks.
 
 use crate::judge::Judge;
+use crate::lent::leaks::Leak;
 use crate::limits::MOST_BYTES;
 use crate::refusal::Refusal;
 use std::io::{self, BufWriter, ErrorKind, Read, Write};
 
 const BUFFER_BYTES: usize = 1 << 16;
 
+const NEVER: &str = "memory neither fails to read nor to write";
+
 /// The report on an input held in memory.
-pub fn report(mut input: &[u8], reference_rows: usize, pin_rows: usize) -> Vec<u8> {
-    let mut output = Vec::new();
-    judge_input(&mut input, &mut output, reference_rows, pin_rows)
-        .expect("memory neither fails to read nor to write");
+pub fn report(input: &[u8], reference_rows: usize, pin_rows: usize) -> Vec<u8> {
+    judged(input, reference_rows, pin_rows).0
+}
+
+/// The same, and a line for each leak behind it where the trace is closed.
+pub fn report_and_leaks(input: &[u8], reference_rows: usize, pin_rows: usize) -> Vec<u8> {
+    let (mut output, mut judge) = judged(input, reference_rows, pin_rows);
+    if let Ok(leaks) = judge.leaks() {
+        write_leaks(&leaks, &mut output).expect(NEVER);
+    }
     output
 }
 
-/// Judges an input as it comes and writes its report.
+fn judged(mut input: &[u8], reference_rows: usize, pin_rows: usize) -> (Vec<u8>, Judge) {
+    let mut output = Vec::new();
+    let judge = judge_input(&mut input, &mut output, reference_rows, pin_rows).expect(NEVER);
+    (output, judge)
+}
+
+/// Writes a line for each leak.
+pub fn write_leaks(leaks: &[Leak], output: &mut impl Write) -> io::Result<()> {
+    let mut output = BufWriter::with_capacity(BUFFER_BYTES, output);
+    for leak in leaks {
+        let (rule, thread, value, line) = (leak.rule, leak.thread, leak.value, leak.line);
+        writeln!(output, "leak\t{rule}\t{thread}\t{value}\t{line}")?;
+    }
+    output.flush()
+}
+
+/// Judges an input as it comes, writes its report and answers the judge as the accepted lines have left it.
 ///
 /// A line is cut off after each LF; a rest without one is a line too. The first refusal ends the judgement.
 pub fn judge_input(
@@ -23,7 +48,7 @@ pub fn judge_input(
     output: &mut impl Write,
     reference_rows: usize,
     pin_rows: usize,
-) -> io::Result<()> {
+) -> io::Result<Judge> {
     let mut run = Run {
         judge: Judge::new(reference_rows, pin_rows),
         refusal: 0,
@@ -86,7 +111,7 @@ impl<W: Write> Run<W> {
         Ok(())
     }
 
-    fn end(mut self) -> io::Result<()> {
+    fn end(mut self) -> io::Result<Judge> {
         let book = self.judge.tables().book;
         let state = if self.refusal != 0 {
             "refused"
@@ -97,6 +122,7 @@ impl<W: Write> Run<W> {
         };
         let (lines, refusal, printed) = (book.lines(), self.refusal, self.printed);
         writeln!(self.output, "end\t{state}\t{lines}\t{refusal}\t{printed}")?;
-        self.output.flush()
+        self.output.flush()?;
+        Ok(self.judge)
     }
 }

@@ -4,6 +4,7 @@
 //! is judged by it: so what last happened to a handle, a buffer, a thread or a frame is told when it is looked at.
 
 mod fields;
+mod leaks;
 mod past;
 
 use crate::coverage::grounds;
@@ -22,6 +23,8 @@ use std::collections::BTreeSet;
 
 type Reference = [Number; REFERENCE_NUMBERS];
 type Pin = [Number; PIN_NUMBERS];
+/// What makes buffers equal: a pin row without its making line.
+type Buffer = [Number; 3];
 
 /// What the lines of a trace show, up to the first that is refused.
 pub fn sights(trace: &[u8], reference_rows: usize, pin_rows: usize) -> BTreeSet<String> {
@@ -81,6 +84,8 @@ impl Watch {
         self.show(format!("end: refused {is_refused}, closed {is_closed}"));
         self.show(format!("end: lines of {lines} digits"));
         self.show(format!("end: findings of {findings} digits"));
+        let leaks = leaks::shown(&self.judge.tables(), &self.past, is_refused);
+        self.sights.extend(leaks);
     }
 
     /// Each finding, how many there are, which rules are broken together, and what their order tells.
@@ -144,8 +149,8 @@ impl Watch {
         for handle in made {
             let tables = self.judge.tables();
             let frame = tables.book.frames(thread) as Number;
-            let in_top: Reference = [references::owner(thread, handle), handle, frame];
-            let is_in_top = tables.references.rows.has(|row| *row == in_top);
+            let in_top = [references::owner(thread, handle), handle, frame];
+            let is_in_top = tables.references.rows.has(|row| row.starts_with(&in_top));
             if tables.references.is_alive(thread, handle) {
                 let fate = self.past.of_handle(thread, handle);
                 self.show(format!("6: {letter}, {fate}, in the top frame {is_in_top}"));
@@ -305,19 +310,19 @@ impl Watch {
     }
 
     fn buffer(&mut self, thread: u32, family: Family, buffer: Handle) {
-        let row = [pins::owner(thread, family), family.0.into(), buffer];
+        let own: Buffer = [pins::owner(thread, family), family.0.into(), buffer];
         let rows = self.judge.tables().pins.rows;
-        let count = few(rows.count(|other| *other == row));
-        let is_equal = |other: &Pin| other[BUFFER] == buffer;
-        let is_its = |other: &Pin| other[FAMILY] == row[FAMILY];
-        let other_family = rows.has(|other| is_equal(other) && !is_its(other));
-        let other_thread = rows.has(|other| is_equal(other) && is_its(other) && *other != row);
+        let count = few(rows.count(|row| buffer_of(row) == own));
+        let is_equal = |row: &Pin| row[BUFFER] == buffer;
+        let is_its = |row: &Pin| row[FAMILY] == own[FAMILY];
+        let other_family = rows.has(|row| is_equal(row) && !is_its(row));
+        let other_thread = rows.has(|row| is_equal(row) && is_its(row) && buffer_of(row) != own);
         let kind = if family.is_critical() {
             "critical"
         } else {
             "ordinary"
         };
-        let fate = self.past.of_buffer(&row);
+        let fate = self.past.of_buffer(own);
         self.show(format!("b: null {}, {count} {kind}, {fate}", buffer == 0));
         self.show(format!(
             "b: {count} {kind}, other family {other_family}, other thread {other_thread}"
@@ -434,7 +439,10 @@ fn few(count: usize) -> &'static str {
     }
 }
 
+fn buffer_of(&[thread, family, buffer, _]: &Pin) -> Buffer {
+    [thread, family, buffer]
+}
+
 fn used<const NUMBERS: usize>(rows: &Rows<NUMBERS>) -> Vec<[Number; NUMBERS]> {
-    let used = (0..rows.room()).filter(|&index| rows.is_used(index));
-    used.map(|index| rows.all()[index]).collect()
+    rows.all_used().copied().collect()
 }

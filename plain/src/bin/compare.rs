@@ -1,11 +1,11 @@
 //! Compares another judge program with the plain judge, on made traces or on the walk over all functions and bytes, and shrinks the
-//! first trace they differ on.
+//! first trace they differ on. With `--leaks` the other judge is run with `--leaks` too, and what both list is compared.
 
 use plain::coverage::Coverage;
 use plain::limits::{PIN_ROWS, REFERENCE_ROWS};
 use plain::make::{make, profile, Made, Profile, PROFILES};
 use plain::random::Random;
-use plain::report::report;
+use plain::report::{report, report_and_leaks};
 use plain::shrink::shrink;
 use plain::walk::walk;
 use std::io::{self, Read, Write};
@@ -14,8 +14,8 @@ use std::sync::mpsc;
 use std::thread;
 use std::time::{Duration, Instant};
 
-const USAGE: &str = "usage: compare [--seed S] [--count N] [--seconds T] -- CMD ARG..
-       compare --walk -- CMD ARG..";
+const USAGE: &str = "usage: compare [--leaks] [--seed S] [--count N] [--seconds T] -- CMD ARG..
+       compare [--leaks] --walk -- CMD ARG..";
 
 /// The longest one run of the other judge may take.
 const RUN_TIME: Duration = Duration::from_secs(60);
@@ -25,7 +25,13 @@ const SHRINK_TIME: Duration = Duration::from_secs(120);
 struct Wish {
     traces: Box<dyn Iterator<Item = Made>>,
     time: Duration,
+    other: Other,
+}
+
+/// The other judge, and whether leaks are asked for.
+struct Other {
     command: Vec<String>,
+    leaks: bool,
 }
 
 fn main() -> ExitCode {
@@ -46,15 +52,21 @@ fn main() -> ExitCode {
 
 fn wish(arguments: &[String]) -> Option<Wish> {
     let split = arguments.iter().position(|argument| argument == "--")?;
-    let (options, command) = (&arguments[..split], arguments[split + 1..].to_vec());
+    let (options, mut command) = (&arguments[..split], arguments[split + 1..].to_vec());
     if command.is_empty() {
         return None;
     }
+    let (leaks, options) = match options {
+        [first, rest @ ..] if first == "--leaks" => (true, rest),
+        _ => (false, options),
+    };
+    command.extend(leaks.then(|| "--leaks".to_string()));
+    let other = Other { command, leaks };
     if options == ["--walk"] {
         return Some(Wish {
             traces: Box::new(walk().into_iter()),
             time: Duration::MAX,
-            command,
+            other,
         });
     }
     let (mut seed, mut count, mut time) = (1_u64, None, Duration::MAX);
@@ -75,16 +87,20 @@ fn wish(arguments: &[String]) -> Option<Wish> {
         u64::MAX
     };
     Some(Wish {
-        traces: Box::new((0..count.unwrap_or(unsaid)).map(move |index| made(seed, index))),
+        traces: Box::new((0..count.unwrap_or(unsaid)).map(move |index| made(seed, index, leaks))),
         time,
-        command,
+        other,
     })
 }
 
 /// Compares trace after trace; whether all reports were equal.
 fn compare(wish: Wish) -> io::Result<bool> {
     let start = Instant::now();
-    let mut coverage = Coverage::of_traces();
+    let mut coverage = if wish.other.leaks {
+        Coverage::of_traces_and_lists()
+    } else {
+        Coverage::of_traces()
+    };
     let mut equal = true;
     let mut traces = 0;
     for made in wish.traces {
@@ -92,10 +108,13 @@ fn compare(wish: Wish) -> io::Result<bool> {
             break;
         }
         traces += 1;
-        coverage.add_trace(&made.trace, REFERENCE_ROWS, PIN_ROWS);
-        if differs(&wish.command, &made.trace)? {
+        let mut judge = coverage.add_trace(&made.trace, REFERENCE_ROWS, PIN_ROWS);
+        if wish.other.leaks {
+            coverage.add_list(&judge.leaks());
+        }
+        if wish.other.differs(&made.trace)? {
             println!("a difference: {}", made.name);
-            tell(&wish.command, &made.trace)?;
+            wish.other.tell(&made.trace)?;
             equal = false;
             break;
         }
@@ -104,8 +123,8 @@ fn compare(wish: Wish) -> io::Result<bool> {
     Ok(equal)
 }
 
-fn made(seed: u64, index: u64) -> Made {
-    let profile = profile_of(index);
+fn made(seed: u64, index: u64, leaks: bool) -> Made {
+    let profile = profile_of(index, leaks);
     let seed = seed.wrapping_add(index);
     let lines = lines_of(profile, seed);
     Made {
@@ -119,10 +138,10 @@ fn made(seed: u64, index: u64) -> Made {
     }
 }
 
-/// Every second trace is a single line at an edge, as it costs little; the others are of all profiles by turns.
-fn profile_of(index: u64) -> &'static Profile {
+/// Every second trace is a single line at an edge, as it costs little, or one rich in leaks; the others are of all profiles by turns.
+fn profile_of(index: u64, leaks: bool) -> &'static Profile {
     if index % 2 == 1 {
-        return profile("edges").expect("a profile");
+        return profile(if leaks { "leaks" } else { "edges" }).expect("a profile");
     }
     &PROFILES[(index / 2 % PROFILES.len() as u64) as usize]
 }
@@ -132,23 +151,51 @@ fn lines_of(profile: &Profile, seed: u64) -> usize {
     Random::new(!seed).between(fewest, most) as usize
 }
 
-fn differs(command: &[String], trace: &[u8]) -> io::Result<bool> {
-    Ok(run(command, trace)? != report(trace, REFERENCE_ROWS, PIN_ROWS))
-}
+impl Other {
+    fn differs(&self, trace: &[u8]) -> io::Result<bool> {
+        Ok(self.run(trace)? != self.wanted(trace))
+    }
 
-/// Shrinks the trace and tells it with both reports.
-fn tell(command: &[String], trace: &[u8]) -> io::Result<()> {
-    let start = Instant::now();
-    let in_time = || start.elapsed() < SHRINK_TIME;
-    let small = shrink(trace, |part| {
-        in_time() && differs(command, part).unwrap_or(false)
-    });
-    println!("the smallest trace found:");
-    print_bytes(&small)?;
-    println!("the plain judge's report:");
-    print_bytes(&report(&small, REFERENCE_ROWS, PIN_ROWS))?;
-    println!("the other report:");
-    print_bytes(&run(command, &small)?)
+    /// What the plain judge prints.
+    fn wanted(&self, trace: &[u8]) -> Vec<u8> {
+        let print = if self.leaks { report_and_leaks } else { report };
+        print(trace, REFERENCE_ROWS, PIN_ROWS)
+    }
+
+    /// Shrinks the trace and tells it with both reports.
+    fn tell(&self, trace: &[u8]) -> io::Result<()> {
+        let start = Instant::now();
+        let in_time = || start.elapsed() < SHRINK_TIME;
+        let small = shrink(trace, |part| {
+            in_time() && self.differs(part).unwrap_or(false)
+        });
+        println!("the smallest trace found:");
+        print_bytes(&small)?;
+        println!("the plain judge's report:");
+        print_bytes(&self.wanted(&small))?;
+        println!("the other report:");
+        print_bytes(&self.run(&small)?)
+    }
+
+    /// What the command prints with the trace on its standard input.
+    fn run(&self, trace: &[u8]) -> io::Result<Vec<u8>> {
+        // That leaks are asked for without a Z is told for each such trace.
+        let told = if self.leaks {
+            Stdio::null()
+        } else {
+            Stdio::inherit()
+        };
+        let mut child = Command::new(&self.command[0])
+            .args(&self.command[1..])
+            .stdin(Stdio::piped())
+            .stdout(Stdio::piped())
+            .stderr(told)
+            .spawn()?;
+        let printed = exchange(&mut child, trace);
+        child.kill()?;
+        child.wait()?;
+        printed
+    }
 }
 
 fn print_bytes(bytes: &[u8]) -> io::Result<()> {
@@ -158,19 +205,6 @@ fn print_bytes(bytes: &[u8]) -> io::Result<()> {
         output.write_all(b"\n")?;
     }
     Ok(())
-}
-
-/// What the command prints with the trace on its standard input.
-fn run(command: &[String], trace: &[u8]) -> io::Result<Vec<u8>> {
-    let mut child = Command::new(&command[0])
-        .args(&command[1..])
-        .stdin(Stdio::piped())
-        .stdout(Stdio::piped())
-        .spawn()?;
-    let printed = exchange(&mut child, trace);
-    child.kill()?;
-    child.wait()?;
-    printed
 }
 
 /// Feeds the child from one thread and reads it from another, so that neither waits for the other.

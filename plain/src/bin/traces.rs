@@ -1,12 +1,12 @@
-//! Prints made traces: one of a profile from a seed, a big one of a kind, or several with the plain judge's reports.
+//! Prints made traces: one of a profile from a seed, a big one of a kind, or several with the plain judge's reports and leaks.
 //!
-//! Of several, each has a line `REFERENCE_ROWS PIN_ROWS BYTES REPORT_BYTES NAME`, then its bytes, then those of its report.
+//! Of several, each has a line `REFERENCE_ROWS PIN_ROWS BYTES REPORT_BYTES NAME`, then its bytes, then those of its report with its leaks.
 
 use plain::big::{self, big, natives};
 use plain::chosen::chosen;
 use plain::limits::{MOST_LINES, PIN_ROWS, REFERENCE_ROWS};
 use plain::make::{make, profile, Made, Profile, DENSE, PROFILES};
-use plain::report::report;
+use plain::report::report_and_leaks;
 use plain::walk::walk;
 use std::io::{self, BufWriter, Write};
 use std::process::ExitCode;
@@ -117,7 +117,7 @@ fn print(wish: Wish) -> io::Result<()> {
         Wish::Several(traces) => {
             for made in traces {
                 let (rows, pins) = (made.reference_rows, made.pin_rows);
-                let report = report(&made.trace, rows, pins);
+                let report = report_and_leaks(&made.trace, rows, pins);
                 let (bytes, report_bytes) = (made.trace.len(), report.len());
                 writeln!(output, "{rows} {pins} {bytes} {report_bytes} {}", made.name)?;
                 output.write_all(&made.trace)?;

@@ -4,7 +4,7 @@ use super::lengths::{great, of_book, of_rows};
 use crate::facts::{FIRST_FUNCTION, GLOBAL, LAST_FUNCTION};
 use crate::lent::book::*;
 use crate::lent::references::HANDLE;
-use crate::lent::rows::WORD;
+use crate::lent::rows::{LINE, WORD};
 use crate::lent::slices::Slices;
 use crate::limits::*;
 use crate::make;
@@ -79,6 +79,8 @@ fn full(random: &mut Random) -> Slices {
     let mut global = [0; REFERENCE_NUMBERS];
     global[HANDLE] = GLOBAL;
     fill(&mut slices.rows, || global);
+    lines_in_order::<REFERENCE_NUMBERS>(random, &mut slices.rows);
+    lines_in_order::<PIN_NUMBERS>(random, &mut slices.pins);
     let rows = slices.rows.len() - 8 * REFERENCE_NUMBERS;
     fill(&mut slices.rows[rows..], || small_reference(random, 2));
     let pins = slices.pins.len() - 8 * PIN_NUMBERS;
@@ -167,11 +169,45 @@ fn small_reference(random: &mut Random, threads: u32) -> [Number; REFERENCE_NUMB
         0 => random.pick(&[63, 64, 65, Number::MAX]),
         _ => alike(random, 4),
     };
-    [owner(random, threads), alike(random, 60), frame]
+    [
+        owner(random, threads),
+        alike(random, 60),
+        frame,
+        making_line(random),
+    ]
 }
 
 fn small_pin(random: &mut Random, threads: u32) -> [Number; PIN_NUMBERS] {
-    [owner(random, threads), alike(random, 13), alike(random, 9)]
+    [
+        owner(random, threads),
+        alike(random, 13),
+        alike(random, 9),
+        making_line(random),
+    ]
+}
+
+/// Making lines that rise from row to row, fall, are all one, or are in no order.
+fn lines_in_order<const NUMBERS: usize>(random: &mut Random, numbers: &mut [Number]) {
+    let (rows, _) = numbers.as_chunks_mut::<NUMBERS>();
+    let order = random.below(4);
+    let most = rows.len() as Number;
+    for (row, number) in rows.iter_mut().zip(1..) {
+        row[LINE] = match order {
+            0 => number,
+            1 => most - number,
+            2 => 7,
+            _ => random.number() as Number % most,
+        };
+    }
+}
+
+/// Often one that other rows have.
+fn making_line(random: &mut Random) -> Number {
+    match random.below(10) {
+        0 => random.pick(&[0, Number::from(MOST_LINES), Number::MAX - 1, Number::MAX]),
+        1..=3 => alike(random, 60),
+        _ => alike(random, 5),
+    }
 }
 
 /// A number up to the greatest, or sometimes one that is like it in its low bits.
@@ -257,16 +293,18 @@ fn small_book(random: &mut Random, book: &mut [Word], threads: u32) {
         Word::from(MOST_LINES) - 2,
         Word::from(MOST_LINES) - 1,
     ]);
-    book[CLOSED] = 0;
-    if random.percent(4) {
-        book[CLOSED] = random.pick(&[1, 2, HIGH, Word::MAX]);
-    }
+    book[CLOSED] = if random.percent(4) { a_z(random) } else { 0 };
     if random.percent(4) {
         book[LINES] = MOST_LINES.into();
     }
     for (number, row) in (0..=THREADS).zip(book.chunks_mut(WIDTH)).skip(1) {
         small_thread(random, row, number, number <= threads);
     }
+}
+
+/// A number that says that Z has come.
+pub fn a_z(random: &mut Random) -> Word {
+    random.pick(&[1, 2, HIGH, Word::MAX])
 }
 
 fn small_thread(random: &mut Random, row: &mut [Word], number: u32, is_open: bool) {

@@ -1,6 +1,7 @@
 //! The lengths of lent slices: whole rows with their marks, and every other sort.
 
 use crate::lent::book::WHOLE;
+use crate::lent::leaks::RECORD;
 use crate::lent::rows::WORD;
 use crate::limits::MOST_ROOM;
 use crate::random::Random;
@@ -18,8 +19,7 @@ pub fn of_rows(random: &mut Random, to_a_row: usize) -> (usize, usize) {
     let numbers = rows * to_a_row;
     let words = rows.div_ceil(WORD);
     match random.below(10) {
-        0 => (numbers + 1, words),
-        1 => (numbers + 2, words),
+        0 | 1 => (numbers + 1 + random.below(to_a_row - 1), words),
         2 => (numbers, words + random.below(4)),
         3 => (numbers, words.saturating_sub(1)),
         4 => (random.below(numbers + 1), random.below(words + 2)),
@@ -39,5 +39,19 @@ pub fn of_book(random: &mut Random) -> usize {
         1 => random.below(WHOLE),
         2..=5 => WHOLE + 1 + random.below(600),
         _ => WHOLE,
+    }
+}
+
+/// How many numbers are lent for a list of so many leaks: just enough, some more, or too few.
+pub fn of_list(random: &mut Random, leaks: usize) -> usize {
+    let needed = RECORD * leaks;
+    match random.below(10) {
+        0..=2 => needed,
+        3 | 4 => needed + random.below(RECORD),
+        5 => needed + random.below(10 * RECORD),
+        6 => needed.saturating_sub(1),
+        7 => needed.saturating_sub(RECORD),
+        8 => random.below(needed + 1),
+        _ => random.below(3 * RECORD),
     }
 }

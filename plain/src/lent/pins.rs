@@ -4,7 +4,7 @@ use super::rows::{Rows, THREAD};
 use crate::facts::Family;
 use crate::limits::{Handle, Number, PIN_NUMBERS};
 
-/// The columns of a row, after the thread.
+/// The columns of a row between the thread and the making line.
 pub const FAMILY: usize = 1;
 pub const BUFFER: usize = 2;
 
@@ -23,9 +23,11 @@ impl Pins<'_> {
         self.rows.has(|row| row[THREAD] == thread)
     }
 
-    pub fn get(&mut self, thread: u32, family: Family, buffer: Handle) {
+    /// Gets a buffer by the line of this number.
+    pub fn get(&mut self, thread: u32, family: Family, buffer: Handle, line: u32) {
+        let owner = owner(thread, family);
         self.rows
-            .take([owner(thread, family), family.0.into(), buffer]);
+            .take([owner, family.0.into(), buffer, Number::from(line)]);
     }
 
     /// Ends the lowest such row, if there is one. A null buffer is a buffer like others here: a foreign row may hold one.

@@ -4,7 +4,7 @@ use super::rows::{Rows, THREAD};
 use crate::facts::LOCAL;
 use crate::limits::{Handle, Number, REFERENCE_NUMBERS};
 
-/// The columns of a row, after the thread; a global or weak has thread and frame 0.
+/// The columns of a row between the thread and the making line; a global or weak has thread and frame 0.
 pub const HANDLE: usize = 1;
 pub const FRAME: usize = 2;
 
@@ -23,11 +23,11 @@ impl References<'_> {
         self.rows.end_lowest(is_handle(thread, handle));
     }
 
-    /// Makes a local in a frame of the thread, or a global or weak.
-    pub fn make(&mut self, thread: u32, handle: Handle, frame: usize) {
+    /// Makes a local in a frame of the thread, or a global or weak, by the line of this number.
+    pub fn make(&mut self, thread: u32, handle: Handle, frame: usize, line: u32) {
         let owner = owner(thread, handle);
         let frame = if owner == 0 { 0 } else { frame as Number };
-        self.rows.take([owner, handle, frame]);
+        self.rows.take([owner, handle, frame, Number::from(line)]);
     }
 
     /// Ends the locals of the thread's frames from this one up.

@@ -1,4 +1,4 @@
-//! A step's reply as a C caller gets it.
+//! The replies of a step and of the leak list as a C caller gets them.
 
 use crate::findings::{Finding, Findings, MOST_FINDINGS};
 use crate::limits::Number;
@@ -10,6 +10,14 @@ const FINDING: usize = 4;
 pub const MOST_NUMBERS: usize = MOST_FINDINGS * FINDING;
 /// The reply where there is no room for them.
 pub const SHORT_FOUND: i32 = -100;
+
+/// Minus the refusal's number, or how many leaks were listed.
+pub fn list_reply(listed: Result<usize, Refusal>) -> i32 {
+    match listed {
+        Err(refusal) => -i32::from(refusal),
+        Ok(leaks) => leaks as i32,
+    }
+}
 
 /// Minus the refusal's number, or the count of findings. Their numbers are written at the front of `found`; where that is short for
 /// the most findings of a line, the step is not taken.

@@ -4,8 +4,9 @@ use crate::limits::{Number, Word, MOST_ROOM};
 
 /// Marks to a word.
 pub const WORD: usize = Word::BITS as usize;
-/// The column of the thread, in rows of both sorts.
+/// The columns of the thread and of the making line, in rows of both sorts.
 pub const THREAD: usize = 0;
+pub const LINE: usize = 3;
 
 /// The rows that count as room, so many numbers to a row, and the words of their marks.
 pub struct Rows<'a, const NUMBERS: usize> {
@@ -35,6 +36,13 @@ impl<'a, const NUMBERS: usize> Rows<'a, NUMBERS> {
     /// The rows of the room, used or not.
     pub fn all(&self) -> &[[Number; NUMBERS]] {
         self.rows
+    }
+
+    /// The used rows of the room, the lowest first.
+    pub fn all_used(&self) -> impl Iterator<Item = &[Number; NUMBERS]> {
+        let rows = self.rows.iter().enumerate();
+        rows.filter(|&(index, _)| self.is_used(index))
+            .map(|(_, row)| row)
     }
 
     /// How many rows of the room are used.

@@ -78,4 +78,9 @@ where
     pub fn step(&mut self, line: &[u8]) -> Result<Findings, Refusal> {
         self.tables().step(line)
     }
+
+    /// Lists the leaks in another lent slice; these five stay as they are.
+    pub fn list_leaks(&mut self, list: &mut [Number]) -> Result<usize, Refusal> {
+        self.tables().list_leaks(list)
+    }
 }

@@ -19,15 +19,14 @@ impl Tables<'_> {
 
     /// The same over a book that is fit, as every book is from a start.
     pub(crate) fn step_from_start(&mut self, line: &[u8]) -> Result<Findings, Refusal> {
-        let lines = self.book.lines() as u32;
-        if lines == MOST_LINES {
+        if self.book.lines() == MOST_LINES.into() {
             return Err(NO_LINE);
         }
         let event = line::read(line)?;
         if self.book.is_closed() {
             return Err(OUT_OF_STEP);
         }
-        let mut findings = Findings::new(lines + 1);
+        let mut findings = Findings::new(self.line_number());
         match event {
             Event::N {
                 thread,
@@ -53,6 +52,11 @@ impl Tables<'_> {
         }
         self.book.count_line();
         Ok(findings)
+    }
+
+    /// The number of the line that is judged.
+    fn line_number(&self) -> u32 {
+        self.book.lines() as u32 + 1
     }
 
     /// N: Java enters native.
@@ -85,9 +89,9 @@ impl Tables<'_> {
         self.book.set_pending(thread, 0);
         self.book.push_frame(thread, NATIVE_CAPACITY, false);
         self.book.push_native(thread);
-        let frame = self.book.frames(thread);
+        let (frame, line) = (self.book.frames(thread), self.line_number());
         for &handle in handles {
-            self.references.make(thread, handle, frame);
+            self.references.make(thread, handle, frame, line);
         }
         Ok(())
     }
@@ -202,13 +206,14 @@ impl Tables<'_> {
                 if self.references.rows.free() == 0 {
                     return Err(NO_ROOM);
                 }
-                self.references.make(thread, made, frame);
+                let line = self.line_number();
+                self.references.make(thread, made, frame, line);
             }
             ResultKind::Buffer(family) if made != 0 => {
                 if self.pins.rows.free() == 0 {
                     return Err(NO_ROOM);
                 }
-                self.pins.get(thread, family, made);
+                self.pins.get(thread, family, made, self.line_number());
             }
             ResultKind::Status if result == 0 => self.succeed(thread, function, asked)?,
             _ => {}

@@ -1,10 +1,10 @@
 //! What last happened to each handle, buffer and thread, and to the frames of a thread.
 
-use super::{few, letter, thread, used, Pin, Reference};
+use super::{buffer_of, few, letter, thread, used, Buffer, Pin, Reference};
 use crate::facts::*;
 use crate::lent::pins::BUFFER;
 use crate::lent::references::{self, FRAME, HANDLE};
-use crate::lent::rows::THREAD;
+use crate::lent::rows::{LINE, THREAD};
 use crate::lent::Tables;
 use crate::limits::{Handle, Number, Word};
 use crate::line::Event;
@@ -16,8 +16,9 @@ const EXCEPTION_CLEAR: u32 = 17;
 pub struct Past {
     /// By the thread in its row, and the handle.
     handles: BTreeMap<(Number, Handle), String>,
-    /// By its row.
-    buffers: BTreeMap<Pin, String>,
+    buffers: BTreeMap<Buffer, String>,
+    /// The rows of those that were released.
+    released: Vec<Pin>,
     threads: BTreeMap<u32, Thread>,
 }
 
@@ -66,8 +67,19 @@ impl Past {
         happened.map_or("never made", String::as_str)
     }
 
-    pub fn of_buffer(&self, row: &Pin) -> &str {
-        self.buffers.get(row).map_or("never got", String::as_str)
+    pub fn of_buffer(&self, buffer: Buffer) -> &str {
+        let happened = self.buffers.get(&buffer);
+        happened.map_or("never got", String::as_str)
+    }
+
+    /// The making lines of the equal buffers that were released.
+    pub fn released(&self, buffer: Buffer) -> Vec<Number> {
+        let equal = |row: &&Pin| buffer_of(row) == buffer;
+        self.released
+            .iter()
+            .filter(equal)
+            .map(|row| row[LINE])
+            .collect()
     }
 
     /// What set its pending exception, and its monitors.
@@ -166,8 +178,12 @@ impl Past {
 
     fn add_to_buffers(&mut self, event: &Event, condemned: bool, before: &[Pin], after: &[Pin]) {
         let own = Number::from(thread(event));
+        let released = before.iter().filter(|row| !after.contains(row));
+        self.released.extend(released);
         for row in before.iter().chain(after) {
-            let count = |rows: &[Pin]| rows.iter().filter(|other| *other == row).count();
+            let buffer = buffer_of(row);
+            let is_equal = |other: &&Pin| buffer_of(other) == buffer;
+            let count = |rows: &[Pin]| rows.iter().filter(is_equal).count();
             let happened = match (count(before), count(after), event) {
                 (was, is, _) if was < is => format!("got, {} before", few(was)),
                 (was, is, _) if was > is => {
@@ -179,7 +195,7 @@ impl Past {
                 }
                 _ => continue,
             };
-            self.buffers.insert(*row, happened);
+            self.buffers.insert(buffer, happened);
         }
     }
 

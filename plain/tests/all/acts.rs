@@ -1,6 +1,6 @@
 //! What lines do, and the breaches judged on them.
 
-use crate::common::{findings, judged, judged_with, line, told};
+use crate::common::{findings, judged, judged_with, line, told, TWO_EQUAL_TURNED};
 use plain::judge::Judge;
 
 /// Takes the lines of some parts together.
@@ -230,7 +230,7 @@ fn twentys_result_is_made_in_the_frame_below_and_overflow_judged_there() {
     ];
     let (mut judge, found) = judged(&lines);
     assert_eq!(found, ["7 11 0 5"]);
-    assert_eq!(judge.tables().references.rows.all()[0], [1, 5, 2]);
+    assert_eq!(judge.tables().references.rows.all()[0], [1, 5, 2, 7]);
 }
 
 #[test]
@@ -428,27 +428,16 @@ fn a_release_by_another_thread_counts_unless_critical() {
 
 #[test]
 fn a_release_ends_the_lowest_row_which_need_not_be_the_oldest() {
-    let lines = [
-        "N 1 100 5",
-        "C 1 100 165 5 0 0 0",
-        "R 1 165 40 0",
-        "C 1 100 169 5 0 0 0",
-        "R 1 169 8 0",
-        "C 1 100 166 5 40 0 0",
-        "R 1 166 0 0",
-        "C 1 100 169 5 0 0 0",
-        "R 1 169 8 0",
-    ];
-    let (mut judge, _) = judged_with(4, 4, &lines);
-    let unused = [0, 0, 0];
+    let (mut judge, _) = judged_with(4, 4, &TWO_EQUAL_TURNED);
+    let unused = [0; 4];
     assert_eq!(
         judge.tables().pins.rows.all(),
-        [[0, 1, 8], [0, 1, 8], unused, unused]
+        [[0, 1, 8, 9], [0, 1, 8, 5], unused, unused]
     );
     judge.step(&line("C 1 100 170 5 8 0 0")).unwrap();
     assert_eq!(
         judge.tables().pins.rows.all(),
-        [unused, [0, 1, 8], unused, unused]
+        [unused, [0, 1, 8, 5], unused, unused]
     );
 }
 
@@ -470,25 +459,18 @@ fn a_new_row_is_the_lowest_free_one_and_an_ended_row_is_zero() {
     assert_eq!(
         judge.tables().references.rows.all(),
         [
-            [1, 5, 1],
-            [0, 6, 0],
-            [1, 13, 1],
-            [2, 9, 1],
-            [1, 9, 2],
-            [0, 0, 0]
+            [1, 5, 1, 1],
+            [0, 6, 0, 5],
+            [1, 13, 1, 1],
+            [2, 9, 1, 6],
+            [1, 9, 2, 10],
+            [0; 4]
         ]
     );
     judge.step(&line("X 1 0")).unwrap();
     assert_eq!(
         judge.tables().references.rows.all(),
-        [
-            [0, 0, 0],
-            [0, 6, 0],
-            [0, 0, 0],
-            [2, 9, 1],
-            [0, 0, 0],
-            [0, 0, 0]
-        ]
+        [[0; 4], [0, 6, 0, 5], [0; 4], [2, 9, 1, 6], [0; 4], [0; 4]]
     );
 }
 
@@ -502,14 +484,14 @@ fn rows_past_the_first_word_of_marks_are_taken_in_order() {
         judge.step(&line(&text)).unwrap();
     }
     assert_eq!(judge.tables().references.rows.used(), 128);
-    assert_eq!(judge.tables().references.rows.all()[64], [9, 257, 1]);
+    assert_eq!(judge.tables().references.rows.all()[64], [9, 257, 1, 9]);
     judge.step(&line("C 3 300 23 65 0 0 0")).unwrap();
     judge.step(&line("C 9 900 6 0 0 0 0")).unwrap();
     judge.step(&line("R 9 6 1001 0")).unwrap();
-    assert_eq!(judge.tables().references.rows.all()[16], [9, 1001, 1]);
+    assert_eq!(judge.tables().references.rows.all()[16], [9, 1001, 1, 19]);
     judge.step(&line("C 9 900 6 0 0 0 0")).unwrap();
     judge.step(&line("R 9 6 1005 0")).unwrap();
-    assert_eq!(judge.tables().references.rows.all()[128], [9, 1005, 1]);
+    assert_eq!(judge.tables().references.rows.all()[128], [9, 1005, 1, 21]);
     judge.step(&line("C 9 900 6 0 0 0 0")).unwrap();
     judge.step(&line("R 9 6 1009 0")).unwrap();
     judge.step(&line("C 9 900 6 0 0 0 0")).unwrap();

@@ -3,6 +3,7 @@
 use plain::findings::Findings;
 use plain::judge::Judge;
 use plain::lent::book::WIDTH;
+use plain::lent::reply::list_reply;
 use plain::lent::rows::WORD;
 use plain::lent::slices::Slices;
 use plain::limits::{Number, PIN_NUMBERS, REFERENCE_NUMBERS};
@@ -67,6 +68,19 @@ pub fn refusal_with(reference_rows: usize, pin_rows: usize, lines: &[&str]) -> u
     judge.step(&line(last)).expect_err("a refused last line")
 }
 
+/// The second of two equal buffers is got when the first row is free again, so that it gets the lower row.
+pub const TWO_EQUAL_TURNED: [&str; 9] = [
+    "N 1 100 5",
+    "C 1 100 165 5 0 0 0",
+    "R 1 165 40 0",
+    "C 1 100 169 5 0 0 0",
+    "R 1 169 8 0",
+    "C 1 100 166 5 40 0 0",
+    "R 1 166 0 0",
+    "C 1 100 169 5 0 0 0",
+    "R 1 169 8 0",
+];
+
 /// What the tests do with lent tables.
 pub trait Lent {
     /// Tables of so many rows that have accepted these lines.
@@ -80,6 +94,9 @@ pub trait Lent {
 
     /// The number by which a line is refused.
     fn refuses(&mut self, text: &str) -> u8;
+
+    /// The reply to a list call with a slice of so many nines, and what is left in the slice; the tables must be left untouched.
+    fn lists(&mut self, length: usize) -> (i32, Vec<Number>);
 
     /// A number of the book.
     fn at(&mut self, row: usize, column: usize) -> &mut u64;
@@ -125,6 +142,15 @@ impl Lent for Slices {
             Ok(findings) => panic!("{text} is accepted with {:?}", told(&findings)),
             Err(refusal) => refusal,
         }
+    }
+
+    #[track_caller]
+    fn lists(&mut self, length: usize) -> (i32, Vec<Number>) {
+        let before = self.clone();
+        let mut list = vec![9; length];
+        let reply = list_reply(self.list_leaks(&mut list));
+        assert_eq!(*self, before);
+        (reply, list)
     }
 
     fn at(&mut self, row: usize, column: usize) -> &mut u64 {

@@ -188,7 +188,7 @@ fn marks_longer_than_rows_leave_the_room_to_the_rows() {
     lent.accepts("C 1 100 6 0 0 0 0");
     lent.accepts("R 1 6 5 0");
     assert_eq!(lent.marks, [0xff, u64::MAX, u64::MAX, u64::MAX, u64::MAX]);
-    assert_eq!(lent.rows[7 * REFERENCE_NUMBERS..], [1, 5, 1]);
+    assert_eq!(lent.rows[7 * REFERENCE_NUMBERS..], [1, 5, 1, 3]);
     lent.accepts("C 1 100 6 0 0 0 0");
     assert_eq!(lent.refuses("R 1 6 9 0"), 7);
 }
@@ -198,13 +198,13 @@ fn rows_longer_than_marks_leave_the_room_to_the_marks() {
     let mut lent = in_native();
     lent.rows = vec![5; 100 * REFERENCE_NUMBERS];
     lent.marks = vec![u64::MAX >> 1];
-    lent.rows[64 * REFERENCE_NUMBERS..][..REFERENCE_NUMBERS].copy_from_slice(&[1, 9, 1]);
+    lent.rows[64 * REFERENCE_NUMBERS..][..REFERENCE_NUMBERS].copy_from_slice(&[1, 9, 1, 7]);
     assert_eq!(lent.clone().accepts("C 1 100 31 9 0 0 0"), ["2 11 1 9"]);
     lent.accepts("C 1 100 6 0 0 0 0");
     lent.accepts("R 1 6 9 0");
     assert_eq!(
         lent.rows[63 * REFERENCE_NUMBERS..][..REFERENCE_NUMBERS],
-        [1, 9, 1]
+        [1, 9, 1, 3]
     );
     assert_eq!(lent.marks, [u64::MAX]);
     lent.accepts("C 1 100 6 0 0 0 0");
@@ -213,11 +213,11 @@ fn rows_longer_than_marks_leave_the_room_to_the_marks() {
     lent.accepts("X 1 0");
     assert_eq!(
         lent.rows[63 * REFERENCE_NUMBERS..][..REFERENCE_NUMBERS],
-        [0, 0, 0]
+        [0, 0, 0, 0]
     );
     assert_eq!(
         lent.rows[64 * REFERENCE_NUMBERS..][..REFERENCE_NUMBERS],
-        [1, 9, 1]
+        [1, 9, 1, 7]
     );
     assert_eq!(
         lent.rows[65 * REFERENCE_NUMBERS..],
@@ -227,7 +227,7 @@ fn rows_longer_than_marks_leave_the_room_to_the_marks() {
 
 #[test]
 fn numbers_past_the_last_whole_row_are_no_row() {
-    for odd in [1, 2] {
+    for odd in [1, 2, 3] {
         let mut lent = in_native();
         lent.rows.extend(vec![1; odd]);
         lent.pins.extend(vec![1; odd]);
@@ -253,7 +253,7 @@ fn over_65536_rows_the_room_is_65536() {
     lent.accepts("R 1 6 5 0");
     assert_eq!(
         lent.rows[65_535 * REFERENCE_NUMBERS..][..REFERENCE_NUMBERS],
-        [1, 5, 1]
+        [1, 5, 1, 3]
     );
     lent.accepts("C 1 100 6 0 0 0 0");
     assert_eq!(lent.refuses("R 1 6 9 0"), 7);
@@ -289,26 +289,26 @@ fn rows_without_marks_and_marks_without_rows_are_no_room() {
 #[test]
 fn an_unmarked_row_is_free_whatever_it_holds() {
     let mut lent = in_native();
-    lent.rows = [1, 5, 1].repeat(8);
-    lent.pins = [1, 10, 8].repeat(8);
+    lent.rows = [1, 5, 1, 7].repeat(8);
+    lent.pins = [1, 10, 8, 7].repeat(8);
     assert_eq!(lent.clone().accepts("X 1 5"), ["2 11 1 5"]);
     lent.accepts("C 1 100 6 0 0 0 0");
     lent.accepts("R 1 6 5 0");
     assert_eq!(lent.marks, [1]);
     lent.accepts("X 1 0");
-    assert_eq!(lent.rows[..REFERENCE_NUMBERS], [0; 3]);
-    assert_eq!(lent.rows[REFERENCE_NUMBERS..], [1, 5, 1].repeat(7));
+    assert_eq!(lent.rows[..REFERENCE_NUMBERS], [0; 4]);
+    assert_eq!(lent.rows[REFERENCE_NUMBERS..], [1, 5, 1, 7].repeat(7));
 }
 
 #[test]
 fn of_equal_rows_the_lowest_is_ended() {
     let mut lent = in_native();
-    for index in [2, 5, 7] {
-        lent.put_reference(index, [1, 5, 1]);
-        lent.put_pin(index, [0, 3, 8]);
+    for (index, line) in [(2, 9), (5, 3), (7, 0)] {
+        lent.put_reference(index, [1, 5, 1, line]);
+        lent.put_pin(index, [0, 3, 8, line]);
     }
-    lent.put_reference(1, [2, 5, 1]);
-    lent.put_pin(1, [1, 3, 8]);
+    lent.put_reference(1, [2, 5, 1, 7]);
+    lent.put_pin(1, [1, 3, 8, 7]);
     for (marks, findings) in [
         (0b1010_0010, vec![]),
         (0b1000_0010, vec![]),
@@ -327,15 +327,15 @@ fn of_equal_rows_the_lowest_is_ended() {
     }
     lent.accepts("C 1 100 192 0 8 0 0");
     assert_eq!(lent.pin_marks, [0b1010_0010]);
-    assert_eq!(lent.pins[2 * PIN_NUMBERS..][..PIN_NUMBERS], [0; 3]);
+    assert_eq!(lent.pins[2 * PIN_NUMBERS..][..PIN_NUMBERS], [0; 4]);
 }
 
 #[test]
 fn a_row_of_thread_17_is_no_thread_s_but_counts() {
     let mut lent = in_native();
-    lent.put_reference(0, [17, 5, 1]);
-    lent.put_reference(1, [u32::MAX, 6, 0]);
-    lent.put_pin(0, [17, 10, 8]);
+    lent.put_reference(0, [17, 5, 1, 7]);
+    lent.put_reference(1, [u32::MAX, 6, 0, 7]);
+    lent.put_pin(0, [17, 10, 8, 7]);
     assert_eq!(lent.accepts("C 1 100 225 5 8 0 0"), ["2 8 2 8", "2 11 1 5"]);
     lent.accepts("R 1 225 0 0");
     assert_eq!(lent.accepts("C 1 100 22 6 0 0 0"), ["4 10 1 6"]);
@@ -348,9 +348,9 @@ fn a_row_of_thread_17_is_no_thread_s_but_counts() {
 #[test]
 fn a_row_of_thread_0_is_a_global_or_weak_whatever_its_handle() {
     let mut lent = in_native();
-    lent.put_reference(0, [0, 5, 1]);
-    lent.put_reference(1, [0, 0, 9]);
-    lent.put_reference(2, [0, 6, 7]);
+    lent.put_reference(0, [0, 5, 1, 7]);
+    lent.put_reference(1, [0, 0, 9, 7]);
+    lent.put_reference(2, [0, 6, 7, 7]);
     assert_eq!(lent.accepts("C 1 100 24 5 6 0 0"), ["2 11 1 5"]);
     lent.accepts("R 1 24 0 0");
     assert_eq!(lent.accepts("C 1 100 23 5 0 0 0"), ["4 11 1 5"]);
@@ -363,7 +363,7 @@ fn a_row_of_thread_0_is_a_global_or_weak_whatever_its_handle() {
 #[test]
 fn a_global_in_a_row_of_a_thread_is_a_local_of_it() {
     let mut lent = in_native();
-    lent.put_reference(0, [1, 6, 1]);
+    lent.put_reference(0, [1, 6, 1, 7]);
     assert_eq!(lent.accepts("C 1 100 22 6 0 0 0"), ["2 10 1 6"]);
     lent.accepts("R 1 22 0 0");
     assert_eq!(lent.marks, [1]);
@@ -375,8 +375,8 @@ fn a_global_in_a_row_of_a_thread_is_a_local_of_it() {
 #[test]
 fn a_pin_row_of_a_thread_is_critical_whatever_its_family() {
     let mut lent = in_native();
-    lent.put_pin(0, [1, 0, 8]);
-    lent.put_pin(1, [0, 10, 8]);
+    lent.put_pin(0, [1, 0, 8, 7]);
+    lent.put_pin(1, [0, 10, 8, 7]);
     assert_eq!(
         lent.accepts("C 1 100 166 6 8 0 0"),
         ["2 3 0 0", "2 8 2 8", "2 10 1 6"]
@@ -389,7 +389,7 @@ fn a_pin_row_of_a_thread_is_critical_whatever_its_family() {
 #[test]
 fn a_null_buffer_in_a_row_is_released_by_a_null() {
     let mut lent = in_native();
-    lent.put_pin(1, [0, 0, 0]);
+    lent.put_pin(1, [0, 0, 0, 7]);
     assert_eq!(lent.accepts("C 1 100 166 6 0 0 0"), ["2 7 2 0", "2 10 1 6"]);
     assert_eq!(lent.pin_marks, [0]);
 }
@@ -397,10 +397,10 @@ fn a_null_buffer_in_a_row_is_released_by_a_null() {
 #[test]
 fn frames_of_rows_above_the_top_end_with_it() {
     let mut lent = in_native();
-    lent.put_reference(0, [1, 5, 0]);
-    lent.put_reference(1, [1, 9, 1]);
-    lent.put_reference(2, [1, 13, u32::MAX]);
-    lent.put_reference(3, [2, 13, u32::MAX]);
+    lent.put_reference(0, [1, 5, 0, 7]);
+    lent.put_reference(1, [1, 9, 1, 7]);
+    lent.put_reference(2, [1, 13, u32::MAX, 7]);
+    lent.put_reference(3, [2, 13, u32::MAX, 7]);
     lent.accepts("X 1 0");
     assert_eq!(lent.marks, [0b1001]);
 }
@@ -465,7 +465,7 @@ fn what_was_asked_is_read_through_32_bits() {
     }
     let mut lent = in_call(26);
     *lent.at(1, ASKED + 1) = u64::MAX;
-    lent.put_reference(0, [1, 5, 1]);
+    lent.put_reference(0, [1, 5, 1, 7]);
     lent.accepts("R 1 26 0 0");
     assert_eq!(*lent.at(1, CAPACITIES), 1 << 32);
 }
@@ -544,7 +544,7 @@ fn every_number_but_0_is_pushed() {
     for pushed in [1, 2, 1 << 32, u64::MAX] {
         let mut lent = in_native();
         *lent.at(1, PUSHED) = pushed;
-        lent.put_reference(0, [1, 5, 1]);
+        lent.put_reference(0, [1, 5, 1, 7]);
         assert!(lent.accepts("C 1 100 20 0 0 0 0").is_empty());
         assert_eq!(*lent.at(1, FRAMES), 0);
         assert_eq!(lent.marks, [0]);
@@ -566,9 +566,9 @@ fn x_over_pushed_frames_alone_ends_them_all() {
     for frame in 0..3 {
         *lent.at(1, PUSHED + frame) = 9;
     }
-    lent.put_reference(0, [1, 5, 0]);
-    lent.put_reference(1, [1, 9, 1]);
-    lent.put_reference(2, [1, 13, 3]);
+    lent.put_reference(0, [1, 5, 0, 7]);
+    lent.put_reference(1, [1, 9, 1, 7]);
+    lent.put_reference(2, [1, 13, 3, 7]);
     lent.accepts("X 1 0");
     assert_eq!(*lent.at(1, FRAMES), 0);
     assert_eq!(lent.marks, [1]);
@@ -619,7 +619,7 @@ fn frames_may_be_left_without_items() {
     assert_eq!(lent.refuses("N 1 100"), 7);
     *lent.at(1, FRAMES) = 63;
     lent.accepts("N 1 100 5");
-    assert_eq!(lent.rows[..REFERENCE_NUMBERS], [1, 5, 64]);
+    assert_eq!(lent.rows[..REFERENCE_NUMBERS], [1, 5, 64, 1]);
     lent.accepts("C 1 100 19 0 0 0 1");
     assert_eq!(lent.refuses("R 1 19 0 0"), 7);
     lent.accepts("R 1 19 -1 0");
@@ -687,7 +687,7 @@ fn words_of_marks_have_64_rows() {
     lent.accepts("N 1 100 5");
     assert_eq!(
         lent.rows[WORD * REFERENCE_NUMBERS..][..REFERENCE_NUMBERS],
-        [1, 5, 1]
+        [1, 5, 1, 1]
     );
     assert_eq!(lent.marks, [u64::MAX, 1]);
 }

@@ -5,6 +5,7 @@ mod common;
 mod facts;
 mod foreign;
 mod foreign_maker;
+mod leaks;
 mod lent;
 mod lines;
 mod maker;

@@ -8,7 +8,7 @@ use plain::facts::FAMILIES;
 use plain::judge::Judge;
 use plain::lent::rows::THREAD;
 use plain::limits::{PIN_ROWS, REFERENCE_ROWS};
-use plain::make::{make, Made, PROFILES};
+use plain::make::{make, profile, Made, PROFILES};
 use plain::random::Random;
 use plain::report::report;
 use plain::shrink::shrink;
@@ -16,16 +16,24 @@ use plain::sights::sights;
 use plain::walk::walk;
 use std::collections::BTreeSet;
 
-#[test]
-fn every_refusal_rule_place_and_function_comes_up() {
-    let mut coverage = Coverage::of_traces();
-    for seed in 0..60 {
-        for profile in &PROFILES {
+/// A usual trace of each profile from each of so many seeds.
+pub fn made_traces(seeds: u64) -> impl Iterator<Item = Vec<u8>> {
+    let made = |seed| {
+        PROFILES.iter().map(move |profile| {
             let (fewest, most) = profile.usual_lines;
             let lines = Random::new(seed).between(fewest, most) as usize;
-            let trace = make(profile, seed, lines, REFERENCE_ROWS, PIN_ROWS);
-            coverage.add_trace(&trace, REFERENCE_ROWS, PIN_ROWS);
-        }
+            make(profile, seed, lines, REFERENCE_ROWS, PIN_ROWS)
+        })
+    };
+    (0..seeds).flat_map(made)
+}
+
+#[test]
+fn every_refusal_rule_place_function_and_kind_of_leak_comes_up() {
+    let mut coverage = Coverage::of_traces_and_lists();
+    for trace in made_traces(60) {
+        let mut judge = coverage.add_trace(&trace, REFERENCE_ROWS, PIN_ROWS);
+        coverage.add_list(&judge.leaks());
     }
     for made in walk() {
         coverage.add_trace(&made.trace, made.reference_rows, made.pin_rows);
@@ -97,6 +105,43 @@ fn the_chosen_traces_show_all_that_the_candidates_show() {
     assert!(chosen.len() * 20 < candidates.len(), "{}", chosen.len());
     let lines: usize = chosen.iter().map(|made| made.lines().count()).sum();
     assert!(lines < 5_000, "{lines}");
+}
+
+#[test]
+fn what_leaks_show_comes_up() {
+    let leaks = profile("leaks").unwrap();
+    let traces = (0..200).map(|seed| make(leaks, seed, 150, REFERENCE_ROWS, PIN_ROWS));
+    let sights = |trace: Vec<u8>| sights(&trace, REFERENCE_ROWS, PIN_ROWS);
+    let shown: BTreeSet<String> = traces.flat_map(sights).collect();
+    let mut wanted = Vec::new();
+    for (earlier, later) in [(false, false), (false, true), (true, false), (true, true)] {
+        for buffers in [
+            "one ordinary",
+            "more ordinary",
+            "one critical",
+            "more critical",
+        ] {
+            let leak = format!("leak: {buffers}, released earlier {earlier}, later {later}");
+            wanted.push(leak);
+        }
+        wanted.push(format!("leak: global, made by R, again {earlier}"));
+        wanted.push(format!("leak: weak, made by R, again {earlier}"));
+        wanted.push(format!("more leaks, refused {earlier}"));
+    }
+    for (rules, rows) in [
+        ("Less", ""),
+        ("Greater", ""),
+        ("Equal", "Less"),
+        ("Equal", "Greater"),
+    ] {
+        wanted.push(format!("leaks: rules {rules}, rows {rows}"));
+    }
+    for sight in wanted {
+        assert!(
+            shown.iter().any(|shown| shown.starts_with(&sight)),
+            "{sight}"
+        );
+    }
 }
 
 #[test]

@@ -3,7 +3,7 @@
 use crate::common::trace;
 use plain::limits::{PIN_ROWS, REFERENCE_ROWS};
 use plain::make::{make, profile};
-use plain::report::report;
+use plain::report::{report, report_and_leaks};
 use plain::walk::walk;
 use std::io::{ErrorKind, Read, Write};
 use std::process::{Command, Output, Stdio};
@@ -23,14 +23,19 @@ fn run(program: &str, arguments: &[&str]) -> Output {
 }
 
 fn judge(arguments: &[&str], input: &[u8]) -> Vec<u8> {
+    judged(arguments, input).stdout
+}
+
+fn judged(arguments: &[&str], input: &[u8]) -> Output {
     let mut child = Command::new(PLAIN)
         .args(arguments)
         .stdin(Stdio::piped())
         .stdout(Stdio::piped())
+        .stderr(Stdio::piped())
         .spawn()
         .unwrap();
     child.stdin.take().unwrap().write_all(input).unwrap();
-    child.wait_with_output().unwrap().stdout
+    child.wait_with_output().unwrap()
 }
 
 #[test]
@@ -64,6 +69,23 @@ fn the_program_lends_2048_and_256_rows_or_others() {
         let (output, expected) = (run_on(&made), report(&made, 2_048, 256));
         assert_eq!(output, expected);
     }
+}
+
+#[test]
+fn the_program_lists_the_leaks_where_it_is_asked_to_and_the_trace_has_z() {
+    let open = ["N 1 100 5", "C 1 100 21 5 0 0 0", "R 1 21 6 0"];
+    let closed = trace(&[&open[..], &["Z"]].concat());
+    let report = ["4 10 0 1", "end closed 4 0 1"];
+    assert_eq!(judge(&[], &closed), trace(&report));
+    let listed = judged(&["--leaks"], &closed);
+    let with_leaks = trace(&[&report[..], &["leak 10 0 6 3"]].concat());
+    assert_eq!((listed.stdout, &listed.stderr[..]), (with_leaks, &b""[..]));
+    let in_one_row = judged(&["--leaks", "--rooms", "1", "0"], &closed);
+    assert_eq!(in_one_row.stdout, trace(&["end refused 2 7 0"]));
+    let unlisted = judged(&["--leaks"], &trace(&open));
+    assert_eq!(unlisted.stdout, trace(&["end open 3 0 0"]));
+    assert!(!unlisted.stderr.is_empty() && unlisted.status.success());
+    assert_eq!(run(PLAIN, &["--leak"]).status.code(), Some(2));
 }
 
 /// What the program prints of an input it may leave unread after a refusal.
@@ -120,10 +142,11 @@ fn traces_prints_what_the_maker_makes() {
 }
 
 #[test]
-fn traces_prints_several_with_their_reports() {
+fn traces_prints_several_with_their_reports_and_leaks() {
     let printed = run(TRACES, &["--walk"]).stdout;
     let made = &walk()[0];
-    let report = report(&made.trace, REFERENCE_ROWS, PIN_ROWS);
+    let report = report_and_leaks(&made.trace, REFERENCE_ROWS, PIN_ROWS);
+    assert!(report.ends_with(b"leak\t10\t0\t7\t5\nleak\t8\t1\t8000\t13\n"));
     let head = format!(
         "2048 256 {} {} {}\n",
         made.trace.len(),
@@ -155,6 +178,11 @@ fn compare_finds_no_difference_from_itself() {
             "compared 34 traces, ",
         ),
         (&["--walk"], "compared 2363 traces, "),
+        (
+            &["--leaks", "--seed", "9", "--count", "34"],
+            "compared 34 traces, ",
+        ),
+        (&["--leaks", "--walk"], "compared 2363 traces, "),
     ] {
         let output = run(COMPARE, &[options, &["--", PLAIN]].concat());
         let printed = String::from_utf8(output.stdout).unwrap();
@@ -187,6 +215,40 @@ fn compare_shrinks_what_differs() {
         the other report:\n\
         2\t7\t1\t0\n\
         end\topen\t2\t0\t2\n\
+        compared ";
+    assert!(printed.contains(smallest), "{printed}");
+}
+
+#[cfg(unix)]
+#[test]
+fn compare_shrinks_leaks_that_differ() {
+    let blind_to_weaks = format!("{PLAIN} \"$0\" | grep -Ev '^leak\t10\t0\t[0-9]*[37]\t'");
+    let output = run(
+        COMPARE,
+        &[
+            "--leaks",
+            "--seconds",
+            "60",
+            "--",
+            "sh",
+            "-c",
+            &blind_to_weaks,
+        ],
+    );
+    let printed = String::from_utf8(output.stdout).unwrap();
+    assert_eq!(output.status.code(), Some(1), "{printed}");
+    let smallest = "the smallest trace found:\n\
+        N\t1\t1\n\
+        C\t1\t1\t226\t0\t0\t0\t0\n\
+        R\t1\t226\t3\t0\n\
+        Z\n\
+        the plain judge's report:\n\
+        4\t10\t0\t1\n\
+        end\tclosed\t4\t0\t1\n\
+        leak\t10\t0\t3\t3\n\
+        the other report:\n\
+        4\t10\t0\t1\n\
+        end\tclosed\t4\t0\t1\n\
         compared ";
     assert!(printed.contains(smallest), "{printed}");
 }
