@@ -11,6 +11,7 @@ use Rattle.rows.specs.References.{references, from-frame}
 use Rattle.lines.specs.Line.{N, X, Z}
 use Rattle.history.specs.Frames.{without-native}
 use Rattle.history.specs.Handles.{local, makes}
+use Rattle.history.specs.Capacities.{native-capacity}
 use Rattle.history.specs.Buffers.{gets}
 use Rattle.history.specs.Acceptance.{made-by}
 use Rattle.book.specs.Threads.{thread-in}
@@ -31,10 +32,10 @@ env-old b t env own e z = rw (ne-eqb (thread-in b t .env) 0 (λ q. z (e ∙ q)))
 
 -- ---- the book, one move after another
 
-pub book-entered : (b b1 b2 b3 b4 : List ℕ) (t env : ℕ) → b1 ≡ frame-pushed b t 16 false → b2 ≡ env-kept b1 t env → b3 ≡ pending-set b2 t 0 → b4 ≡ line-counted b3
-    → b4 ≡ entered-book b t env
+pub book-entered : (b b1 b2 b3 b4 : List ℕ) (t env : ℕ) (hs : List ℕ) → b1 ≡ frame-pushed b t (native-capacity hs) false → b2 ≡ env-kept b1 t env → b3 ≡ pending-set b2 t 0 → b4 ≡ line-counted b3
+    → b4 ≡ entered-book b t env hs
 unfolding entered-book
-book-entered b b1 b2 b3 b4 t env e1 e2 e3 e4 =
+book-entered b b1 b2 b3 b4 t env hs e1 e2 e3 e4 =
     e4 ∙ ap line-counted (e3 ∙ ap (λ (x : List ℕ). pending-set x t 0) (e2 ∙ ap (λ (x : List ℕ). env-kept x t env) e1))
 
 pub book-left : (b b1 b2 : List ℕ) (t : ℕ) → b1 ≡ native-left b t → b2 ≡ line-counted b1 → b2 ≡ left-book b t
@@ -45,7 +46,7 @@ book-left b b1 b2 t e1 e2 = e2 ∙ ap line-counted e1
 
 module _ (rs ms ps ns b rs' ms' b' : List ℕ) (line n : ℕ) where
   pub entered : (t env d : ℕ) (hs : List ℕ) → d ≡ length (thread-in b t .frames) → table rs' ms' ≡ all-taken references (table rs ms) (locals line t (d + 1) hs)
-      → b' ≡ entered-book b t env → tables rs' ms' ps ns b' ≡ acted line (N t env hs) n (tables rs ms ps ns b)
+      → b' ≡ entered-book b t env hs → tables rs' ms' ps ns b' ≡ acted line (N t env hs) n (tables rs ms ps ns b)
   unfolding acted references-after pins-after book-after made-by makes gets all-taken seen-in entered-book
   entered t env d hs ed er eb =
       let rows : table rs' ms' ≡ all-taken references (table rs ms) (map (reference-of line) (map (local t (suc (length (thread-in b t .frames)))) hs)) =

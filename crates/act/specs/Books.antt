@@ -1,16 +1,14 @@
 -- The book after an accepted line, its open items as they were. Assumes nothing.
 use Prim.Native.Nat.{ℕ}
-use mathlib.Core.Bool.{false}
 use mathlib.Core.List.{List}
 use lib.Dec.{eqb}
 use Rattle.words.specs.Choice.{if_then_else_}
 use Rattle.facts.specs.Named.{PopLocalFrame}
-use Rattle.history.specs.Capacities.{native-capacity}
-use Rattle.book.specs.Moves.{frame-pushed, native-left, frame-popped, pending-set, line-counted}
-use Rattle.tables.specs.Acting.{env-kept}
+use Rattle.book.specs.Moves.{native-left, frame-popped, line-counted}
+use Rattle.tables.specs.Acting.{native-entered}
 
-unfoldable pub entered-book : List ℕ → ℕ → ℕ → List ℕ
-entered-book b t env = line-counted (pending-set (env-kept (frame-pushed b t native-capacity false) t env) t 0)
+unfoldable pub entered-book : List ℕ → ℕ → ℕ → List ℕ → List ℕ
+entered-book b t env hs = line-counted (native-entered b t env hs)
 
 unfoldable pub left-book : List ℕ → ℕ → List ℕ
 left-book b t = line-counted (native-left b t)

@@ -14,7 +14,8 @@ ghost use Rattle.tables.specs.Acting.{all-taken, env-kept, acted};
 ghost use Rattle.act.specs.Rows.{locals};
 ghost use Rattle.act.specs.Books.{entered-book};
 
-const NATIVE_CAPACITY: u64 = 16;
+// The room for new locals in a native's frame; its handles come on top.
+const NEW_LOCALS: u64 = 16;
 
 // A row for each handle, in their order.
 fn take_all(rows: &mut [Number], marks: &mut [u64], line: u32, t: u32, d: u32, hs: &[Handle])
@@ -45,10 +46,10 @@ fn keep_env(book: &mut [u64], t: u32, env: Handle)
     }
 }
 
-fn write_book(book: &mut [u64], t: u32, env: Handle)
-    ensures { λ _. ⌜ now (book .exit) ≡ entered-book (now (book .entry)) t env ⌝ }
+fn write_book(book: &mut [u64], t: u32, env: Handle, hs: &[Handle])
+    ensures { λ _. ⌜ now (book .exit) ≡ entered-book (now (book .entry)) t env (now (hs .entry)) ⌝ }
 {
-    book::push_frame(book, t, NATIVE_CAPACITY, false);
+    book::push_frame(book, t, NEW_LOCALS + hs.len() as u64, false);
     keep_env(book, t, env);
     book::set_pending(book, t, 0);
     book::count_line(book);
@@ -68,5 +69,5 @@ pub fn enter(
 {
     let d = book::frames_of(book, t);
     take_all(rows, marks, line, t, d + 1, hs);
-    write_book(book, t, env);
+    write_book(book, t, env, hs);
 }

@@ -25,7 +25,7 @@ use Rattle.book.specs.Threads.{Thread, thread-in}
 use Rattle.book.specs.Moves.{frame-pushed, native-left, frame-popped, capacity-raised, env-set, pending-set, monitor-added, monitor-taken}
 use Rattle.book.specs.Changes.{with-frame, cut-to, with-raised, with-pending, with-monitors, with-env, stay, Changes}
 use Rattle.book.proofs.Changing.{frame-pushed-changes, native-left-changes, frame-popped-changes, capacity-raised-changes, env-set-changes, pending-set-changes, monitor-added-changes, monitor-taken-changes, and-then}
-use Rattle.tables.specs.Acting.{env-kept, status-acted}
+use Rattle.tables.specs.Acting.{env-kept, native-entered, status-acted}
 use Rattle.demands.specs.Tied.{past-thread}
 
 -- ---- a thread after a line of its own: `held` locals are alive in its top frame, and `n` was asked of its open call
@@ -114,23 +114,23 @@ module _ (b : List ℕ) (t : ℕ) (stands : Stands b t) (held n : ℕ) where
   env-keeps d h env false = unchanged
 
   entered-thread : (env : ℕ) (hs : List ℕ) (x : Thread) (q : Bool) → eqb (x .env) 0 ≡ q
-      → with-pending 0 (if q then with-env env (with-frame native-capacity entered x) else with-frame native-capacity entered x) ≡ thread-after (N t env hs) held n x
+      → with-pending 0 (if q then with-env env (with-frame (native-capacity hs) entered x) else with-frame (native-capacity hs) entered x) ≡ thread-after (N t env hs) held n x
   unfolding with-pending with-env with-frame thread-after
   entered-thread env hs x true is = rw is
   entered-thread env hs x false is = rw is
 
   pub enter-changes : (env : ℕ) (hs : List ℕ) → length (thread-in b t .frames) < deepest
-      → Changes b (pending-set (env-kept (frame-pushed b t native-capacity false) t env) t 0) t (thread-after (N t env hs) held n) stay
+      → Changes b (native-entered b t env hs) t (thread-after (N t env hs) held n) stay
   enter-changes env hs few =
-      let d = frame-pushed b t native-capacity false in
+      let d = frame-pushed b t (native-capacity hs) false in
       let q = eqb (thread-in d t .env) 0 in
-      let first = frame-pushed-changes b t native-capacity false stands few in
+      let first = frame-pushed-changes b t (native-capacity hs) false stands few in
       let second = env-keeps d (omega (arith, first .as-long)) env q in
       let third = pending-set-changes (env-kept d t env) t 0 (omega (arith, first .as-long, second .as-long)) in
       becomes (thread-after (N t env hs) held n) (and-then (and-then first second) third)
       (entered-thread env hs (thread-in b t) q (sym (ap (λ (x : Thread). eqb (x .env) 0) (first .here ∙ framed (thread-in b t)))))
     where
-      framed : (x : Thread) → with-frame native-capacity entered x ≡ record { frames = entered ∷ x .frames; capacities = native-capacity ∷ x .capacities; pending = x .pending; monitors = x .monitors; env = x .env }
+      framed : (x : Thread) → with-frame (native-capacity hs) entered x ≡ record { frames = entered ∷ x .frames; capacities = native-capacity hs ∷ x .capacities; pending = x .pending; monitors = x .monitors; env = x .env }
       framed x = unfold with-frame in refl
 
   -- ---- X

@@ -30,8 +30,8 @@ module _ (t env : ℕ) (hs : List ℕ) (past : History) where
   pub enter-frames : frames t (N t env hs ∷ past) ≡ entered ∷ frames t past
   enter-frames = own-frames t (N t env hs) past (eqb-self t)
 
-  -- of capacity 16
-  pub enter-capacities : capacities t (N t env hs ∷ past) ≡ 16 ∷ capacities t past
+  -- of capacity 16 plus the number of its handles
+  pub enter-capacities : capacities t (N t env hs ∷ past) ≡ (16 + length hs) ∷ capacities t past
   enter-capacities = own-capacities t (N t env hs) past (eqb-self t)
 
   -- pending becomes 0

@@ -81,7 +81,7 @@ lower-returned t f p r past =
 
 entered-lower : (t env : ℕ) (hs : List ℕ) (past : History) → lower-of t (N t env hs ∷ past) ≡ capacities t past
 unfolding lower-of
-entered-lower t env hs past = rw (enter-frames t env hs past, enter-capacities t env hs past) (lower-entered native-capacity (frames t past) (capacities t past))
+entered-lower t env hs past = rw (enter-frames t env hs past, enter-capacities t env hs past) (lower-entered (native-capacity hs) (frames t past) (capacities t past))
 
 left-lower : (t r : ℕ) (past : History) → capacities t (X t r ∷ past) ≡ lower-of t past
 unfolding lower-of lower depth

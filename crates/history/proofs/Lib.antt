@@ -7,6 +7,7 @@ pub mod Acts
 pub mod Changes
 pub mod Living
 pub mod OneMore
+pub mod Arguments
 pub mod Buffers
 pub mod Families
 pub mod After
@@ -37,6 +38,7 @@ mod ShutOutCases
 mod StepCases
 mod CallCases
 mod ReturnCases
+mod CapacityCases
 mod JudgedCases
 mod RefusedCases
 mod LineCases

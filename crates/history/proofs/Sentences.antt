@@ -3,6 +3,7 @@ use mathlib.Core.Path.{refl}
 use Rattle.history.specs.Sentences.{On-breaches, On-handles, On-buffers, On-lines, On-refusals, On-leaks, On-input, On-replies, Shut-out}
 use Rattle.history.proofs.Living.{living-are, local-alive, shared-alive}
 use Rattle.history.proofs.Acts.{enter-items, call-items, leave-items, return-items, enter-frames, enter-capacities, enter-pending, pop-frames, pop-nothing, pop-capacities, return-pending, call-pending, push-frames, enter-monitors, exit-monitors, other-status-frames, other-status-capacities, other-status-monitors}
+use Rattle.history.proofs.Arguments.{enter-alive}
 use Rattle.history.proofs.Changes.{nothing-at-start, items-kept, frames-kept, capacities-kept, pending-kept, monitors-kept}
 use Rattle.history.proofs.Breaches.{breaches-are}
 use Rattle.history.proofs.Findings.{findings-are, findings-ordered, found-once}
@@ -47,6 +48,7 @@ on-lines =
       return-items = return-items;
       enter-frames = enter-frames;
       enter-capacities = enter-capacities;
+      enter-alive = enter-alive;
       enter-pending = enter-pending;
       pop-frames = pop-frames;
       pop-nothing = pop-nothing;

@@ -159,22 +159,6 @@ steps =
     ∷ []
     prints
     "end open 2 0 0" ∷ [])
-    ∷ (case "a frame of capacity 16, N's handles counted like others" reads
-    "N 1 100 1 5 9 13 17 21 25 29"
-    ∷ "C 1 100 6 0 0 0 0" ∷ "R 1 6 33 0"
-    ∷ "C 1 100 6 0 0 0 0" ∷ "R 1 6 37 0"
-    ∷ "C 1 100 6 0 0 0 0" ∷ "R 1 6 41 0"
-    ∷ "C 1 100 6 0 0 0 0" ∷ "R 1 6 45 0"
-    ∷ "C 1 100 6 0 0 0 0" ∷ "R 1 6 49 0"
-    ∷ "C 1 100 6 0 0 0 0" ∷ "R 1 6 53 0"
-    ∷ "C 1 100 6 0 0 0 0" ∷ "R 1 6 57 0"
-    ∷ "C 1 100 6 0 0 0 0" ∷ "R 1 6 61 0"
-    ∷ "C 1 100 6 0 0 0 0" ∷ "R 1 6 65 0"
-    ∷ []
-    prints
-    "19 11 0 65"
-    ∷ "end open 19 0 1"
-    ∷ [])
     ∷ (case "N's handles stand in its own frame" reads
     "N 1 100 5"
     ∷ "C 1 100 19 0 0 0 1" ∷ "R 1 19 0 0"

@@ -3,7 +3,7 @@ use Prim.Native.Nat.{ℕ, _+_, _-_, max}
 use mathlib.Core.Bool.{not}
 use mathlib.Core.List.{List, [], _∷_}
 use lib.Dec.{eqb}
-use lib.ListN.{drop}
+use lib.ListN.{length, drop}
 use Rattle.words.specs.Choice.{if_then_else_}
 use Rattle.facts.specs.Named.{PushLocalFrame, EnsureLocalCapacity}
 use Rattle.lines.specs.Line.{Line, if-N_then_else_, if-R_then_else_, is-zero}
@@ -12,9 +12,9 @@ use Rattle.history.specs.Items.{items, top-of, asked}
 use Rattle.history.specs.Frames.{depth}
 use Rattle.history.specs.Handles.{alive-in}
 
--- N opens a frame of capacity 16
-abbrev pub native-capacity : ℕ
-native-capacity = 16
+-- N opens a frame of capacity 16 plus the number of its handles
+abbrev pub native-capacity : List ℕ → ℕ
+native-capacity hs = 16 + length hs
 
 -- the top capacity, k at least
 abbrev pub raised : ℕ → List ℕ → List ℕ
@@ -31,7 +31,7 @@ pub record Finds : Type 0 where
 -- A frame that goes takes its capacity with it.
 abbrev pub capacities-after : Line → Finds → List ℕ → List ℕ
 capacities-after e x cs =
-    if-N e then (λ t env hs. native-capacity ∷ cs)
+    if-N e then (λ t env hs. native-capacity hs ∷ cs)
     else if-R e then
     (λ t f r p.
     if not (is-zero r) then cs

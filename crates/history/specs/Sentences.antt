@@ -105,9 +105,11 @@ pub record On-lines : Type 0 where
   pub call-items : (t env f a b c : ℕ) (n : ℤ) (past : History) → items t (C t env f a b c n ∷ past) ≡ in-call f (above-zero n) ∷ items t past
   pub leave-items : (t r : ℕ) (past : History) → items t (X t r ∷ past) ≡ tail (items t past)
   pub return-items : (t f p : ℕ) (r : ℤ) (past : History) → items t (R t f r p ∷ past) ≡ tail (items t past)
-  -- N opens a frame of capacity 16
+  -- N opens a frame of capacity 16 plus the number of its handles
   pub enter-frames : (t env : ℕ) (hs : List ℕ) (past : History) → frames t (N t env hs ∷ past) ≡ entered ∷ frames t past
-  pub enter-capacities : (t env : ℕ) (hs : List ℕ) (past : History) → capacities t (N t env hs ∷ past) ≡ 16 ∷ capacities t past
+  pub enter-capacities : (t env : ℕ) (hs : List ℕ) (past : History) → capacities t (N t env hs ∷ past) ≡ (16 + length hs) ∷ capacities t past
+  -- its handles are counted like others: they are the locals alive in that frame
+  pub enter-alive : (t env : ℕ) (hs : List ℕ) (past : History) → alive-in t (depth t (N t env hs ∷ past)) (N t env hs ∷ past) ≡ length hs
   -- pending becomes 0
   pub enter-pending : (t env : ℕ) (hs : List ℕ) (past : History) → pending t (N t env hs ∷ past) ≡ 0
   -- C of 20 ends the top frame, if that frame was pushed

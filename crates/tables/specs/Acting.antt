@@ -73,6 +73,10 @@ pins-after line e T =
 abbrev pub env-kept : List ℕ → ℕ → ℕ → List ℕ
 env-kept b t env = if eqb (thread-in b t .env) 0 then env-set b t env else b
 
+-- N opens a frame, keeps the env and clears pending
+abbrev pub native-entered : List ℕ → ℕ → ℕ → List ℕ → List ℕ
+native-entered b t env hs = pending-set (env-kept (frame-pushed b t (native-capacity hs) false) t env) t 0
+
 -- what a status of 0 does: `held` locals are alive in the top frame, and `n` was asked of the open call
 abbrev pub status-acted : List ℕ → ℕ → ℕ → ℕ → ℕ → List ℕ
 status-acted b t f held n =
@@ -84,7 +88,7 @@ status-acted b t f held n =
 
 unfoldable pub book-after : Line → ℕ → Tables → List ℕ
 book-after e n T =
-    if-N e then (λ t env hs. pending-set (env-kept (frame-pushed (T .book) t native-capacity false) t env) t 0)
+    if-N e then (λ t env hs. native-entered (T .book) t env hs)
     else if-X e then (λ t r. native-left (T .book) t)
     else if-C e then (λ t env f a b c m. if eqb f PopLocalFrame then frame-popped (T .book) t else T .book)
     else if-R e then
