@@ -15,6 +15,9 @@ const NEW_WEAK_GLOBAL_REF: u32 = 226;
 /// The family of GetPrimitiveArrayCritical.
 const CRITICAL_ARRAY: Family = Family(FIRST_CRITICAL as u8);
 
+/// What a native that is never left asks for by 26.
+const ASKED: i32 = 400;
+
 /// Functions that use handles and make nothing.
 const USES: [u32; 12] = [24, 32, 40, 50, 70, 80, 97, 104, 108, 154, 164, 171];
 
@@ -197,8 +200,8 @@ impl<W: Write> Big<'_, W> {
         let book = self.judge.tables().book;
         let is_pending = book.is_pending(thread);
         let capacity = book.capacity(thread, book.frames(thread));
-        if self.kind.nested == 0 && capacity == NATIVE_CAPACITY.into() {
-            return self.put_call(thread, ENSURE_LOCAL_CAPACITY, [0; 3], 400);
+        if self.kind.nested == 0 && capacity < ASKED as Word {
+            return self.put_call(thread, ENSURE_LOCAL_CAPACITY, [0; 3], ASKED);
         }
         if is_pending && self.random.percent(80) {
             return self.put_call(thread, EXCEPTION_CLEAR, [0; 3], 0);

@@ -8,7 +8,7 @@ use std::collections::BTreeMap;
 
 /// How many traces there are to choose from, the most lines of one, and how many of those chosen are to show a sight.
 const CANDIDATES: u64 = 20_000;
-const MOST_LINES: u32 = 45;
+const MOST_LINES: u32 = 50;
 const TIMES: u32 = 1;
 /// The most bytes of a line before its LF, as what a longer line holds is not looked at.
 const MOST_BYTES: usize = 200;
@@ -102,8 +102,10 @@ fn candidate(seed: u64) -> Made {
         0 => (random.below(9), random.below(5)),
         _ => (REFERENCE_ROWS, PIN_ROWS),
     };
-    let (_, most) = profile.usual_lines;
-    let lines = random.between(0, most.min(MOST_LINES)) as usize;
+    let lines = match profile.usual_lines {
+        (fewest, most) if most <= MOST_LINES => random.between(fewest, most),
+        _ => random.between(0, MOST_LINES),
+    } as usize;
     let mut made = Made {
         name: format!(
             "traces --profile {} --seed {seed} --lines {lines} --rooms {reference_rows} {pin_rows}",

@@ -20,7 +20,7 @@ pub const MOST_LINES: u32 = 1_000_000;
 pub const MOST_ITEMS: usize = 64;
 /// The most frames of a thread.
 pub const MOST_FRAMES: usize = 64;
-/// The capacity of the frame a native opens.
+/// A native frame's capacity is this plus the number of handles on its N line.
 pub const NATIVE_CAPACITY: u32 = 16;
 
 /// The numbers of a reference row and of a pin row.

@@ -49,8 +49,9 @@ pub struct Profile {
     nested: u32,
     /// A native returns rather than calls.
     left: u32,
-    /// An N names all the handles it may.
+    /// An N names all the handles it may; any other names fewer than so many.
     crowded: u32,
+    handles: usize,
     /// An exception is pending after an R.
     pending: u32,
     /// A call is of a favoured function.
@@ -85,6 +86,7 @@ const MIXED: Profile = Profile {
     nested: 15,
     left: 8,
     crowded: 5,
+    handles: 4,
     pending: 6,
     favoured: 40,
     functions: &[
@@ -146,14 +148,19 @@ pub const PROFILES: [Profile; 19] = [
     },
     Profile {
         name: "overflow",
+        usual_lines: (200, 400),
         threads: (1, 2),
-        numbers: 40,
-        nested: 5,
-        left: 2,
+        numbers: 80,
+        nested: 4,
+        left: 3,
+        handles: MOST_HANDLES + 1,
         spoilt: 3,
         pending: 2,
         favoured: 95,
-        functions: &[5, 6, 15, 19, 20, 23, 23, 23, 25, 26, 26, 31, 64, 95, 172],
+        functions: &[
+            5, 5, 6, 6, 6, 6, 6, 6, 15, 15, 19, 20, 23, 25, 25, 26, 31, 31, 64, 64, 95, 95, 172,
+            172,
+        ],
         ..MIXED
     },
     Profile {
@@ -280,7 +287,7 @@ pub const PROFILES: [Profile; 19] = [
 
 const FEW: Profile = Profile {
     name: "few",
-    usual_lines: (10, 40),
+    usual_lines: (0, 40),
     threads: (1, 2),
     numbers: 2,
     at_ends: 3,
@@ -330,20 +337,28 @@ pub const DENSE: [Profile; 7] = [
     },
     Profile {
         name: "full",
-        usual_lines: (20, 60),
+        usual_lines: (50, 50),
         threads: (1, 1),
-        numbers: 40,
-        spoilt: 3,
-        stale: 3,
-        nested: 5,
-        left: 1,
-        crowded: 95,
-        functions: &[6, 6, 6, 6, 6, 6, 6, 6, 6, 19, 23, 26],
+        numbers: 80,
+        at_ends: 0,
+        spoilt: 0,
+        stale: 0,
+        nested: 3,
+        left: 0,
+        crowded: 0,
+        handles: MOST_HANDLES + 1,
+        pending: 0,
+        favoured: 100,
+        functions: &[
+            6, 6, 6, 6, 6, 6, 6, 6, 6, 6, 6, 6, 6, 6, 6, 6, 6, 6, 6, 6, 6, 6, 19, 23, 26, 26,
+        ],
+        refused: 0,
+        closed: 10,
         ..FEW
     },
     Profile {
         name: "raised",
-        usual_lines: (20, 60),
+        usual_lines: (0, 45),
         threads: (1, 1),
         numbers: 6,
         spoilt: 0,
@@ -569,7 +584,7 @@ impl Maker<'_> {
         let count = if self.random.percent(self.profile.crowded) {
             MOST_HANDLES
         } else {
-            self.random.below(4)
+            self.random.below(self.profile.handles)
         };
         let mut handles = [0; MOST_HANDLES];
         let mut named = 0;

@@ -371,6 +371,7 @@ impl Watch {
             ));
             self.show(format!("R: over {over}, capacity {}", top.capacity_by));
             self.show(format!("R: over {over}, others {others}, below {below}"));
+            self.arguments(thread, over);
         } else if held == capacity && "LGWB".contains(kind) {
             self.show(format!("R: {kind} in a full frame, made {makes}"));
         }
@@ -380,6 +381,32 @@ impl Watch {
                 self.past.has_ended()
             ));
         }
+    }
+
+    /// Where a local is the last that the top frame holds, or one over: what the arguments of the native are.
+    fn arguments(&mut self, thread: u32, over: bool) {
+        let frames = self.past.frames(thread);
+        let (outermost, top) = (&frames[0], frames.last().expect("a frame"));
+        let native = frames.iter().rfind(|frame| !frame.is_pushed());
+        let arguments = &native.expect("a native").arguments;
+        let (count, pushed) = (arguments.len(), top.is_pushed());
+        let by = top.capacity_by.split(" of").next().expect("a part");
+        let mut shown = vec![format!(
+            "R: over {over}, pushed {pushed}, arguments {}, capacity {by}",
+            count > 0
+        )];
+        if !pushed && by != "by 26" {
+            let nested = (frames.len() > 1).then(|| count.cmp(&outermost.arguments.len()));
+            let references = self.judge.tables().references;
+            let is_ended = |&handle: &Handle| !references.is_alive(thread, handle);
+            let ended = arguments.iter().any(is_ended);
+            shown.push(format!("R: over {over}, native of {count}"));
+            shown.push(format!(
+                "R: over {over}, native, beside the outermost {nested:?}"
+            ));
+            shown.push(format!("R: over {over}, native, argument ended {ended}"));
+        }
+        self.sights.extend(shown);
     }
 
     fn close(&mut self) {

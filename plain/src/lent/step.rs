@@ -87,7 +87,8 @@ impl Tables<'_> {
 
         self.book.set_env(thread, env);
         self.book.set_pending(thread, 0);
-        self.book.push_frame(thread, NATIVE_CAPACITY, false);
+        let capacity = NATIVE_CAPACITY + handles.len() as u32;
+        self.book.push_frame(thread, capacity, false);
         self.book.push_native(thread);
         let (frame, line) = (self.book.frames(thread), self.line_number());
         for &handle in handles {

@@ -38,6 +38,8 @@ struct Thread {
 #[derive(Clone)]
 pub struct Frame {
     pub opened: String,
+    /// The handles of its N; a pushed frame has none.
+    pub arguments: Vec<Handle>,
     pub since: String,
     capacity: Word,
     /// What set its capacity.
@@ -48,6 +50,7 @@ impl Frame {
     fn new(opened: String, capacity: Word, capacity_by: String) -> Frame {
         Frame {
             opened,
+            arguments: Vec::new(),
             since: String::new(),
             capacity,
             capacity_by,
@@ -206,12 +209,13 @@ impl Past {
         let is_uncovered = happened.frames.len() > depth;
         happened.frames.truncate(depth);
         match *event {
-            Event::N { .. } => {
+            Event::N { count, handles, .. } => {
                 let capacity = after.book.capacity(own, depth);
                 happened.pending = "by N".into();
-                happened
-                    .frames
-                    .push(Frame::new("native".into(), capacity, "by N".into()));
+                happened.frames.push(Frame {
+                    arguments: handles[..count].to_vec(),
+                    ..Frame::new("native".into(), capacity, "by N".into())
+                });
             }
             Event::C { capacity, .. } => {
                 happened.calls += 1;

@@ -9,7 +9,7 @@ fn all<'a>(parts: &[&[&'a str]]) -> Vec<&'a str> {
 }
 
 #[rustfmt::skip]
-const MAKES: [&str; 24] = [
+const MAKES: [&str; 36] = [
     "C 1 100 6 0 0 0 0", "R 1 6 101 0",
     "C 1 100 6 0 0 0 0", "R 1 6 105 0",
     "C 1 100 6 0 0 0 0", "R 1 6 109 0",
@@ -22,6 +22,12 @@ const MAKES: [&str; 24] = [
     "C 1 100 6 0 0 0 0", "R 1 6 137 0",
     "C 1 100 6 0 0 0 0", "R 1 6 141 0",
     "C 1 100 6 0 0 0 0", "R 1 6 145 0",
+    "C 1 100 6 0 0 0 0", "R 1 6 149 0",
+    "C 1 100 6 0 0 0 0", "R 1 6 153 0",
+    "C 1 100 6 0 0 0 0", "R 1 6 157 0",
+    "C 1 100 6 0 0 0 0", "R 1 6 161 0",
+    "C 1 100 6 0 0 0 0", "R 1 6 165 0",
+    "C 1 100 6 0 0 0 0", "R 1 6 169 0",
 ];
 
 /// Makes this many locals in thread 1, handles 101, 105 and so on.
@@ -157,18 +163,18 @@ fn n_is_that_of_the_matching_c_however_much_is_nested_between() {
 
 #[test]
 fn twenty_six_raises_by_the_locals_alive_when_r_acts() {
-    // Eight named and three made, then room for six more: 17 locals.
+    // Eight named and three made, then room for fourteen more: 25 locals.
     let lines = all(&[
         &["N 1 100 1 5 9 13 17 21 25 29"],
         makes(3),
-        &["C 1 100 26 0 0 0 6", "R 1 26 0 0"],
+        &["C 1 100 26 0 0 0 14", "R 1 26 0 0"],
     ]);
     let (mut judge, _) = judged(&lines);
-    assert_eq!(judge.tables().book.capacity(1, 1), 17);
-    let (mut judge, _) = judged(&all(&[&lines, &["C 1 100 26 0 0 0 5", "R 1 26 0 0"]]));
-    assert_eq!(judge.tables().book.capacity(1, 1), 17);
-    let (mut judge, _) = judged(&all(&[&lines, &["C 1 100 26 0 0 0 7", "R 1 26 -1 0"]]));
-    assert_eq!(judge.tables().book.capacity(1, 1), 17);
+    assert_eq!(judge.tables().book.capacity(1, 1), 25);
+    let (mut judge, _) = judged(&all(&[&lines, &["C 1 100 26 0 0 0 13", "R 1 26 0 0"]]));
+    assert_eq!(judge.tables().book.capacity(1, 1), 25);
+    let (mut judge, _) = judged(&all(&[&lines, &["C 1 100 26 0 0 0 15", "R 1 26 -1 0"]]));
+    assert_eq!(judge.tables().book.capacity(1, 1), 25);
     let greatest = ["C 1 100 26 0 0 0 2147483647", "R 1 26 0 0"];
     let (mut judge, _) = judged(&all(&[&lines, &greatest]));
     assert_eq!(judge.tables().book.capacity(1, 1), 2_147_483_658);
@@ -180,21 +186,15 @@ fn twenty_six_with_a_negative_n_can_still_raise_the_capacity() {
         let ensure = format!("C 1 100 26 0 0 0 {n}");
         let lines = all(&[
             &["N 1 100 1 5 9 13 17 21 25 29"],
-            makes(12),
+            makes(18),
             &[&ensure, "R 1 26 0 0", "C 1 100 6 0 0 0 0", "R 1 6 33 0"],
         ]);
-        let overflows = [
-            "19 11 0 133",
-            "21 11 0 137",
-            "23 11 0 141",
-            "25 11 0 145",
-            "29 11 0 33",
-        ];
-        assert_eq!(findings(&lines)[..4], overflows[..4]);
+        let overflows = ["35 11 0 165", "37 11 0 169", "41 11 0 33"];
+        assert_eq!(findings(&lines)[..2], overflows[..2]);
         let deleted = ["C 1 100 23 1 0 0 0", "R 1 23 0 0"];
-        let again = all(&[&lines[..27], &deleted, &lines[27..]]);
+        let again = all(&[&lines[..39], &deleted, &lines[39..]]);
         assert_eq!(findings(&lines), overflows);
-        assert_eq!(findings(&again), overflows[..4], "{n}");
+        assert_eq!(findings(&again), overflows[..2], "{n}");
     }
 }
 
@@ -235,15 +235,84 @@ fn twentys_result_is_made_in_the_frame_below_and_overflow_judged_there() {
 
 #[test]
 fn overflow_is_judged_at_each_r_that_makes_a_local() {
-    let lines = all(&[&["N 1 100 1 5 9 13 17 21 25 29"], makes(10)]);
-    assert_eq!(findings(&lines), ["19 11 0 133", "21 11 0 137"]);
+    let lines = all(&[&["N 1 100 1 5 9 13 17 21 25 29"], makes(18)]);
+    assert_eq!(findings(&lines), ["35 11 0 165", "37 11 0 169"]);
+}
+
+#[test]
+fn a_natives_capacity_is_16_plus_the_handles_on_its_n_line() {
+    for count in 0..=8 {
+        let handles: Vec<String> = (0..count)
+            .map(|index| format!(" {}", 4 * index + 1))
+            .collect();
+        let enter = "N 1 100".to_string() + &handles.concat();
+        assert!(findings(&all(&[&[&enter], makes(16)])).is_empty());
+        let lines = all(&[&[&enter], makes(17)]);
+        assert_eq!(findings(&lines), ["35 11 0 165"], "{enter}");
+    }
+}
+
+#[test]
+fn a_nested_native_has_its_own_capacity_and_leaves_the_outer_its() {
+    for (outer, inner) in [
+        ("N 1 100 1 5 9", "N 1 100 13"),
+        ("N 1 100", "N 1 100 1 5 9 13 17 21 25 29"),
+    ] {
+        let lines = all(&[
+            &[outer, "C 1 100 4 0 0 0 0", inner],
+            makes(17),
+            &["X 1 0", "R 1 4 0 0"],
+            makes(17),
+        ]);
+        assert_eq!(findings(&lines), ["37 11 0 165", "73 11 0 165"], "{inner}");
+    }
+}
+
+#[test]
+fn twenty_six_raises_from_16_plus_the_handles() {
+    for (n, overflows) in [
+        (8, &["37 11 0 165", "39 11 0 169"][..]),
+        (9, &["37 11 0 165", "39 11 0 169"]),
+        (16, &["37 11 0 165", "39 11 0 169"]),
+        (17, &["39 11 0 169"]),
+        (18, &[]),
+    ] {
+        let ensure = format!("C 1 100 26 0 0 0 {n}");
+        let lines = all(&[
+            &["N 1 100 1 5 9 13 17 21 25 29", &ensure, "R 1 26 0 0"],
+            makes(18),
+        ]);
+        assert_eq!(findings(&lines), overflows, "{n}");
+    }
+}
+
+#[test]
+fn an_argument_deleted_leaves_room_for_another_local() {
+    let lines = all(&[
+        &["N 1 100 1 5", "C 1 100 23 1 0 0 0", "R 1 23 0 0"],
+        makes(18),
+    ]);
+    assert_eq!(findings(&lines), ["39 11 0 169"]);
+}
+
+#[test]
+fn a_pushed_frame_has_the_capacity_asked_for_whatever_the_arguments() {
+    let lines = all(&[
+        &[
+            "N 1 100 1 5 9 13 17 21 25 29",
+            "C 1 100 19 0 0 0 1",
+            "R 1 19 0 0",
+        ],
+        makes(2),
+    ]);
+    assert_eq!(findings(&lines), ["7 11 0 105"]);
 }
 
 #[test]
 fn overflow_is_never_judged_at_n_and_n_counts_its_handles() {
     let lines = all(&[
         &["N 1 100 1 5 9 13 17 21 25 29"],
-        makes(8),
+        makes(16),
         &["C 1 100 4 0 0 0 0", "N 1 100 33 37"],
     ]);
     assert!(findings(&lines).is_empty());

@@ -102,6 +102,7 @@ fn the_chosen_traces_show_all_that_the_candidates_show() {
     };
     let (candidates, chosen) = (candidates(3), chosen(3));
     assert_eq!(shown(&chosen), shown(&candidates));
+    assert_shown(&filled(), &shown(&chosen));
     assert!(chosen.len() * 20 < candidates.len(), "{}", chosen.len());
     let lines: usize = chosen.iter().map(|made| made.lines().count()).sum();
     assert!(lines < 5_000, "{lines}");
@@ -136,9 +137,42 @@ fn what_leaks_show_comes_up() {
     ] {
         wanted.push(format!("leaks: rules {rules}, rows {rows}"));
     }
+    assert_shown(&wanted, &shown);
+}
+
+/// What frames show that are filled, and one over, by the arguments of their native.
+fn filled() -> Vec<String> {
+    let mut filled = Vec::new();
+    for over in [false, true] {
+        let mut add = |sight: &str| filled.push(format!("R: over {over}, {sight}"));
+        for count in 0..=8 {
+            add(&format!("native of {count}"));
+        }
+        for nested in ["None", "Some(Less)", "Some(Greater)"] {
+            add(&format!("native, beside the outermost {nested}"));
+        }
+        add("native, argument ended true");
+        add("pushed false, arguments true, capacity by 26");
+        add("pushed false, arguments true, capacity kept by 26");
+        add("pushed true, arguments true, capacity by 19");
+    }
+    filled
+}
+
+#[test]
+fn frames_are_filled_whatever_the_arguments() {
+    let overflow = profile("overflow").unwrap();
+    let traces = (0..200).map(|seed| make(overflow, seed, 250, REFERENCE_ROWS, PIN_ROWS));
+    let sights = |trace: Vec<u8>| sights(&trace, REFERENCE_ROWS, PIN_ROWS);
+    assert_shown(&filled(), &traces.flat_map(sights).collect());
+}
+
+/// Each that is wanted starts one that is shown.
+#[track_caller]
+fn assert_shown(wanted: &[String], shown: &BTreeSet<String>) {
     for sight in wanted {
         assert!(
-            shown.iter().any(|shown| shown.starts_with(&sight)),
+            shown.iter().any(|shown| shown.starts_with(sight)),
             "{sight}"
         );
     }
