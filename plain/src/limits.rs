@@ -20,8 +20,8 @@ pub const MOST_LINES: u32 = 1_000_000;
 pub const MOST_ITEMS: usize = 64;
 /// The most frames of a thread.
 pub const MOST_FRAMES: usize = 64;
-/// A native frame's capacity is this plus the number of handles on its N line.
-pub const NATIVE_CAPACITY: u32 = 16;
+/// The room for new locals in a native's frame; the handles on its N line come on top.
+pub const NEW_LOCALS: u32 = 16;
 
 /// The numbers of a reference row and of a pin row.
 pub const REFERENCE_NUMBERS: usize = 4;

@@ -49,8 +49,9 @@ pub struct Profile {
     nested: u32,
     /// A native returns rather than calls.
     left: u32,
-    /// An N names all the handles it may; any other names fewer than so many.
+    /// An N names all the handles it may.
     crowded: u32,
+    /// Any other N names fewer than so many.
     handles: usize,
     /// An exception is pending after an R.
     pending: u32,

@@ -128,10 +128,10 @@ module _ (b : List ℕ) (t : ℕ) (stands : Stands b t) (held n : ℕ) where
       let second = env-keeps d (omega (arith, first .as-long)) env q in
       let third = pending-set-changes (env-kept d t env) t 0 (omega (arith, first .as-long, second .as-long)) in
       becomes (thread-after (N t env hs) held n) (and-then (and-then first second) third)
-      (entered-thread env hs (thread-in b t) q (sym (ap (λ (x : Thread). eqb (x .env) 0) (first .here ∙ framed (thread-in b t)))))
+      (entered-thread env hs (thread-in b t) q (sym (ap (λ (v : ℕ). eqb v 0) (ap (λ (x : Thread). x .env) (first .here) ∙ same-env (native-capacity hs) (thread-in b t)))))
     where
-      framed : (x : Thread) → with-frame (native-capacity hs) entered x ≡ record { frames = entered ∷ x .frames; capacities = native-capacity hs ∷ x .capacities; pending = x .pending; monitors = x .monitors; env = x .env }
-      framed x = unfold with-frame in refl
+      same-env : (k : ℕ) (x : Thread) → with-frame k entered x .env ≡ x .env
+      same-env k x = unfold with-frame in refl
 
   -- ---- X
 

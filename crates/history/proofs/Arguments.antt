@@ -1,7 +1,7 @@
 -- After an N, the locals alive in its frame are its handles. Assumes nothing.
-use Prim.Native.Nat.{ℕ, suc, _+_, _<_}
+use Prim.Native.Nat.{ℕ, suc, _<_}
 use mathlib.Core.Path.{_≡_, sym, ap, _∙_}
-use mathlib.Core.Bool.{Bool, true, not, false≢true}
+use mathlib.Core.Bool.{true, not, false≢true}
 use mathlib.Core.List.{List, _∷_, map, List·Memᴰ}
 use native.Mathlib.Omega.{arith}
 use lib.Dec.{eqb}
@@ -10,7 +10,7 @@ use borrow.Author.Tests.{eqb-true, lt-ltb}
 use Rattle.words.specs.Lists.{keep, count}
 use Rattle.lines.specs.Line.{N}
 use Rattle.history.specs.Past.{History}
-use Rattle.history.specs.Frames.{Frame, depth}
+use Rattle.history.specs.Frames.{depth}
 use Rattle.history.specs.Handles.{Alive, local, shared, in-frame, makes, ends, living, alive-in}
 use Rattle.history.proofs.Tests.{and-left, and-right, eqb-self}
 use Rattle.history.proofs.Counts.{count-append, count-map, count-all, some-member, keep-member}

@@ -87,7 +87,7 @@ impl Tables<'_> {
 
         self.book.set_env(thread, env);
         self.book.set_pending(thread, 0);
-        let capacity = NATIVE_CAPACITY + handles.len() as u32;
+        let capacity = NEW_LOCALS + handles.len() as u32;
         self.book.push_frame(thread, capacity, false);
         self.book.push_native(thread);
         let (frame, line) = (self.book.frames(thread), self.line_number());
