@@ -6,13 +6,13 @@ use native.Mathlib.Omega.{arith}
 use native.Mathlib.Nat.{add-assoc, add-zero}
 use native.Mathlib.Numerals.{add-one}
 use lib.ListN.{length, take, drop, set, length-append, length-drop, take-append-drop}
-use lib.Seq.{length-take-le, take-at, drop-append-add, drop-drop, set-split}
+use lib.Seq.{length-take-le, take-at, drop-at, drop-append-add, drop-drop, set-split, take-set-le}
 use borrow.Author.Tests.{le-leb, lt-leb}
 use Rattle.numbers.specs.declared.Room.{Room}
 use Rattle.numbers.specs.declared.Room.the-variants.{To, Short}
 use Rattle.numbers.specs.Decimal.{zero-digit, digits}
 use Rattle.numbers.specs.Writing.{put, Puts}
-use Rattle.numbers.proofs.Digits.{digit, digits-one, digits-step, length-one, length-step}
+use Rattle.numbers.proofs.Digits.{digits-one, digits-step, length-one, length-step}
 
 pub put-none : (d : List ℕ) (at : ℕ) → put d at [] ≡ d
 put-none d at = ap (λ k. take at d ++ drop k d) (add-zero at) ∙ take-append-drop at d
@@ -41,24 +41,32 @@ put-put d at xs ys h =
 pub put-cons : (d : List ℕ) (at b : ℕ) (xs : List ℕ) → at + suc (length xs) ≤ length d → put (set d at b) (at + 1) xs ≡ put d at (b ∷ xs)
 put-cons d at b xs h = ap (λ x. put x (at + 1) xs) (put-one d at b (omega arith)) ∙ put-put d at (b ∷ []) xs (omega arith)
 
--- ---- the digits of a number, the last one after those of the tenth part
+-- the last byte first, then those before it
+pub put-last : (d : List ℕ) (at b : ℕ) (xs : List ℕ) → at + length xs < length d → put (set d (at + length xs) b) at xs ≡ put d at (xs ++ (b ∷ []))
+put-last d at b xs h =
+    let p = at + length xs in
+    let here : drop p (set d p b) ≡ b ∷ drop (suc p) d = ap (drop p) (set-split d p b h) ∙ drop-at (take p d) (b ∷ drop (suc p) d) p (length-take-le p d (omega arith)) in
+    let past : suc p ≡ at + length (xs ++ (b ∷ [])) = simp length-append (omega arith) in
+    ap₂ (λ u v. u ++ (xs ++ v)) (take-set-le at d p b (omega arith)) (here ∙ ap (λ k. b ∷ drop k d) past)
+    ∙ ap (λ w. take at d ++ w) (sym (append-assoc xs (b ∷ []) (drop (at + length (xs ++ (b ∷ []))) d)))
 
-pub put-digit : (d : List ℕ) (at n : ℕ) → n < 10 → at < length d → (at + 1 ≡ at + length (digits n)) × (set d at (zero-digit + n) ≡ put d at (digits n))
-put-digit d at n h l =
-    let e = length-one n h in
-    (omega arith, put-one d at (zero-digit + n) l ∙ ap (put d at) (sym (digits-one n h)))
+-- ---- the digits of a number up to i: one alone, and the last one before those of the tenth part
+
+pub put-digit : (d : List ℕ) (at n : ℕ) {i : ℕ} → n < 10 → i + 1 ≡ at + length (digits n) → i < length d → set d i (zero-digit + n) ≡ put d at (digits n)
+put-digit d at n {i} h e l =
+    let k = length-one n h in
+    let same : i ≡ at = omega arith in
+    put-one d i (zero-digit + n) l ∙ ap₂ (put d) same (sym (digits-one n h))
 
 pub put-last-digit :
-    (d : List ℕ) (at n : ℕ) {p : ℕ} {d' : List ℕ} → 10 ≤ n → at + length (digits n) ≤ length d → p ≡ at + length (digits (n / 10)) → p < length d' → d' ≡ put d at (digits (n / 10))
-    → (p + 1 ≡ at + length (digits n)) × (set d' p (zero-digit + n % 10) ≡ put d at (digits n))
-put-last-digit d at n {p} {d'} h l e r k =
-    let s = length-step n h in (
-      omega arith,
-      put-one d' p (zero-digit + n % 10) r
-          ∙ ap₂ (λ x i. put x i (digit (n % 10))) k e
-          ∙ put-put d at (digits (n / 10)) (digit (n % 10)) (omega arith)
-          ∙ ap (put d at) (sym (digits-step n h)),
-    )
+    (d : List ℕ) (at n : ℕ) {i : ℕ} → 10 ≤ n → i + 1 ≡ at + length (digits n) → i < length d
+    → put (set d i (zero-digit + n % 10)) at (digits (n / 10)) ≡ put d at (digits n)
+put-last-digit d at n {i} h e l =
+    let k = length-step n h in
+    let same : i ≡ at + length (digits (n / 10)) = omega arith in
+    ap (λ j. put (set d j (zero-digit + n % 10)) at (digits (n / 10))) same
+    ∙ put-last d at (zero-digit + n % 10) (digits (n / 10)) (omega arith)
+    ∙ ap (put d at) (sym (digits-step n h))
 
 -- ---- a writer's reply and what it leaves, with room and without
 

@@ -287,22 +287,30 @@ pub enum Room {
 pub fn width(n: u64) -> usize
     ensures { λ r. ⌜ (r ≡ length (digits n)) × (r ≤ 20) ⌝ }
 {
-    if n < 10 { 1 } else { width(n / 10) + 1 }
+    let mut w = 1;
+    let mut rest = n;
+    while 10 <= rest {
+        rest = rest / 10;
+        w += 1;
+    }
+    w
 }
 
-// Writes the digits of n from at on; what is past them.
-fn fill(d: &mut [u8], at: usize, n: u64) -> usize
-    requires { ⌜ at + length (digits n) ≤ length (now d) ⌝ }
+// Writes the digits of n, of which there are w, from at on, the last one first; what is past them.
+fn fill(d: &mut [u8], at: usize, w: usize, n: u64) -> usize
+    requires { ⌜ (w ≡ length (digits n)) × (at + w ≤ length (now d)) ⌝ }
     ensures { λ r. ⌜ (r ≡ at + length (digits n)) × (now (d .exit) ≡ put (now (d .entry)) at (digits n)) ⌝ }
 {
-    if n < 10 {
-        d[at] = ZERO + (n as u8);
-        at + 1
-    } else {
-        let p = fill(d, at, n / 10);
-        d[p] = ZERO + ((n % 10) as u8);
-        p + 1
+    let end = at + w;
+    let mut m = n;
+    let mut i = end - 1;
+    while 10 <= m {
+        d[i] = ZERO + ((m % 10) as u8);
+        m = m / 10;
+        i -= 1;
     }
+    d[i] = ZERO + (m as u8);
+    end
 }
 
 // Writes n at a place; where there is no room nothing is written.
@@ -317,7 +325,7 @@ pub fn write(d: &mut [u8], at: usize, n: u64) -> Room
     if room - w < at {
         return Room::Short;
     }
-    Room::To(fill(d, at, n))
+    Room::To(fill(d, at, w, n))
 }
 
 // Writes a minus and the digits of n.
@@ -333,7 +341,7 @@ fn write_below(d: &mut [u8], at: usize, n: u64) -> Room
         return Room::Short;
     }
     d[at] = MINUS;
-    Room::To(fill(d, at + 1, n))
+    Room::To(fill(d, at + 1, w, n))
 }
 
 // How many bytes a number has, by its sign and its size.
