@@ -3,30 +3,31 @@ use mathlib.Core.Path.{_≡_, refl, ap, ap₂, sym, _∙_}
 use mathlib.Core.Bool.{Bool, true, false, _&&_}
 use mathlib.Core.List.{List, [], _++_, map}
 use mathlib.Core.Option.{Option, none, some}
-use Prim.Native.Nat.{ℕ, suc, _+_, _≤_, _<_}
+use Prim.Native.Nat.{ℕ, zero, suc, _+_, _-_, _≤_, _<_}
 use native.Mathlib.Omega.{arith}
 use native.Mathlib.Decide.{decLe}
+use native.Mathlib.Nat.{sub-zero}
 use lib.IntN.{ℤ, pos, natAbs}
-use lib.ListN.{length, take, drop, length-map}
-use lib.Seq.{take-at}
+use lib.ListN.{length, take, drop, replicate, length-map}
+use lib.Seq.{take-at, drop-at}
 use borrow.Author.Tests.{le-leb, lt-leb}
 use Rattle.words.specs.Choice.{if_then_else_}
 use Rattle.words.specs.Lists.{any}
 use Rattle.numbers.specs.Signed.{is-negative}
 use Rattle.lines.specs.Line.{Line, N, X, C, R, Z, above-zero}
-use Rattle.lines.specs.Forms.{most-fields, form-of}
+use Rattle.lines.specs.Forms.{most-fields, form-of, numbers-of}
 use Rattle.lines.specs.Reading.{Read, says, refused, numbers, line-of, if-numbers}
 use Rattle.lines.specs.Writing.{lettered, written}
 use Rattle.lines.specs.Events.{gives-status, event-of, padded, slots-of}
 use Rattle.lines.specs.Sizes.{numbers-in, right-count, line-in, named, slots-in}
 use Rattle.lines.specs.Gathered.{tally, nothing-yet, no-values, Gathered, gathered-as, gathered, made}
-use Rattle.lines.specs.declared.Tally.{Tally}
+use Rattle.lines.specs.declared.heads.Tally.{Tally}
 use Rattle.lines.specs.declared.Event.{Event}
 use Rattle.lines.specs.declared.Event.the-variants as Event
 use Rattle.lines.proofs.Tests.{and-false}
 use Rattle.lines.proofs.Formed.{within-high, most-few}
 use Rattle.lines.proofs.Gathering.{any-wrong, counted-from, gathered-count, gathered-out, gathered-values}
-use Rattle.lines.proofs.Numbered.{never, if-allowed-said, line-said}
+use Rattle.lines.proofs.Numbered.{never, if-allowed-said, in-form-said, Numbered, line-said}
 use Rattle.lines.proofs.FormLaws.{enter-line, enter-in}
 use Rattle.lines.proofs.Signs.{wrong-refused, sizes-back}
 
@@ -84,19 +85,22 @@ module _ (b : ℕ) (ws : List (List ℕ)) (ns : List ℤ) (e : numbers ws ≡ so
       let z : 0 + length ns ≡ length ns = omega arith in
       count-of b ws (some ns) e ∙ rw (le-leb (0 + length ns) most-fields (omega arith)) z
 
+  right-gathered : right-count b (length ns) ≡ true → any-wrong (form-of b .signed) 0 ns ≡ false
+      → gathered-of b ws ≡ gathered-as (tally (length ns) false (any is-negative ns)) (map natAbs ns ++ drop (length (map natAbs ns)) no-values)
+  right-gathered r f =
+      let l = right-most b (length ns) r in
+      let z : 0 + length ns ≡ length ns = omega arith in
+      let y : 0 + length (map natAbs ns) ≡ length (map natAbs ns) = omega arith in
+      gathered-values (form-of b .signed) ws ns (gathered-as nothing-yet no-values) e (omega arith) refl f
+      ∙ ap₂ (λ (i j : ℕ). gathered-as (tally i false (any is-negative ns)) (map natAbs ns ++ drop j no-values)) z y
+
   few : length ns ≤ most-fields → (r : Bool) → right-count b (length ns) ≡ r → (w : Bool) → any-wrong (form-of b .signed) 0 ns ≡ w
       → made-of b (gathered-of b ws) ≡ line-of b ns
   few l false r w f = made-two b (gathered-of b ws) (ap (right-count b) (few-count l) ∙ r) ∙ sym (line-two b ns r)
   few l true r true f =
       made-three b (gathered-of b ws) (ap (right-count b) (few-count l) ∙ r) (gathered-out (form-of b .signed) ws ns (gathered-as nothing-yet no-values) e (omega arith) ∙ f)
       ∙ sym (wrong-refused b ns r f)
-  few l true r false f =
-      let z : 0 + length ns ≡ length ns = omega arith in
-      let y : 0 + length (map natAbs ns) ≡ length (map natAbs ns) = omega arith in
-      let g : gathered-of b ws ≡ gathered-as (tally (length ns) false (any is-negative ns)) (map natAbs ns ++ drop (length (map natAbs ns)) no-values) =
-      gathered-values (form-of b .signed) ws ns (gathered-as nothing-yet no-values) e (omega arith) refl f
-      ∙ ap₂ (λ (i j : ℕ). gathered-as (tally i false (any is-negative ns)) (map natAbs ns ++ drop j no-values)) z y in
-      ap (made-of b) g ∙ made-right b ns r f
+  few l true r false f = ap (made-of b) (right-gathered r f) ∙ made-right b ns r f
 
 pub made-numbers : (b : ℕ) (ws : List (List ℕ)) → made-of b (gathered-of b ws) ≡ if-numbers b (numbers ws)
 made-numbers b ws = go (numbers ws) refl
@@ -108,6 +112,38 @@ made-numbers b ws = go (numbers ws) refl
         by-length : Dec (length ns ≤ most-fields) → made-of b (gathered-of b ws) ≡ line-of b ns
         by-length (yes l) = few b ws ns e l (right-count b (length ns)) refl (any-wrong (form-of b .signed) 0 ns) refl
         by-length (no l) = many b ws ns e (omega arith)
+
+-- no size stands past those of a line's numbers
+
+drop-replicate : (n i x : ℕ) → drop i (replicate n x) ≡ replicate (n - i) x
+drop-replicate n zero x = ap (λ (m : ℕ). replicate m x) (sym (sub-zero n))
+drop-replicate zero (suc i) x = let z : 0 - suc i ≡ 0 = omega arith in ap (λ (m : ℕ). replicate m x) (sym z)
+drop-replicate (suc n) (suc i) x = let z : suc n - suc i ≡ n - i = omega arith in drop-replicate n i x ∙ ap (λ (m : ℕ). replicate m x) (sym z)
+
+rest-none : (n : ℕ) → n ≤ most-fields → (vs : List ℕ) → length vs ≡ n → drop n (vs ++ drop (length vs) no-values) ≡ replicate (most-fields - n) 0
+rest-none n h vs l = drop-at vs (drop (length vs) no-values) n l ∙ ap (λ (i : ℕ). drop i no-values) l ∙ drop-replicate most-fields n 0
+
+said-right : (b : ℕ) (ns : List ℤ) (e : Line) → line-of b ns ≡ says e → (right-count b (length ns) ≡ true) × (any-wrong (form-of b .signed) 0 ns ≡ false)
+unfolding line-of
+said-right b ns e h = let r = in-form-said (form-of b) ns e h .count in (r, go r (any-wrong (form-of b .signed) 0 ns) refl)
+  where
+    go : right-count b (length ns) ≡ true → (w : Bool) → any-wrong (form-of b .signed) 0 ns ≡ w → any-wrong (form-of b .signed) 0 ns ≡ false
+    go r true f = absurd (never (sym (wrong-refused b ns r f) ∙ h))
+    go r false f = f
+
+pub made-rest : (b : ℕ) (ws : List (List ℕ)) (e : Line) → if-numbers b (numbers ws) ≡ says e
+    → drop (length (numbers-of e)) (gathered-of b ws .values) ≡ replicate (most-fields - length (numbers-of e)) 0
+made-rest b ws e = go (numbers ws) refl
+  where
+    go : (o : Option (List ℤ)) → numbers ws ≡ o → if-numbers b o ≡ says e
+        → drop (length (numbers-of e)) (gathered-of b ws .values) ≡ replicate (most-fields - length (numbers-of e)) 0
+    go none p h = absurd (never h)
+    go (some ns) p h =
+        let k = said-right b ns e h in
+        let l = right-most b (length ns) (k .0) in
+        ap₂ (λ (i : ℕ) (vs : List ℕ). drop i vs) (ap length (line-said b ns e h .numbers)) (ap (λ (g : Gathered). g .values) (right-gathered b ws ns p (k .0) (k .1)))
+        ∙ rest-none (length ns) l (map natAbs ns) (length-map ns natAbs)
+        ∙ ap (λ (ms : List ℤ). replicate (most-fields - length ms) 0) (sym (line-said b ns e h .numbers))
 
 -- ---- the slots beside it
 
@@ -150,18 +186,24 @@ module _ (b n : ℕ) (minus : Bool) (vs : List ℕ) (ten : length vs ≡ most-fi
 
 -- ---- for the code
 
--- what n numbers say is written as those numbers
-pub line-in-said : (b n : ℕ) (minus : Bool) (vs : List ℕ) (e : Line) → line-in b n minus vs ≡ says e
-    → (n ≤ most-fields) × (lettered b (numbers-in b minus (take n vs)) ≡ written e)
-unfolding line-in written
-line-in-said b n minus vs e = go (right-count b n) refl
+-- what n numbers say has those numbers
+pub line-in-numbered : (b n : ℕ) (minus : Bool) (vs : List ℕ) (e : Line) → line-in b n minus vs ≡ says e
+    → (n ≤ most-fields) × Numbered b (numbers-in b minus (take n vs)) e
+unfolding line-in
+line-in-numbered b n minus vs e = go (right-count b n) refl
   where
     go : (r : Bool) → right-count b n ≡ r → (if r then line-of b (numbers-in b minus (take n vs)) else refused 2) ≡ says e
-        → (n ≤ most-fields) × (lettered b (numbers-in b minus (take n vs)) ≡ written e)
-    go true r h =
-        let k = line-said b (numbers-in b minus (take n vs)) e h in
-        (right-most b n r, sym (ap₂ lettered (k .letter) (k .numbers)))
+        → (n ≤ most-fields) × Numbered b (numbers-in b minus (take n vs)) e
+    go true r h = (right-most b n r, line-said b (numbers-in b minus (take n vs)) e h)
     go false r h = absurd (never h)
+
+-- and is written as them
+pub line-in-said : (b n : ℕ) (minus : Bool) (vs : List ℕ) (e : Line) → line-in b n minus vs ≡ says e
+    → (n ≤ most-fields) × (lettered b (numbers-in b minus (take n vs)) ≡ written e)
+unfolding written
+line-in-said b n minus vs e h =
+    let k = line-in-numbered b n minus vs e h in
+    (k .0, sym (ap₂ lettered (k .1 .letter) (k .1 .numbers)))
 
 module _ (b : ℕ) (t : Tally) (vs : List ℕ) where
   pub out-made : t .out ≡ true → right-count b (t .count) ≡ true → refused 3 ≡ made b t vs

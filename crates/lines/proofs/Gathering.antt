@@ -24,7 +24,7 @@ use Rattle.lines.specs.Line.{largest}
 use Rattle.lines.specs.Forms.{most-fields}
 use Rattle.lines.specs.Reading.{and-number, numbers}
 use Rattle.lines.specs.Gathered.{fields-from, tally, wrong, Gathered, gathered-as, and-field, taken, gathered}
-use Rattle.lines.specs.declared.Tally.{Tally}
+use Rattle.lines.specs.declared.heads.Tally.{Tally}
 use Rattle.lines.proofs.Field.{field-fits, next-field, past-end}
 use Rattle.lines.proofs.Tests.{neither, or-false, or-true, or-or}
 
@@ -82,6 +82,26 @@ taken-one k g x h = rw (lt-ltb (g .tally .count) most-fields h)
 pub taken-none : (k : ℕ) (g : Gathered) (x : Field) → most-fields ≤ g .tally .count → taken k g x ≡ gathered-as wrong (g .values)
 unfolding taken
 taken-none k g x h = rw (le-ltb (g .tally .count) most-fields h)
+
+-- one that is no number, or one too many, is mended by no other
+taken-over : (k : ℕ) (g : Gathered) (x : Field) → most-fields < taken k g x .tally .count → taken k g x ≡ gathered-as wrong (g .values)
+taken-over k g x h = go (decLt (g .tally .count) most-fields) x h
+  where
+    go : Dec (g .tally .count < most-fields) → (x : Field) → most-fields < taken k g x .tally .count → taken k g x ≡ gathered-as wrong (g .values)
+    go (no l) x h = taken-none k g x (omega arith)
+    go (yes l) (Field.Plus n) h = let c = ap (λ (r : Gathered). r .tally .count) (taken-one k g (Field.Plus n) l) in absurd (omega arith)
+    go (yes l) (Field.Minus n) h = let c = ap (λ (r : Gathered). r .tally .count) (taken-one k g (Field.Minus n) l) in absurd (omega arith)
+    go (yes l) Field.Out h = let c = ap (λ (r : Gathered). r .tally .count) (taken-one k g Field.Out l) in absurd (omega arith)
+    go (yes l) Field.Bad h = taken-one k g Field.Bad l
+
+wrong-stays : (k : ℕ) (vs : List ℕ) (ws : List (List ℕ)) → gathered k (gathered-as wrong vs) ws ≡ gathered-as wrong vs
+unfolding gathered
+wrong-stays k vs [] = refl
+wrong-stays k vs (w ∷ ws) =
+    ap (λ (g : Gathered). gathered k g ws) (taken-none k (gathered-as wrong vs) (bounded largest (number w)) (omega arith)) ∙ wrong-stays k vs ws
+
+pub nothing-mends : (k : ℕ) (g : Gathered) (x : Field) (ws : List (List ℕ)) → most-fields < taken k g x .tally .count → gathered k (taken k g x) ws ≡ taken k g x
+nothing-mends k g x ws h = let e = taken-over k g x h in ap (λ (r : Gathered). gathered k r ws) e ∙ wrong-stays k (g .values) ws ∙ sym e
 
 -- ---- all fields
 

@@ -4,6 +4,7 @@ pub mod Fits
 pub mod RoundTrip
 pub mod Refusals
 pub mod Meant
+pub mod Again
 pub mod Worked
 pub mod Content
 pub mod Listed
@@ -15,5 +16,8 @@ mod Gathering
 mod RangeLaws
 pub mod FormLaws
 mod Signs
+mod ToldLaws
+mod HeadLaws
 pub mod GatheredLaws
+pub mod Answered
 mod SlotLaws

@@ -65,7 +65,7 @@ plain-zero (pos v) h = refl
 plain-zero (negsuc v) h = let z : _≡_ {A = ℕ} 0 1 = cc in absurd (omega arith)
 
 -- a result that is no status has no sign
-plain-result : (k : Result) (r : ℤ) → is-status k ≡ false → result-allows k r ≡ true → pos (above-zero r) ≡ r
+pub plain-result : (k : Result) (r : ℤ) → is-status k ≡ false → result-allows k r ≡ true → pos (above-zero r) ≡ r
 plain-result Result.Local r s h = plain-value (is-made 1) r h
 plain-result Result.Global r s h = plain-value (is-made 2) r h
 plain-result Result.Weak r s h = plain-value (is-made 3) r h

@@ -82,14 +82,14 @@ wrong-refused b ns c w = go (any is-negative (without (f .signed) ns)) refl (is-
 -- ---- where none is out of range, sizes and the sign give the numbers again
 
 -- k is no place from i on
-abbrev Away : ℕ → ℕ → ℕ → Type 0
+abbrev pub Away : ℕ → ℕ → ℕ → Type 0
 Away k i n = (k < i) ⊎ (i + n ≤ k)
 
-away : (k i n : ℕ) → Away k i (suc n) → eqb i k ≡ false
+pub away : (k i n : ℕ) → Away k i (suc n) → eqb i k ≡ false
 away k i n (inl h) = ne-eqb i k (λ e. omega arith)
 away k i n (inr h) = ne-eqb i k (λ e. omega arith)
 
-away-next : (k i n : ℕ) → Away k i (suc n) → Away k (suc i) n
+pub away-next : (k i n : ℕ) → Away k i (suc n) → Away k (suc i) n
 away-next k i n (inl h) = inl (omega arith)
 away-next k i n (inr h) = inr (omega arith)
 

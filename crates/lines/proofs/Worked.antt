@@ -2,6 +2,7 @@
 use mathlib.Core.Path.{_≡_, refl}
 use mathlib.Core.List.{List, [], _∷_, _++_, map}
 use Prim.Native.Nat.{ℕ}
+use Prim.Native.Char.{code}
 use Prim.Native.String.{String}
 use lib.IntN.{pos, negsuc}
 use lib.ListN.{length, replicate}
@@ -12,6 +13,9 @@ use Rattle.lines.specs.Line.{N, X, C, R, Z}
 use Rattle.lines.specs.Forms.{of-letter}
 use Rattle.lines.specs.Reading.{Read, says, refused, fields, numbers, line-of, of-fields, read}
 use Rattle.lines.specs.Writing.{tabbed, written}
+use Rattle.lines.specs.Apart.{apart-of, numbers-left}
+use Rattle.lines.specs.declared.apart.Apart.{Apart}
+use Rattle.lines.specs.declared.apart.Apart.the-variants.{Line, Refused}
 
 -- a line with its tabs shown as spaces, and what it says
 pub record Worked : Type 0 where
@@ -100,3 +104,37 @@ pub written-lines : (written (N 1 100 (5 ∷ [])) ≡ with-tabs (bytes "N 1 100 
     × (written Z ≡ with-tabs (bytes "Z\n"))
 unfolding written tabbed digits digits-in
 written-lines = (refl, refl, refl, refl, refl)
+
+-- ---- lines as they are told to C
+
+-- a line with its tabs shown as spaces, its letter and how many numbers it has, and ten slots that each held 7
+pub record Told : Type 0 where
+  pub line : String
+  pub answer : Apart
+  pub slots : List ℕ
+
+infix 80 _tells_and_
+abbrev pub _tells_and_ : String → Apart → List ℕ → Told
+s tells a and ws = record { line = s; answer = a; slots = ws }
+
+abbrev pub told : List Told
+told =
+    "N 1 100 5 9\n" tells Line (code "N") 4 and (1 ∷ 100 ∷ 5 ∷ 9 ∷ 0 ∷ 0 ∷ 0 ∷ 0 ∷ 0 ∷ 0 ∷ [])
+    ∷ "N 1 100 1 5 9 13 17 21 25 29\n" tells Line (code "N") 10 and (1 ∷ 100 ∷ 1 ∷ 5 ∷ 9 ∷ 13 ∷ 17 ∷ 21 ∷ 25 ∷ 29 ∷ [])
+    ∷ "X 16 4294967295\n" tells Line (code "X") 2 and (16 ∷ 4294967295 ∷ 0 ∷ 0 ∷ 0 ∷ 0 ∷ 0 ∷ 0 ∷ 0 ∷ 0 ∷ [])
+    ∷ "C 1 100 19 0 0 0 -5\n" tells Line (code "C") 7 and (1 ∷ 100 ∷ 19 ∷ 0 ∷ 0 ∷ 0 ∷ 4294967291 ∷ 0 ∷ 0 ∷ 0 ∷ [])
+    ∷ "R 1 26 -1 1\n" tells Line (code "R") 4 and (1 ∷ 26 ∷ 4294967295 ∷ 1 ∷ 0 ∷ 0 ∷ 0 ∷ 0 ∷ 0 ∷ 0 ∷ [])
+    ∷ "R 1 19 -2147483648 0\n" tells Line (code "R") 4 and (1 ∷ 19 ∷ 2147483648 ∷ 0 ∷ 0 ∷ 0 ∷ 0 ∷ 0 ∷ 0 ∷ 0 ∷ [])
+    ∷ "R 1 169 4294967295 0\n" tells Line (code "R") 4 and (1 ∷ 169 ∷ 4294967295 ∷ 0 ∷ 0 ∷ 0 ∷ 0 ∷ 0 ∷ 0 ∷ 0 ∷ [])
+    ∷ "Z\n" tells Line (code "Z") 0 and replicate 10 0
+    ∷ "N 1 100 1 5 9 13 17 21 25 29 33\n" tells Refused 2 and replicate 10 7
+    ∷ "X 17 5\n" tells Refused 3 and replicate 10 7
+    ∷ "X 1 5" tells Refused 1 and replicate 10 7
+    ∷ []
+
+abbrev tell : String → Told
+tell s = let x = read (with-tabs (bytes s)) in s tells apart-of x and numbers-left x (replicate 10 7)
+
+pub told-lines : map (λ (t : Told). tell (t .line)) told ≡ told
+unfolding read of-fields fields numbers line-of of-letter read-on fact-of table
+told-lines = refl

@@ -1,20 +1,25 @@
 -- The reader's own bookkeeping: numbers as the code gathers them, and the line that they are; the law `made-numbers` (proofs/GatheredLaws.antt) ties it to Reading.antt. Assumes nothing.
-use Prim.Native.Nat.{ℕ, suc, _+_, _%_}
+use Prim.Native.Nat.{ℕ, suc, _+_, _-_, _%_}
+use mathlib.Core.Path.{_≡_}
 use mathlib.Core.Bool.{Bool, true, false, not, _&&_, _||_}
 use mathlib.Core.List.{List, [], _∷_}
 use lib.Dec.{eqb, leb, ltb}
-use lib.ListN.{length, getD, set, drop}
+use lib.ListN.{length, getD, set, drop, replicate}
 use Rattle.words.specs.Choice.{if_then_else_}
 use Rattle.words.specs.Text.{tab}
 use Rattle.numbers.specs.Decimal.{number}
 use Rattle.numbers.specs.Reading.{bounded}
 use Rattle.numbers.specs.declared.Field.{Field}
 use Rattle.numbers.specs.declared.Field.the-variants as Field
-use Rattle.lines.specs.Line.{largest}
-use Rattle.lines.specs.Forms.{most-fields}
-use Rattle.lines.specs.Reading.{Read, refused, fields}
+use Rattle.lines.specs.Line.{Line, largest}
+use Rattle.lines.specs.Forms.{most-fields, numbers-of}
+use Rattle.lines.specs.Reading.{Read, says, refused, fields}
+use Rattle.lines.specs.Apart.{apart-of, numbers-left}
 use Rattle.lines.specs.Sizes.{right-count, line-in}
-use Rattle.lines.specs.declared.Tally.{Tally}
+use Rattle.lines.specs.declared.apart.Apart.{Apart}
+use Rattle.lines.specs.declared.heads.Tally.{Tally}
+use Rattle.lines.specs.declared.heads.Head.{Head}
+use Rattle.lines.specs.declared.heads.Head.the-variants as Head
 
 -- the fields from a place on, none past the end
 abbrev pub fields-from : List ℕ → ℕ → List (List ℕ)
@@ -69,3 +74,16 @@ nothing-yet = tally 0 false false
 -- 3 where one is out of range, but 2 first where the count is wrong
 unfoldable pub made : ℕ → Tally → List ℕ → Read
 made letter t vs = if t .out && right-count letter (t .count) then refused 3 else line-in letter (t .count) (t .minus) vs
+
+abbrev pub said : Head → List ℕ → Read
+said (Head.Numbers letter n minus) vs = line-in letter n minus vs
+said (Head.Refused k) vs = refused k
+
+-- what is read of a line: what it says, and that no size stands past those of a line's numbers
+pub record Headed (x : Read) (h : Head) (vs : List ℕ) : Type 0 where
+  pub read : said h vs ≡ x
+  pub rest : (e : Line) → x ≡ says e → drop (length (numbers-of e)) vs ≡ replicate (most-fields - length (numbers-of e)) 0
+
+-- the answer r and the slots that are left, of those that there were, where x is what was read
+abbrev pub Tells : Read → List ℕ → Apart → List ℕ → Type 0
+Tells x ws r left = (r ≡ apart-of x) × (left ≡ numbers-left x ws)

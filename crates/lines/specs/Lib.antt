@@ -4,6 +4,9 @@ pub mod Forms
 pub mod Reading
 pub mod Writing
 pub mod Events
--- computed: lines::read_line, made-numbers
+pub mod Apart
+-- computed: lines::read_line, lines::apart::read_apart, made-numbers
 pub mod Sizes
 pub mod Gathered
+-- words
+pub mod Handed

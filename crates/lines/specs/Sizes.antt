@@ -1,7 +1,7 @@
 -- Numbers as the code has them: their sizes, and whether the one that may be below zero is. Assumes nothing.
 use Prim.Native.Nat.{ℕ, suc}
 use mathlib.Core.Bool.{Bool}
-use mathlib.Core.List.{List, [], _∷_}
+use mathlib.Core.List.{List, [], _∷_, map}
 use lib.Dec.{eqb}
 use lib.IntN.{ℤ}
 use lib.ListN.{take, drop}
@@ -10,6 +10,7 @@ use Rattle.numbers.specs.Signed.{signed}
 use Rattle.lines.specs.Forms.{Form, no-place, form-of}
 use Rattle.lines.specs.Reading.{Read, refused, line-of}
 use Rattle.lines.specs.Events.{padded}
+use Rattle.lines.specs.Apart.{as-told}
 use Rattle.lines.specs.declared.forms.Counts.{Counts}
 use Rattle.lines.specs.declared.Event.{Event}
 use Rattle.lines.specs.declared.Event.the-variants as Event
@@ -49,3 +50,7 @@ slots-in (Event.Call t env f a b c k) n vs = padded []
 slots-in (Event.Return t f r s p) n vs = padded []
 slots-in Event.End n vs = padded []
 slots-in (Event.Refused k) n vs = padded []
+
+-- sizes as they are told to C, all of them
+abbrev pub sizes-told : ℕ → Bool → List ℕ → List ℕ
+sizes-told letter minus vs = map as-told (numbers-in letter minus vs)

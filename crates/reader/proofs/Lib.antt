@@ -1,1 +1,1 @@
-pub mod Widen
+mod Told

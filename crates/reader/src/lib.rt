@@ -1,111 +1,25 @@
-// The reader of lines for C and Rust.
-use lines::Event;
+// The reader of lines for C: a line's letter and numbers, or the number given instead.
+use lines::apart;
+use lines::apart::Apart;
 use words::Handle;
 ghost use mathlib.Core.Path.{_≡_};
-ghost use lib.IntN.{pos};
 ghost use Rattle.lines.specs.Reading.{read};
-ghost use Rattle.lines.specs.Events.{event-of, slots-of};
-ghost use Rattle.reader.specs.Answers.{number-of, fields-of};
+ghost use Rattle.lines.specs.Apart.{apart-of, numbers-left};
+ghost use Rattle.reader.specs.Answers.{told, counted};
 
-fn plus(n: Handle) -> i64
-    ensures { λ r. ⌜ r ≡ pos n ⌝ }
-{
-    n as i64
-}
-
-fn whole(n: i32) -> i64
-    ensures { λ r. ⌜ r ≡ n ⌝ }
-{
-    n as i64
-}
-
-fn number_of(e: Event) -> u8
-    ensures { λ r. ⌜ r ≡ number-of e ⌝ }
-{
-    match e {
-        Event::Enter { thread, env, count } => b'N',
-        Event::Leave { thread, result } => b'X',
-        Event::Call {
-            thread,
-            env,
-            function,
-            a,
-            b,
-            c,
-            n,
-        } => b'C',
-        Event::Return {
-            thread,
-            function,
-            result,
-            status,
-            pending,
-        } => b'R',
-        Event::End => b'Z',
-        Event::Refused(k) => k,
-    }
-}
-
-fn fields_of(e: Event) -> [i64; 8]
-    ensures { λ r. ⌜ r ≡ fields-of e ⌝ }
-{
-    match e {
-        Event::Enter { thread, env, count } => [
-            plus(thread),
-            plus(env),
-            plus(count),
-            0,
-            0,
-            0,
-            0,
-            0,
-        ],
-        Event::Leave { thread, result } => [plus(thread), plus(result), 0, 0, 0, 0, 0, 0],
-        Event::Call {
-            thread,
-            env,
-            function,
-            a,
-            b,
-            c,
-            n,
-        } => [
-            plus(thread),
-            plus(env),
-            plus(function),
-            plus(a),
-            plus(b),
-            plus(c),
-            whole(n),
-            0,
-        ],
-        Event::Return {
-            thread,
-            function,
-            result,
-            status,
-            pending,
-        } => [
-            plus(thread),
-            plus(function),
-            plus(result),
-            whole(status),
-            plus(pending),
-            0,
-            0,
-            0,
-        ],
-        Event::End => [0; 8],
-        Event::Refused(_) => [0; 8],
-    }
-}
-
-// Reads a lent line, all its bytes with the LF: the letter of its event, or the refusal 1, 2 or 3. What the event says is left in the lent arrays.
+// Reads a lent line, all its bytes with the LF: its letter, or, below zero, the number given instead. Its numbers are left in the ten slots, 0 past them, with how many there are;
+// where there is no line nothing is written.
 #[no_mangle]
-pub extern "C" fn weir_read(line: &[u8], handles: &mut [Handle; 8], fields: &mut [i64; 8]) -> u32
-    ensures { λ r. ⌜ (r ≡ number-of (event-of (read (now (line .entry))))) × ((now (handles .exit) ≡ slots-of (read (now (line .entry)))) × (now (fields .exit) ≡ fields-of (event-of (read (now (line .entry)))))) ⌝ }
+pub extern "C" fn weir_read(line: &[u8], numbers: &mut [Handle; 10], count: &mut u32) -> i32
+    ensures { λ r. ⌜ r ≡ told (apart-of (read (now (line .entry)))) ⌝ }
+    ensures { λ _. ⌜ now (numbers .exit) ≡ numbers-left (read (now (line .entry))) (now (numbers .entry)) ⌝ }
+    ensures { λ _. ⌜ now (count .exit) ≡ counted (apart-of (read (now (line .entry)))) (now (count .entry)) ⌝ }
 {
-    let e = lines::read_line(line, handles);
-    *fields = fields_of(e);
-    number_of(e) as u32
+    match apart::read_apart(line, numbers) {
+        Apart::Line { letter, count: n } => {
+            *count = n as u32;
+            letter as i32
+        }
+        Apart::Refused(k) => 0 - (k as i32),
+    }
 }

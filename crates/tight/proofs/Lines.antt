@@ -6,6 +6,9 @@ use Rattle.tight.proofs.Shapes.{by-two, by-reply}
 pub read-line-tight : Tight lines.read_line.ended lines.read_line.Reads.Asked lines.read_line.Reads.Learnt
 read-line-tight κs args = (tt, λ x y. by-two (λ r slots. given r (tt, (slots, tt))))
 
+pub read-apart-tight : Tight lines.apart.read_apart.ended lines.apart.read_apart.Reads.Asked lines.apart.read_apart.Reads.Learnt
+read-apart-tight κs args = (tt, λ x y. by-two (λ r slots. given r (tt, (slots, tt))))
+
 pub gives-status-tight : Tight lines.ranges.gives_status.ended lines.ranges.gives_status.Reads.Asked lines.ranges.gives_status.Reads.Learnt
 gives-status-tight κs args = (tt, by-reply)
 

@@ -5,4 +5,4 @@ use Rattle.tight.specs.Tight.{given, Tight}
 use Rattle.tight.proofs.Shapes.{by-two}
 
 pub weir-read-tight : Tight reader.weir_read.ended reader.weir_read.Reads.Asked reader.weir_read.Reads.Learnt
-weir-read-tight κs args = (tt, λ x y p q. ap₂ given (p .0 ∙ sym (q .0)) (by-two (λ slots fields. (tt, (slots, (fields, tt)))) (p .1) (q .1)))
+weir-read-tight κs args = (tt, λ x y p q. ap₂ given (p .0 ∙ sym (q .0)) (by-two (λ numbers count. (tt, (numbers, (count, tt)))) (p .1) (q .1)))

@@ -10,15 +10,15 @@ use lib.IntN.{ℤ, pos, negsuc, natAbs}
 use lib.ListN.{length, getD, take}
 use mir.Syntax.{w32}
 use mir.Val.{SFits, hasKey}
-use types.Run.{OneOf, miss}
+use types.Run.{OneOf}
 use denote.Enum.Declared.{tagOf}
 use borrow.Author.Tests.{leb-true, ne-eqb}
 use Rattle.words.specs.Choice.{if_then_else_}
 use Rattle.numbers.specs.Signed.{is-negative}
-use Rattle.lines.specs.Line.{Line, N, X, C, R, Z, is-allowed, is-zero, above-zero, most-handles}
+use Rattle.lines.specs.Line.{Line, N, X, C, R, Z, is-allowed, is-zero, most-handles}
 use Rattle.lines.specs.Forms.{most-fields, of-letter}
 use Rattle.lines.specs.Reading.{Read, says, refused, if-allowed, line-of}
-use Rattle.lines.specs.Writing.{lettered, written}
+use Rattle.lines.specs.Writing.{lettered}
 use Rattle.lines.specs.Events.{gives-status, event-of, with-slots, meant, left}
 use Rattle.lines.specs.Sizes.{signed-at, numbers-in, line-in, named}
 use Rattle.lines.specs.declared.Event.{Event}
@@ -31,6 +31,7 @@ use Rattle.lines.proofs.Listed.{of-length}
 use Rattle.lines.proofs.Formed.{is-within}
 use Rattle.lines.proofs.FormLaws.{enter-in}
 use Rattle.lines.proofs.GatheredLaws.{line-in-said}
+use Rattle.lines.proofs.Answered.{event-refused, event-said}
 use Rattle.writer.specs.Laid.{Writes, Answers}
 use Rattle.writer.specs.Apart.{are-empty, apart-return, apart}
 use Rattle.writer.specs.declared.apart.Taken.{Taken}
@@ -123,23 +124,6 @@ module _ (e : Event) (hs : List ℕ) (l : length hs ≡ most-handles) {t : Taken
   bad-taken g = sym (ap (λ (b : Bool). if b then line-in (t .letter) (t .count) (t .minus) (t .values) else refused 3) g) ∙ as-taken
 
 -- ---- what is written of numbers
-
--- an event that is a refusal, and one that is none
-event-refused : (x : Read) (k : ℕ) → event-of x ≡ Event.Refused k → x ≡ refused k
-event-refused (refused j) k h = cc
-event-refused (says (N t env hs)) k h = let z : _≡_ {A = ℕ} 0 1 = cc in absurd (omega arith)
-event-refused (says (X t r)) k h = let z : _≡_ {A = ℕ} 0 1 = cc in absurd (omega arith)
-event-refused (says (C t env f a b c n)) k h = let z : _≡_ {A = ℕ} 0 1 = cc in absurd (omega arith)
-event-refused (says (R t f r p)) k h = go (gives-status f) h
-  where
-    go : (s : Bool) → (if s then Event.Return t f 0 r p else Event.Return t f (above-zero r) (pos 0) p) ≡ Event.Refused k → says (R t f r p) ≡ refused k
-    go true h = let z : _≡_ {A = ℕ} 0 1 = cc in absurd (omega arith)
-    go false h = let z : _≡_ {A = ℕ} 0 1 = cc in absurd (omega arith)
-event-refused (says Z) k h = let z : _≡_ {A = ℕ} 0 1 = cc in absurd (omega arith)
-
-event-said : (x : Read) (ks : List ℕ) → T (not (hasKey ks 5)) → OneOf ks (tagOf the-type (event-of x)) → (e : Line) × (x ≡ says e)
-event-said (refused j) ks h w = absurd (miss ks 5 h w)
-event-said (says e) ks h w = (e, refl)
 
 module _ (b n : ℕ) (minus : Bool) (vs d : List ℕ) {e : Event} (told : e ≡ event-of (line-in b n minus vs)) where
   pub numbers-refused : {k : ℕ} → e ≡ Event.Refused k → Answers (line-in b n minus vs) d (Wrote.Refused k) d

@@ -1,4 +1,4 @@
--- `lines::take_field` meets its contract. Assumes nothing.
+-- `lines::heads::take_field` meets its contract. Assumes nothing.
 use mathlib.Core.Path.{ap, sym, _∙_}
 use mathlib.Core.Bool.{true, not, _||_}
 use Prim.Native.Nat.{_+_}
@@ -8,8 +8,8 @@ use Rattle.lines.specs.Gathered.{tally, gathered-as}
 use Rattle.numbers.specs.declared.Field.the-variants as Field
 use Rattle.lines.proofs.Gathering.{takes, taken-none}
 use borrow.Author.Needs.{needs}
-use Rattle.lines.proofs.take_field.Statement.{statement}
-use Rattle.lines.proofs.take_field.Tie as tie
+use Rattle.lines.proofs.heads.take_field.Statement.{statement}
+use Rattle.lines.proofs.heads.take_field.Tie as tie
 
 pub take-field-spec : {M : Type 1} → statement M
 take-field-spec =

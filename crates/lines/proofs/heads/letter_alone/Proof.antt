@@ -1,10 +1,10 @@
--- `lines::letter_alone` meets its contract. Assumes nothing.
+-- `lines::heads::letter_alone` meets its contract. Assumes nothing.
 use lib.ListN.{length}
 use denote.Ref.{now}
 use borrow.Author.Tests.{le-leb, lt-leb}
 use borrow.Author.Needs.{needs}
-use Rattle.lines.proofs.letter_alone.Statement.{statement}
-use Rattle.lines.proofs.letter_alone.Tie as tie
+use Rattle.lines.proofs.heads.letter_alone.Statement.{statement}
+use Rattle.lines.proofs.heads.letter_alone.Tie as tie
 
 pub letter-alone-spec : {M : Type 1} → statement M
 letter-alone-spec = tie.close (tie.spec

@@ -1,0 +1,33 @@
+-- An event that is a refusal, and one that is none: what was read. Assumes nothing.
+use mathlib.Core.Path.{_≡_, refl}
+use mathlib.Core.Bool.{Bool, true, false, not}
+use mathlib.Core.List.{List}
+use Prim.Native.Nat.{ℕ}
+use native.Mathlib.Omega.{arith}
+use lib.Dec.{T}
+use lib.IntN.{pos}
+use mir.Val.{hasKey}
+use types.Run.{OneOf, miss}
+use denote.Enum.Declared.{tagOf}
+use Rattle.words.specs.Choice.{if_then_else_}
+use Rattle.lines.specs.Line.{Line, N, X, C, R, Z, above-zero}
+use Rattle.lines.specs.Reading.{Read, says, refused}
+use Rattle.lines.specs.Events.{gives-status, event-of}
+use Rattle.lines.specs.declared.Event.the-variants as Event
+use Rattle.lines.proofs.Event.{the-type}
+
+pub event-refused : (x : Read) (k : ℕ) → event-of x ≡ Event.Refused k → x ≡ refused k
+event-refused (refused j) k h = cc
+event-refused (says (N t env hs)) k h = let z : _≡_ {A = ℕ} 0 1 = cc in absurd (omega arith)
+event-refused (says (X t r)) k h = let z : _≡_ {A = ℕ} 0 1 = cc in absurd (omega arith)
+event-refused (says (C t env f a b c n)) k h = let z : _≡_ {A = ℕ} 0 1 = cc in absurd (omega arith)
+event-refused (says (R t f r p)) k h = go (gives-status f) h
+  where
+    go : (s : Bool) → (if s then Event.Return t f 0 r p else Event.Return t f (above-zero r) (pos 0) p) ≡ Event.Refused k → says (R t f r p) ≡ refused k
+    go true h = let z : _≡_ {A = ℕ} 0 1 = cc in absurd (omega arith)
+    go false h = let z : _≡_ {A = ℕ} 0 1 = cc in absurd (omega arith)
+event-refused (says Z) k h = let z : _≡_ {A = ℕ} 0 1 = cc in absurd (omega arith)
+
+pub event-said : (x : Read) (ks : List ℕ) → T (not (hasKey ks 5)) → OneOf ks (tagOf the-type (event-of x)) → (e : Line) × (x ≡ says e)
+event-said (refused j) ks h w = absurd (miss ks 5 h w)
+event-said (says e) ks h w = (e, refl)
