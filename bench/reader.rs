@@ -1,9 +1,13 @@
 //! Holds the proved reader of lines to the plain one on every line of the given traces and on damaged ones, then times both.
 
+#[allow(dead_code)] // nothing is written here
+mod recorded;
+
+use plain::called;
 use plain::damage::{damage_bytes, damage_fields};
-use plain::facts::{known, ResultKind};
-use plain::limits::{Field, Handle, MOST_HANDLES};
-use plain::line::{read, Event};
+use plain::form::MOST_NUMBERS;
+use plain::limits::Number;
+use plain::line::read;
 use plain::random::Random;
 use std::collections::BTreeMap;
 use std::hint::black_box;
@@ -17,15 +21,8 @@ const SLICE: usize = 1000;
 /// So many lines are damaged.
 const DAMAGED: usize = 40_000;
 
-extern "C" {
-    fn weir_read(line: *const u8, length: usize, handles: *mut Handle, fields: *mut Field) -> u32;
-}
-
-/// The numbers that are laid out for each line.
-const FIELDS: usize = 8;
-
-/// The letter or the refusal, the handles and the fields.
-type Answer = (u32, [Handle; MOST_HANDLES], [Field; FIELDS]);
+/// The letter or minus the refusal, the numbers and their count; what stands there before is left on a refusal.
+type Answer = (i32, [Number; MOST_NUMBERS], u32);
 
 fn main() -> ExitCode {
     let files: Vec<String> = std::env::args().skip(1).collect();
@@ -60,11 +57,19 @@ fn main() -> ExitCode {
             println!("plain  {plain:?}");
             return ExitCode::FAILURE;
         }
-        by_answer.entry(proved.0).or_default().push(line);
+        let answer = proved.0.unsigned_abs();
+        by_answer.entry(answer).or_default().push(line);
     }
-    println!("same answer on {} lines, {} of them damaged", all.len() + spoiled.len(), spoiled.len());
+    println!(
+        "same answer on {} lines, {} of them damaged",
+        all.len() + spoiled.len(),
+        spoiled.len()
+    );
 
-    println!("{:10} {:>8} {:>6} {:>8} {:>8} {:>6}", "lines", "count", "bytes", "proved", "plain", "ratio");
+    println!(
+        "{:10} {:>8} {:>6} {:>8} {:>8} {:>6}",
+        "lines", "count", "bytes", "proved", "plain", "ratio"
+    );
     for (file, lines) in files.iter().zip(&kinds) {
         let stem = Path::new(file).file_stem().unwrap_or_default();
         tell(&stem.to_string_lossy(), lines);
@@ -96,42 +101,27 @@ fn damaged(lines: &[&[u8]]) -> Vec<Vec<u8>> {
 }
 
 fn proved_answer(line: &[u8]) -> Answer {
-    let (mut handles, mut fields) = ([7; MOST_HANDLES], [7; FIELDS]);
-    let number = proved(line, &mut handles, &mut fields);
-    (number, handles, fields)
+    let (mut numbers, mut count) = ([7; MOST_NUMBERS], 7);
+    let letter = recorded::read(line, &mut numbers, &mut count);
+    (letter, numbers, count)
 }
 
-fn proved(line: &[u8], handles: &mut [Handle; MOST_HANDLES], fields: &mut [Field; FIELDS]) -> u32 {
-    // SAFETY: the function reads `length` bytes and writes all numbers of both arrays.
-    unsafe { weir_read(line.as_ptr(), line.len(), handles.as_mut_ptr(), fields.as_mut_ptr()) }
-}
-
-/// The plain reader's answer in the same form: N's handles stand beside their count, a status after a result that is 0.
+/// The plain reader's answer in the same form.
 fn plain_answer(line: &[u8]) -> Answer {
-    let (mut handles, mut fields) = ([0; MOST_HANDLES], [0; FIELDS]);
-    let event = match read(line) {
-        Ok(event) => event,
-        Err(refusal) => return (refusal.into(), handles, fields),
-    };
-    let (letter, mut numbers) = event.parts().map(|(letter, numbers)| (letter, numbers.to_vec())).expect("an event that was read");
-    match event {
-        Event::N { count, handles: named, .. } => {
-            handles = named;
-            numbers.splice(2.., [count as Field]);
-        }
-        Event::R { function, .. } if known(function).result == ResultKind::Status => numbers.insert(2, 0),
-        Event::R { .. } => numbers.insert(3, 0),
-        _ => {}
-    }
-    fields[..numbers.len()].copy_from_slice(&numbers);
-    (letter.into(), handles, fields)
+    let (mut numbers, mut count) = ([7; MOST_NUMBERS], 7);
+    let letter = called::read(line, &mut numbers, &mut count);
+    (letter, numbers, count)
 }
 
 /// Prints the nanoseconds a line takes each reader, and their ratio.
 fn tell(name: &str, lines: &[&[u8]]) {
     let (proved, plain) = times(lines);
     let bytes = lines.iter().map(|line| line.len()).sum::<usize>() as f64 / lines.len() as f64;
-    println!("{name:10} {:8} {bytes:6.1} {proved:8.1} {plain:8.1} {:6.2}", lines.len(), proved / plain);
+    println!(
+        "{name:10} {:8} {bytes:6.1} {proved:8.1} {plain:8.1} {:6.2}",
+        lines.len(),
+        proved / plain
+    );
 }
 
 /// The nanoseconds a line takes the proved and the plain reader: each slice's best round, the readers taking turns.
@@ -141,10 +131,10 @@ fn times(lines: &[&[u8]]) -> (f64, f64) {
         let (mut proved_best, mut plain_best) = (f64::INFINITY, f64::INFINITY);
         for _ in 0..ROUNDS {
             proved_best = proved_best.min(time(|| {
-                let (mut handles, mut fields) = ([0; MOST_HANDLES], [0; FIELDS]);
+                let (mut numbers, mut count) = ([0; MOST_NUMBERS], 0);
                 for line in slice {
-                    black_box(proved(black_box(line), &mut handles, &mut fields));
-                    black_box((&handles, &fields));
+                    black_box(recorded::read(black_box(line), &mut numbers, &mut count));
+                    black_box((&numbers, &count));
                 }
             }));
             plain_best = plain_best.min(time(|| {
@@ -156,7 +146,10 @@ fn times(lines: &[&[u8]]) -> (f64, f64) {
         proved_sum += proved_best;
         plain_sum += plain_best;
     }
-    (proved_sum / lines.len() as f64, plain_sum / lines.len() as f64)
+    (
+        proved_sum / lines.len() as f64,
+        plain_sum / lines.len() as f64,
+    )
 }
 
 fn time(round: impl FnOnce()) -> f64 {

@@ -1,8 +1,10 @@
 //! Holds the proved judge to the plain one over foreign tables: each reply, the findings, the reports of whole traces, the leak lists, every number of every slice and those around it.
 
+mod common;
 #[path = "../bench/exported.rs"]
 mod exported;
 
+use common::{ended, shown, Wish};
 use plain::coverage::Coverage;
 use plain::foreign::{self, a_z, is_over, line, of_list, Foreign};
 use plain::lent::book::{CLOSED, WHOLE};
@@ -12,10 +14,8 @@ use plain::limits::{Number, Word, MOST_ROOM};
 use plain::make::{make, PROFILES};
 use plain::random::Random;
 use plain::report::report;
-use std::fmt::{self, Debug, Display, Formatter};
-use std::ops::{Deref, DerefMut, Range};
+use std::fmt::{self, Display, Formatter};
 use std::process::ExitCode;
-use std::time::{Duration, Instant};
 
 const USAGE: &str = "usage: foreign [--seed S] [--cases N] [--seconds T]";
 
@@ -30,14 +30,9 @@ const LISTS: usize = 3;
 const LONG_TRACE: usize = 4_000;
 const LONG_REPORT: usize = 4_096;
 
+type Guarded<T> = common::Guarded<T, GUARD>;
 /// Five slices, each guarded.
 type Tables = Slices<Guarded<Number>, Guarded<Word>>;
-
-struct Wish {
-    seed: u64,
-    cases: u64,
-    time: Duration,
-}
 
 /// What came up.
 struct Seen {
@@ -88,56 +83,21 @@ impl Display for Seen {
 
 fn main() -> ExitCode {
     let arguments: Vec<String> = std::env::args().skip(1).collect();
-    let Some(wish) = wish(&arguments) else {
+    let Some(wish) = Wish::of(&arguments) else {
         eprintln!("{USAGE}");
         return ExitCode::from(2);
     };
-    let begun = Instant::now();
     let mut seen = Seen::new();
-    let mut cases = 0;
-    while cases < wish.cases && begun.elapsed() < wish.time {
-        let seed = wish.seed.wrapping_add(cases);
-        if let Err(difference) = compare(seed, &mut seen) {
-            println!("a difference: foreign --seed {seed} --cases 1");
-            println!("{difference}");
-            return ExitCode::FAILURE;
-        }
-        cases += 1;
-    }
-    println!("foreign: {cases} cases; {seen}");
-    if !seen.is_whole() {
-        println!("foreign: something of this never came up, so nothing is said");
+    let Some(cases) = wish.tried("foreign", |seed| compare(seed, &mut seen)) else {
         return ExitCode::FAILURE;
-    }
-    println!("foreign: the proved judge and the plain one agree");
-    ExitCode::SUCCESS
-}
-
-/// Without a number of cases as many as 20 seconds give.
-fn wish(arguments: &[String]) -> Option<Wish> {
-    let (mut seed, mut cases, mut seconds) = (1, None, None);
-    for option in arguments.chunks(2) {
-        let [name, value] = option else {
-            return None;
-        };
-        let number = value.parse().ok()?;
-        match name.as_str() {
-            "--seed" => seed = number,
-            "--cases" => cases = Some(number),
-            "--seconds" => seconds = Some(number),
-            _ => return None,
-        }
-    }
-    let time = match (cases, seconds) {
-        (_, Some(seconds)) => Duration::from_secs(seconds),
-        (Some(_), None) => Duration::MAX,
-        (None, None) => Duration::from_secs(20),
     };
-    Some(Wish {
-        seed,
-        cases: cases.unwrap_or(u64::MAX),
-        time,
-    })
+    ended(
+        "foreign",
+        cases,
+        &seen,
+        seen.is_whole(),
+        "the proved judge and the plain one",
+    )
 }
 
 /// Both judges take the same steps over tables of their own, from the same numbers, and list the leaks of what is left; what first differs.
@@ -315,13 +275,6 @@ fn compare_lists(
     list.compare("list", &wanted_list)
 }
 
-/// A line as it is told, cut if it is very long.
-fn shown(line: &[u8]) -> String {
-    const MOST: usize = 200;
-    let start = String::from_utf8_lossy(&line[..line.len().min(MOST)]);
-    format!("{start:?} ({} bytes)", line.len())
-}
-
 /// The first number of the first slice that is not the wanted one.
 fn compare_slices(given: &Tables, wanted: &Tables) -> Result<(), String> {
     given.rows.compare("rows", &wanted.rows)?;
@@ -329,57 +282,4 @@ fn compare_slices(given: &Tables, wanted: &Tables) -> Result<(), String> {
     given.pins.compare("pins", &wanted.pins)?;
     given.pin_marks.compare("pin marks", &wanted.pin_marks)?;
     given.book.compare("book", &wanted.book)
-}
-
-/// A slice to lend, with numbers before and after it that are nobody's: small ones, which could be taken for the slice's own.
-#[derive(Clone)]
-struct Guarded<T>(Vec<T>);
-
-impl<T> Guarded<T> {
-    fn place(&self) -> Range<usize> {
-        GUARD..self.0.len() - GUARD
-    }
-}
-
-impl<T> Deref for Guarded<T> {
-    type Target = [T];
-
-    fn deref(&self) -> &[T] {
-        &self.0[self.place()]
-    }
-}
-
-impl<T> DerefMut for Guarded<T> {
-    fn deref_mut(&mut self) -> &mut [T] {
-        let place = self.place();
-        &mut self.0[place]
-    }
-}
-
-impl<T: Copy + PartialEq + Debug + From<u8>> Guarded<T> {
-    fn new(lent: Vec<T>, random: &mut Random) -> Guarded<T> {
-        let mut guard = || -> Vec<T> {
-            let kind = random.pick(&[1, 2, 20, 256]);
-            let number = |_| T::from(random.below(kind) as u8);
-            (0..GUARD).map(number).collect()
-        };
-        Guarded([guard(), lent, guard()].concat())
-    }
-
-    /// The first number that is not the wanted one, the guards among them.
-    fn compare(&self, name: &str, wanted: &Guarded<T>) -> Result<(), String> {
-        if self.0 == wanted.0 {
-            return Ok(());
-        }
-        let numbers = self.0.iter().zip(&wanted.0);
-        let at = numbers
-            .take_while(|(number, wanted)| number == wanted)
-            .count();
-        let (number, wanted) = (self.0[at], wanted.0[at]);
-        let length = self.len();
-        let index = at as isize - GUARD as isize;
-        Err(format!(
-            "{name}[{index}], of length {length}, is {number:?}, not {wanted:?}"
-        ))
-    }
 }

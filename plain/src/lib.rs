@@ -4,6 +4,7 @@
 //! beside the plain one, `measure` times the reader and the judge, `facts` prints the facts of the functions.
 
 pub mod big;
+pub mod called;
 pub mod chosen;
 pub mod coverage;
 pub mod damage;
@@ -22,4 +23,5 @@ pub mod refusal;
 pub mod report;
 pub mod shrink;
 pub mod sights;
+pub mod single;
 pub mod walk;

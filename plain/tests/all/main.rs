@@ -1,6 +1,7 @@
 //! All tests of the plain judge, its makers of traces and its programs.
 
 mod acts;
+mod called;
 mod common;
 mod facts;
 mod foreign;
@@ -11,5 +12,6 @@ mod lines;
 mod maker;
 mod programs;
 mod shut_out;
+mod single;
 mod steps;
 mod whole_run;

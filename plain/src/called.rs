@@ -1,0 +1,170 @@
+//! The reader and the writers of lines as a C caller has them (include/weir.h): a line's letter and numbers, and what each writer is handed.
+
+use crate::facts::{facts, ResultKind};
+use crate::form::MOST_NUMBERS;
+use crate::limits::{Handle, Number, MOST_HANDLES};
+use crate::line::{self, Event};
+use crate::refusal::{Refusal, OUT_OF_RANGE};
+
+/// The line's letter, its numbers and their count being left, and 0 in each slot past them; or minus the refusal's number, all being left as it was.
+pub fn read(line: &[u8], numbers: &mut [Number; MOST_NUMBERS], count: &mut u32) -> i32 {
+    let event = match line::read(line) {
+        Ok(event) => event,
+        Err(refusal) => return -i32::from(refusal),
+    };
+    let (letter, parts) = event.parts().expect("an event that was read");
+    *numbers = [0; MOST_NUMBERS];
+    for (number, &part) in numbers.iter_mut().zip(parts.iter()) {
+        *number = part as Number;
+    }
+    *count = parts.len() as u32;
+    letter.into()
+}
+
+/// What the writer of each kind of line is handed.
+#[derive(Clone, Copy, Debug, PartialEq, Eq)]
+pub enum Handed {
+    Enter {
+        thread: u32,
+        env: Handle,
+        count: u32,
+        handles: [Handle; MOST_HANDLES],
+    },
+    Leave {
+        thread: u32,
+        result: Handle,
+    },
+    Call {
+        thread: u32,
+        env: Handle,
+        function: u32,
+        places: [Handle; 3],
+        capacity: i32,
+    },
+    Return {
+        thread: u32,
+        function: u32,
+        result: Handle,
+        status: i32,
+        pending: u32,
+    },
+    End,
+}
+
+impl Handed {
+    /// What the writer is handed for a line with this letter and these numbers, as the reader leaves them.
+    pub fn of(letter: u8, numbers: &[Number]) -> Option<Handed> {
+        let handed = match (letter, numbers) {
+            (b'N', &[thread, env, ref named @ ..]) => {
+                let mut handles = [0; MOST_HANDLES];
+                handles.get_mut(..named.len())?.copy_from_slice(named);
+                Handed::Enter {
+                    thread,
+                    env,
+                    count: named.len() as u32,
+                    handles,
+                }
+            }
+            (b'X', &[thread, result]) => Handed::Leave { thread, result },
+            (b'C', &[thread, env, function, a, b, c, n]) => Handed::Call {
+                thread,
+                env,
+                function,
+                places: [a, b, c],
+                capacity: n as i32,
+            },
+            (b'R', &[thread, function, number, pending]) => {
+                let (result, status) = if gives_status(function) {
+                    (0, number as i32)
+                } else {
+                    (number, 0)
+                };
+                Handed::Return {
+                    thread,
+                    function,
+                    result,
+                    status,
+                    pending,
+                }
+            }
+            (b'Z', &[]) => Handed::End,
+            _ => return None,
+        };
+        Some(handed)
+    }
+
+    pub fn letter(&self) -> u8 {
+        match self {
+            Handed::Enter { .. } => b'N',
+            Handed::Leave { .. } => b'X',
+            Handed::Call { .. } => b'C',
+            Handed::Return { .. } => b'R',
+            Handed::End => b'Z',
+        }
+    }
+
+    /// The length of the line, which is written at the start of the buffer, or minus the refusal's number.
+    pub fn write(&self, buffer: &mut [u8]) -> i32 {
+        match self.written(buffer) {
+            Ok(length) => length as i32,
+            Err(refusal) => -i32::from(refusal),
+        }
+    }
+
+    fn written(&self, buffer: &mut [u8]) -> Result<usize, Refusal> {
+        line::write(&self.event().ok_or(OUT_OF_RANGE)?, buffer)
+    }
+
+    /// There is none where a function that gives a status has a result too, or any other a status.
+    fn event(&self) -> Option<Event> {
+        let event = match *self {
+            Handed::Enter {
+                thread,
+                env,
+                count,
+                handles,
+            } => Event::N {
+                thread,
+                env,
+                count: count as usize,
+                handles,
+            },
+            Handed::Leave { thread, result } => Event::X { thread, result },
+            Handed::Call {
+                thread,
+                env,
+                function,
+                places,
+                capacity,
+            } => Event::C {
+                thread,
+                env,
+                function,
+                places,
+                capacity,
+            },
+            Handed::Return {
+                thread,
+                function,
+                result,
+                status,
+                pending,
+            } => Event::R {
+                thread,
+                function,
+                result: match (gives_status(function), result, status) {
+                    (true, 0, status) => status.into(),
+                    (false, result, 0) => result.into(),
+                    _ => return None,
+                },
+                pending,
+            },
+            Handed::End => Event::Z,
+        };
+        Some(event)
+    }
+}
+
+fn gives_status(function: u32) -> bool {
+    facts(function).is_some_and(|facts| facts.result == ResultKind::Status)
+}

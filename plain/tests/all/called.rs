@@ -1,0 +1,97 @@
+//! The reader and the writers as a C caller has them.
+
+use crate::common::line;
+use plain::called::{read, Handed};
+
+/// What the reader gives and leaves where every number was 7 before, for a line given with spaces for tabs.
+fn said(text: &str) -> (i32, [u32; 10], u32) {
+    let (mut numbers, mut count) = ([7; 10], 7);
+    let letter = read(&line(text), &mut numbers, &mut count);
+    (letter, numbers, count)
+}
+
+#[test]
+fn numbers_are_left_in_their_order_and_0_past_them() {
+    for (text, letter, numbers) in [
+        ("N 16 100", b'N', &[16, 100][..]),
+        ("N 1 100 5 9", b'N', &[1, 100, 5, 9]),
+        (
+            "N 1 4294967295 1 5 9 13 17 21 25 4294967293",
+            b'N',
+            &[1, u32::MAX, 1, 5, 9, 13, 17, 21, 25, u32::MAX - 2],
+        ),
+        ("X 2 4294967295", b'X', &[2, u32::MAX]),
+        ("C 3 300 104 5 8 9 0", b'C', &[3, 300, 104, 5, 8, 9, 0]),
+        (
+            "C 3 300 19 0 0 0 -5",
+            b'C',
+            &[3, 300, 19, 0, 0, 0, u32::MAX - 4],
+        ),
+        ("R 4 165 4294967295 1", b'R', &[4, 165, u32::MAX, 1]),
+        ("R 4 217 -2147483648 0", b'R', &[4, 217, 0x8000_0000, 0]),
+        ("Z", b'Z', &[]),
+    ] {
+        let mut ten = [0; 10];
+        ten[..numbers.len()].copy_from_slice(numbers);
+        let expected = (letter.into(), ten, numbers.len() as u32);
+        assert_eq!(said(text), expected, "{text}");
+    }
+}
+
+#[test]
+fn a_refusal_is_below_zero_and_leaves_all_as_it_was() {
+    for (text, refusal) in [("N 17 01", -2), ("N 17 1", -3), ("Z 0", -2)] {
+        assert_eq!(said(text), (refusal, [7; 10], 7), "{text}");
+    }
+    let (mut numbers, mut count) = ([7; 10], 7);
+    assert_eq!(read(b"X\t1\t0", &mut numbers, &mut count), -1);
+    assert_eq!((numbers, count), ([7; 10], 7));
+}
+
+#[test]
+fn what_is_read_is_what_the_writer_is_handed() {
+    for text in [
+        "N 1 100",
+        "N 1 100 1 5 9 13 17 21 25 29",
+        "X 2 7",
+        "C 3 300 26 0 0 0 -2147483648",
+        "R 4 218 -1 1",
+        "R 4 6 4294967293 0",
+        "Z",
+    ] {
+        let (letter, numbers, count) = said(text);
+        let handed = Handed::of(letter as u8, &numbers[..count as usize]).unwrap();
+        assert_eq!(i32::from(handed.letter()), letter);
+        let mut buffer = [b'?'; 129];
+        let length = handed.write(&mut buffer) as usize;
+        assert_eq!(buffer[..length], line(text)[..]);
+        assert_eq!(handed.write(&mut buffer[..length - 1]), -7);
+    }
+    assert_eq!(Handed::of(b'N', &[1; 11]), None);
+    assert_eq!(Handed::of(b'X', &[1; 3]), None);
+    assert_eq!(Handed::of(b'A', &[]), None);
+}
+
+#[test]
+fn a_result_stands_beside_no_status() {
+    let answer = |function, result, status| Handed::Return {
+        thread: 1,
+        function,
+        result,
+        status,
+        pending: 0,
+    };
+    for (handed, reply) in [
+        (answer(217, 0, -1), 13),
+        (answer(217, 0, 0), 12),
+        (answer(217, 5, 0), -3),
+        (answer(217, 5, 5), -3),
+        (answer(6, 5, 0), 10),
+        (answer(6, 0, 5), -3),
+        (answer(6, 5, 5), -3),
+        (answer(4, 0, -1), -3),
+        (answer(233, 0, 0), -3),
+    ] {
+        assert_eq!(handed.write(&mut [0; 129]), reply, "{handed:?}");
+    }
+}
