@@ -1,4 +1,4 @@
-/* A recorder's use of weir.h: it writes a small trace to standard output, then tries every refusal.
+/* A recorder's use of weir.h: it writes a small trace to standard output and reads each line back, then tries every refusal.
  *
  * Standard output is the trace alone. What went wrong is said on standard error, and the exit status is then 1.
  */
@@ -17,12 +17,79 @@ static void expect(int holds, const char *what)
     }
 }
 
+/* ---- a line, written and read back */
+
+/* The line in d, of which a writer returned r, is read as its letter and the numbers that it was written of, 0 past them. */
+static void check(const uint8_t *d, int32_t r, char letter, uint32_t count, const uint32_t numbers[WEIR_NUMBERS])
+{
+    uint32_t found[WEIR_NUMBERS];
+    uint32_t found_count;
+
+    expect(r > 0 && r <= WEIR_LINE && d[r - 1] == '\n', "a line is written");
+    if (r <= 0)
+        return;
+    if (weir_read(d, (size_t)r, found, &found_count) != letter || found_count != count
+        || memcmp(found, numbers, sizeof found) != 0) {
+        fprintf(stderr, "recorder: not read as it was written: %.*s", (int)r, (const char *)d);
+        failures++;
+    }
+}
+
+static int32_t checked_enter(uint8_t d[WEIR_LINE], uint32_t thread, uint32_t env, uint32_t count,
+                             const uint32_t handles[WEIR_HANDLES])
+{
+    const int32_t r = weir_enter(d, WEIR_LINE, thread, env, count, handles);
+    uint32_t numbers[WEIR_NUMBERS] = {thread, env};
+
+    memcpy(numbers + 2, handles, WEIR_HANDLES * sizeof numbers[0]);
+    check(d, r, 'N', 2 + count, numbers);
+    return r;
+}
+
+static int32_t checked_leave(uint8_t d[WEIR_LINE], uint32_t thread, uint32_t result)
+{
+    const int32_t r = weir_leave(d, WEIR_LINE, thread, result);
+    const uint32_t numbers[WEIR_NUMBERS] = {thread, result};
+
+    check(d, r, 'X', 2, numbers);
+    return r;
+}
+
+static int32_t checked_call(uint8_t d[WEIR_LINE], uint32_t thread, uint32_t env, uint32_t function, uint32_t a, uint32_t b,
+                            uint32_t c, int32_t n)
+{
+    const int32_t r = weir_call(d, WEIR_LINE, thread, env, function, a, b, c, n);
+    const uint32_t numbers[WEIR_NUMBERS] = {thread, env, function, a, b, c, (uint32_t)n};
+
+    check(d, r, 'C', 7, numbers);
+    return r;
+}
+
+/* A function gives a result or a status, and the other is 0. */
+static int32_t checked_return(uint8_t d[WEIR_LINE], uint32_t thread, uint32_t function, uint32_t result, int32_t status,
+                              uint32_t pending)
+{
+    const int32_t r = weir_return(d, WEIR_LINE, thread, function, result, status, pending);
+    const uint32_t numbers[WEIR_NUMBERS] = {thread, function, status != 0 ? (uint32_t)status : result, pending};
+
+    check(d, r, 'R', 4, numbers);
+    return r;
+}
+
+static int32_t checked_end(uint8_t d[WEIR_LINE])
+{
+    const int32_t r = weir_end(d, WEIR_LINE);
+    const uint32_t numbers[WEIR_NUMBERS] = {0};
+
+    check(d, r, 'Z', 0, numbers);
+    return r;
+}
+
 /* ---- a trace */
 
-/* Prints the line in d, of which a function returned r. */
-static void emit(const uint8_t *d, int32_t r, const char *what)
+/* Prints the line in d, of which a writer returned r. */
+static void emit(const uint8_t *d, int32_t r)
 {
-    expect(r > 0 && r <= WEIR_LINE && d[r - 1] == '\n', what);
     if (r > 0)
         expect(fwrite(d, 1, (size_t)r, stdout) == (size_t)r, "a line is printed");
 }
@@ -33,35 +100,35 @@ static void trace(void)
     uint8_t d[WEIR_LINE];
 
     /* Java enters a native of thread 1 with two locals */
-    emit(d, weir_enter(d, sizeof d, 1, 100, 2, arguments), "N is written");
+    emit(d, checked_enter(d, 1, 100, 2, arguments));
     /* PushLocalFrame(8) gives 0 */
-    emit(d, weir_call(d, sizeof d, 1, 100, 19, 0, 0, 0, 8), "C of 19 is written");
-    emit(d, weir_return(d, sizeof d, 1, 19, 0, 0, 0), "R of 19 is written");
+    emit(d, checked_call(d, 1, 100, 19, 0, 0, 0, 8));
+    emit(d, checked_return(d, 1, 19, 0, 0, 0));
     /* EnsureLocalCapacity(-5) fails with -1 and an exception */
-    emit(d, weir_call(d, sizeof d, 1, 100, 26, 0, 0, 0, -5), "C of 26 is written");
-    emit(d, weir_return(d, sizeof d, 1, 26, 0, -1, 1), "R of 26 is written");
+    emit(d, checked_call(d, 1, 100, 26, 0, 0, 0, -5));
+    emit(d, checked_return(d, 1, 26, 0, -1, 1));
     /* ExceptionClear */
-    emit(d, weir_call(d, sizeof d, 1, 100, 17, 0, 0, 0, 0), "C of 17 is written");
-    emit(d, weir_return(d, sizeof d, 1, 17, 0, 0, 0), "R of 17 is written");
+    emit(d, checked_call(d, 1, 100, 17, 0, 0, 0, 0));
+    emit(d, checked_return(d, 1, 17, 0, 0, 0));
     /* GetObjectClass of 5 gives the local 13, GetMethodID the identity 4096 */
-    emit(d, weir_call(d, sizeof d, 1, 100, 31, 5, 0, 0, 0), "C of 31 is written");
-    emit(d, weir_return(d, sizeof d, 1, 31, 13, 0, 0), "R of 31 is written");
-    emit(d, weir_call(d, sizeof d, 1, 100, 33, 13, 0, 0, 0), "C of 33 is written");
-    emit(d, weir_return(d, sizeof d, 1, 33, 4096, 0, 0), "R of 33 is written");
+    emit(d, checked_call(d, 1, 100, 31, 5, 0, 0, 0));
+    emit(d, checked_return(d, 1, 31, 13, 0, 0));
+    emit(d, checked_call(d, 1, 100, 33, 13, 0, 0, 0));
+    emit(d, checked_return(d, 1, 33, 4096, 0, 0));
     /* GetStringUTFChars of 9 gives a buffer, which is released */
-    emit(d, weir_call(d, sizeof d, 1, 100, 169, 9, 0, 0, 0), "C of 169 is written");
-    emit(d, weir_return(d, sizeof d, 1, 169, 4294967295u, 0, 0), "R of 169 is written");
-    emit(d, weir_call(d, sizeof d, 1, 100, 170, 9, 4294967295u, 0, 0), "C of 170 is written");
-    emit(d, weir_return(d, sizeof d, 1, 170, 0, 0, 0), "R of 170 is written");
+    emit(d, checked_call(d, 1, 100, 169, 9, 0, 0, 0));
+    emit(d, checked_return(d, 1, 169, 4294967295u, 0, 0));
+    emit(d, checked_call(d, 1, 100, 170, 9, 4294967295u, 0, 0));
+    emit(d, checked_return(d, 1, 170, 0, 0, 0));
     /* PopLocalFrame with nothing to keep */
-    emit(d, weir_call(d, sizeof d, 1, 100, 20, 0, 0, 0, 0), "C of 20 is written");
-    emit(d, weir_return(d, sizeof d, 1, 20, 0, 0, 0), "R of 20 is written");
+    emit(d, checked_call(d, 1, 100, 20, 0, 0, 0, 0));
+    emit(d, checked_return(d, 1, 20, 0, 0, 0));
     /* back to Java with the local 5, and the end */
-    emit(d, weir_leave(d, sizeof d, 1, 5), "X is written");
-    emit(d, weir_end(d, sizeof d), "Z is written");
+    emit(d, checked_leave(d, 1, 5));
+    emit(d, checked_end(d));
 }
 
-/* ---- refusals */
+/* ---- refusals of the writers */
 
 #define FILL 0xa5
 
@@ -128,6 +195,10 @@ static void bad_events(void)
     refuses(weir_return(fresh(), size, 1, 31, 13, 0, 2), WEIR_BAD, "R with pending 2 is bad");
 }
 
+static const uint32_t highest[WEIR_HANDLES] = {4294967293u, 4294967289u, 4294967285u, 4294967281u,
+                                               4294967277u, 4294967273u, 4294967269u, 4294967265u};
+static const int32_t lowest = -2147483647 - 1;
+
 /* A call that writes `line`, tried with each room: short below the line's length, and the same line from there on. */
 #define SHORT(line, call)                                                                                                \
     do {                                                                                                                 \
@@ -145,9 +216,6 @@ static void bad_events(void)
 static void short_buffers(void)
 {
     const uint32_t none[WEIR_HANDLES] = {0};
-    const uint32_t highest[WEIR_HANDLES] = {4294967293u, 4294967289u, 4294967285u, 4294967281u,
-                                            4294967277u, 4294967273u, 4294967269u, 4294967265u};
-    const int32_t lowest = -2147483647 - 1;
 
     SHORT("N\t1\t100\n", weir_enter(fresh(), room, 1, 100, 0, none));
     SHORT("N\t16\t4294967295\t4294967293\t4294967289\t4294967285\t4294967281\t4294967277\t4294967273\t4294967269\t4294967265\n",
@@ -166,11 +234,143 @@ static void short_buffers(void)
     expect(weir_end(NULL, 0) == WEIR_SHORT, "Z in no buffer is short");
 }
 
+/* ---- what the reader takes, and its refusals */
+
+static void longest_lines(void)
+{
+    uint8_t d[WEIR_LINE];
+
+    expect(checked_enter(d, 16, 4294967295u, 8, highest) == 104, "the longest N has 104 bytes");
+    expect(checked_leave(d, 16, 4294967295u) == 16, "the longest X has 16 bytes");
+    expect(checked_call(d, 16, 4294967295u, 104, 4294967295u, 4294967295u, 4294967295u, 0) == 55, "the longest C has 55 bytes");
+    expect(checked_call(d, 16, 4294967295u, 26, 0, 0, 0, lowest) == 37, "the longest C with a capacity has 37 bytes");
+    expect(checked_return(d, 16, 218, 0, lowest, 1) == 23, "the longest R has 23 bytes");
+    expect(checked_return(d, 16, 169, 4294967295u, 0, 1) == 22, "the longest R with a result has 22 bytes");
+    expect(checked_end(d) == 2, "Z has 2 bytes");
+}
+
+static void below_zero(void)
+{
+    static const char capacity[] = "C\t1\t100\t19\t0\t0\t0\t-2147483648\n";
+    static const char status[] = "R\t1\t26\t-1\t1\n";
+    static const char largest[] = "R\t1\t26\t2147483647\t0\n";
+    uint32_t numbers[WEIR_NUMBERS] = {0};
+    uint32_t count = 0;
+
+    expect(weir_read((const uint8_t *)capacity, strlen(capacity), numbers, &count) == 'C', "a C with a capacity is read");
+    expect(count == 7 && weir_signed(numbers[6]) == lowest, "its capacity is -2147483648");
+    expect(weir_read((const uint8_t *)status, strlen(status), numbers, &count) == 'R', "an R with a status is read");
+    expect(count == 4 && weir_signed(numbers[2]) == -1, "its status is -1");
+    expect(weir_read((const uint8_t *)largest, strlen(largest), numbers, &count) == 'R', "an R with the largest status is read");
+    expect(count == 4 && weir_signed(numbers[2]) == 2147483647, "its status is 2147483647");
+}
+
+/* The reader returns `number` for these bytes, and leaves numbers and count as they were. */
+static void refuses_bytes(const uint8_t *bytes, size_t length, int32_t number, const char *what)
+{
+    uint32_t untouched[WEIR_NUMBERS];
+    uint32_t numbers[WEIR_NUMBERS];
+    uint32_t count = FILL;
+
+    memset(untouched, FILL, sizeof untouched);
+    memset(numbers, FILL, sizeof numbers);
+    expect(weir_read(bytes, length, numbers, &count) == number, what);
+    expect(count == FILL && memcmp(numbers, untouched, sizeof numbers) == 0, "nothing is written on a refusal of the reader");
+}
+
+static void refuses_line(const char *line, int32_t number)
+{
+    refuses_bytes((const uint8_t *)line, strlen(line), number, line);
+}
+
+static void no_lines(void)
+{
+    static const char line[] =
+        "N\t16\t4294967295\t4294967293\t4294967289\t4294967285\t4294967281\t4294967277\t4294967273\t4294967269\t4294967265\n";
+    uint8_t wide[WEIR_LINE + 1];
+    size_t length;
+
+    refuses_bytes(NULL, 0, WEIR_NO_LINE, "no byte at all is no line");
+    for (length = 0; length < strlen(line); length++)
+        refuses_bytes((const uint8_t *)line, length, WEIR_NO_LINE, "the start of a line is no line");
+    refuses_line("Z", WEIR_NO_LINE);
+    refuses_line("Z\nZ", WEIR_NO_LINE);
+    refuses_line("Z\n\r", WEIR_NO_LINE);
+    /* 128 bytes before the LF are read, 129 are no line */
+    memset(wide, '9', sizeof wide);
+    memcpy(wide, "X\t1\t", 4);
+    wide[WEIR_LINE - 1] = '\n';
+    refuses_bytes(wide, WEIR_LINE, WEIR_BAD, "X of 128 bytes has a number out of range");
+    wide[WEIR_LINE - 1] = '9';
+    wide[WEIR_LINE] = '\n';
+    refuses_bytes(wide, WEIR_LINE + 1, WEIR_NO_LINE, "129 bytes before the LF are no line");
+}
+
+static void wrong_forms(void)
+{
+    static const char *const lines[] = {
+        /* letters */
+        "\n", "A\t1\t5\n", "x\t1\t5\n", "\tX\t1\t5\n", " Z\n", "XX\t1\t5\n", "1\t1\t5\n",
+        /* fields */
+        "N\n", "N\t1\n", "N\t1\t100\t1\t5\t9\t13\t17\t21\t25\t29\t33\n", "X\n", "X\t1\n", "X\t1\t5\t5\n",
+        "C\t1\t100\t31\t5\t0\t0\n", "C\t1\t100\t31\t5\t0\t0\t0\t0\n", "R\t1\t31\t13\n", "R\t1\t31\t13\t0\t0\n", "Z\t1\n",
+        "X\t1\t5\t\n", "X\t1\t\t5\n", "X\t1\t\n", "Z\t\n", "X 1 5\n", "X1\t5\n", "X\t1\t5\r\n", "Z\r\n", "Z \n",
+        /* numbers */
+        "X\t01\t5\n", "X\t1\t00\n", "X\t1\t-0\n", "X\t1\t-01\n", "X\t1\t-\n", "X\t1\t--1\n", "X\t1\t1-\n", "X\t1\t+5\n",
+        "X\t1\t 5\n", "X\t1\t5 \n", "X\t1\t5.0\n", "X\t1\t0x5\n", "X\t1\tfive\n",
+        "C\t1\t100\t19\t0\t0\t0\t-0\n", "R\t1\t26\t-0\t1\n", "R\t1\t31\t13\t01\n",
+        /* an LF inside */
+        "Z\nZ\n", "Z\n\n", "\nZ\n", "X\t1\n\t5\n", "X\t1\n5\n", "X\t1\t5\n\n",
+        /* a wrong form goes before a number out of range */
+        "X\t17\t01\n", "X\t01\t4294967296\n", "R\t17\t233\t13\n", "N\t17\t0\t0\t0\t0\t0\t0\t0\t0\t0\t0\n"};
+    const uint8_t nul[] = {'X', '\t', '1', '\t', '5', 0, '\n'};
+    uint8_t letter[] = {0, '\n'};
+    size_t i;
+
+    for (i = 0; i < sizeof lines / sizeof lines[0]; i++)
+        refuses_line(lines[i], WEIR_FORM);
+    refuses_bytes(nul, sizeof nul, WEIR_FORM, "a NUL is no part of a number");
+    for (i = 0; i < 256; i++)
+        if (i != 'Z') {
+            letter[0] = (uint8_t)i;
+            refuses_bytes(letter, sizeof letter, WEIR_FORM, "a line of one letter is Z's");
+        }
+}
+
+static void bad_numbers(void)
+{
+    static const char *const lines[] = {
+        "N\t0\t100\n", "N\t17\t100\n", "N\t-1\t100\n", "N\t1\t0\n", "N\t1\t-1\n", "N\t1\t4294967296\n", "N\t1\t100\t0\n",
+        "N\t1\t100\t5\t6\n", "N\t1\t100\t4\n", "N\t1\t100\t4294967297\n", "N\t1\t100\t-3\n",
+        "N\t1\t100\t1\t5\t9\t13\t17\t21\t25\t30\n",
+        "X\t0\t5\n", "X\t17\t5\n", "X\t4294967297\t5\n", "X\t1\t-1\n", "X\t1\t4294967296\n",
+        "X\t1\t18446744073709551621\n", "X\t1\t123456789012345678901234567890\n",
+        "X\t123456789012345678901234567890\t5\n", "X\t1\t-123456789012345678901234567890\n",
+        "C\t17\t100\t6\t0\t0\t0\t0\n", "C\t1\t0\t6\t0\t0\t0\t0\n", "C\t1\t100\t3\t0\t0\t0\t0\n",
+        "C\t1\t100\t233\t0\t0\t0\t0\n", "C\t1\t100\t-6\t0\t0\t0\t0\n", "C\t1\t100\t31\t-1\t0\t0\t0\n",
+        "C\t1\t100\t31\t4294967296\t0\t0\t0\n", "C\t1\t100\t31\t5\t9\t0\t0\n", "C\t1\t100\t31\t5\t0\t9\t0\n",
+        "C\t1\t100\t31\t5\t0\t0\t1\n", "C\t1\t100\t31\t5\t0\t0\t-1\n", "C\t1\t100\t19\t0\t0\t0\t2147483648\n",
+        "C\t1\t100\t26\t0\t0\t0\t-2147483649\n", "C\t1\t100\t19\t0\t0\t0\t123456789012345678901234567890\n",
+        "R\t17\t31\t13\t0\n", "R\t1\t3\t0\t0\n", "R\t1\t233\t0\t0\n", "R\t1\t31\t14\t0\n", "R\t1\t31\t-1\t0\n",
+        "R\t1\t21\t13\t0\n", "R\t1\t226\t14\t0\n", "R\t1\t33\t13\t0\n", "R\t1\t22\t14\t0\n",
+        "R\t1\t169\t4294967296\t0\n", "R\t1\t169\t-1\t0\n", "R\t1\t19\t2147483648\t0\n", "R\t1\t218\t-2147483649\t0\n",
+        "R\t1\t31\t13\t2\n", "R\t1\t31\t13\t-1\n"};
+    size_t i;
+
+    for (i = 0; i < sizeof lines / sizeof lines[0]; i++)
+        refuses_line(lines[i], WEIR_BAD);
+}
+
 int main(void)
 {
     trace();
     bad_events();
     short_buffers();
+    longest_lines();
+    below_zero();
+    no_lines();
+    wrong_forms();
+    bad_numbers();
     expect(fflush(stdout) == 0, "the trace is printed");
     return failures != 0;
 }

@@ -1,19 +1,8 @@
-/* The writer of trace lines for a recorder written in C: one function for each kind of line.
+/* Lines of a trace for a recorder written in C: a writer for each kind of line, and a reader that tells what a line says.
  *
- * Each function writes one whole line, LF included, at the start of a buffer that the caller lends. It opens no file,
- * allocates nothing and keeps nothing between calls, so threads may call it at the same time, each with a buffer of its own.
- *
- *   d, length   the buffer: `length` bytes that the caller may write. d may be NULL only where length is 0.
- *
- * Every function returns
- *
- *   above 0     how many bytes the line has, LF included: d[0] to d[r - 1]. There is no NUL after them.
- *   WEIR_BAD    -3: the numbers are no line that a judge would take: one is out of its range, or is not what the function's
- *               row in the table of JNI functions (crates/facts/specs/Table.antt) has.
- *   WEIR_SHORT  -7: the line has more bytes than the buffer. Given only where the numbers are good.
- *
- * and nothing else. On a refusal (WEIR_BAD, WEIR_SHORT) nothing is written. Bytes past a written line stay as they were.
- * No line has more than WEIR_LINE bytes, so a buffer of that size is never short.
+ * Writers and reader are two libraries, `recorder` and `reader`; each can be linked without the other, and neither has
+ * anything of the judge. They open no file, allocate nothing and keep nothing between calls, so threads may call them at the
+ * same time, each with a buffer of its own. A call takes less than 300 bytes of stack (docs/BENCH.md).
  *
  * Numbers:
  *
@@ -35,6 +24,9 @@
 extern "C" {
 #endif
 
+/* What is returned instead of a line, below zero. */
+#define WEIR_NO_LINE (-1)
+#define WEIR_FORM (-2)
 #define WEIR_BAD (-3)
 #define WEIR_SHORT (-7)
 
@@ -43,6 +35,27 @@ extern "C" {
 
 /* The slots for N's handles. */
 #define WEIR_HANDLES 8
+
+/* The slots for a line's numbers: N has the most, thread, env and eight handles. */
+#define WEIR_NUMBERS 10
+
+/* ---- the writers, library `recorder`
+ *
+ * Each writes one whole line, LF included, at the start of a buffer that the caller lends.
+ *
+ *   d, length   the buffer: `length` bytes that the caller may write. d may be NULL only where length is 0.
+ *
+ * Every writer returns
+ *
+ *   above 0     how many bytes the line has, LF included: d[0] to d[r - 1]. There is no NUL after them.
+ *   WEIR_BAD    -3: the numbers are no line that a judge would take: one is out of its range, a handle of N is null or no
+ *               local, or something is not what the function's row in the table of JNI functions
+ *               (crates/facts/specs/Table.antt) has.
+ *   WEIR_SHORT  -7: the line has more bytes than the buffer. Given only where the numbers are good.
+ *
+ * and nothing else. On a refusal (WEIR_BAD, WEIR_SHORT) nothing is written. Bytes past a written line stay as they were.
+ * No line has more than WEIR_LINE bytes, so a buffer of that size is never short.
+ */
 
 /* N: Java enters native.
  *
@@ -80,6 +93,45 @@ int32_t weir_return(uint8_t *d, size_t length, uint32_t thread, uint32_t functio
 
 /* Z: the end of the run. */
 int32_t weir_end(uint8_t *d, size_t length);
+
+/* ---- the reader, library `reader`
+ *
+ * Reads one line and leaves its numbers, in the order in which they stand there, at the front of an array that the caller
+ * lends.
+ *
+ *   line, length  all bytes of the line, with its LF. line may be NULL only where length is 0.
+ *   numbers       ten slots, always all ten, apart from the line
+ *   count         how many numbers the line has, apart from both
+ *
+ * Returns
+ *
+ *   above 0       the line's letter. Its numbers are numbers[0] to numbers[*count - 1]; the slots past them are 0.
+ *   WEIR_NO_LINE  -1: it has over 128 bytes before its LF, or its last byte is no LF, or it has no byte at all.
+ *   WEIR_FORM     -2: its letter, the count of its fields or the form of a number is wrong; an LF inside is a wrong form.
+ *   WEIR_BAD      -3: a number is out of its range, a handle of N is null or no local, or something is not what the
+ *                 function's row in the table of JNI functions has.
+ *
+ * and nothing else, in this order where several fit. On a refusal nothing is written. What the numbers are:
+ *
+ *   letter  count    numbers
+ *   'N'     2 to 10  thread, env, then the locals that the native was given
+ *   'X'     2        thread, result
+ *   'C'     7        thread, env, function, a, b, c, n
+ *   'R'     4        thread, function, result or status, pending
+ *   'Z'     0
+ *
+ * C's n may be below zero, and so may R's status, which stands in place of the result where the function gives one (19, 26,
+ * 217 and 218). weir_signed(numbers[6]) and weir_signed(numbers[2]) are these; every other number is itself.
+ *
+ * What was written is read as the numbers that it was written of, and what is read is written again as the same bytes.
+ */
+int32_t weir_read(const uint8_t *line, size_t length, uint32_t numbers[WEIR_NUMBERS], uint32_t *count);
+
+/* The capacity or the status that a line's number stands for: below zero it is its two's complement. */
+static inline int32_t weir_signed(uint32_t number)
+{
+    return number <= INT32_MAX ? (int32_t)number : -(int32_t)(UINT32_MAX - number) - 1;
+}
 
 #ifdef __cplusplus
 }
