@@ -76,6 +76,24 @@ static int32_t checked_return(uint8_t d[WEIR_LINE], uint32_t thread, uint32_t fu
     return r;
 }
 
+static int32_t checked_declare(uint8_t d[WEIR_LINE], uint32_t class_number, uint32_t super_number)
+{
+    const int32_t r = weir_declare(d, WEIR_LINE, class_number, super_number);
+    const uint32_t numbers[WEIR_NUMBERS] = {class_number, super_number};
+
+    check(d, r, 'K', 2, numbers);
+    return r;
+}
+
+static int32_t checked_state(uint8_t d[WEIR_LINE], uint32_t thread, uint32_t handle, uint32_t class_number)
+{
+    const int32_t r = weir_state(d, WEIR_LINE, thread, handle, class_number);
+    const uint32_t numbers[WEIR_NUMBERS] = {thread, handle, class_number};
+
+    check(d, r, 'O', 3, numbers);
+    return r;
+}
+
 static int32_t checked_end(uint8_t d[WEIR_LINE])
 {
     const int32_t r = weir_end(d, WEIR_LINE);
@@ -99,8 +117,12 @@ static void trace(void)
     const uint32_t arguments[WEIR_HANDLES] = {5, 9};
     uint8_t d[WEIR_LINE];
 
-    /* Java enters a native of thread 1 with two locals */
+    /* class 5 is declared under object */
+    emit(d, checked_declare(d, 5, 1));
+    /* Java enters a native of thread 1 with two locals, one of class 5 and a string */
     emit(d, checked_enter(d, 1, 100, 2, arguments));
+    emit(d, checked_state(d, 1, 5, 5));
+    emit(d, checked_state(d, 1, 9, 3));
     /* PushLocalFrame(8) gives 0 */
     emit(d, checked_call(d, 1, 100, 19, 0, 0, 0, 8));
     emit(d, checked_return(d, 1, 19, 0, 0, 0));
@@ -193,6 +215,15 @@ static void bad_events(void)
     refuses(weir_return(fresh(), size, 1, 19, 1, 0, 0), WEIR_BAD, "R of 19 with a result is bad");
     refuses(weir_return(fresh(), size, 1, 31, 13, -1, 0), WEIR_BAD, "R of 31 with a status is bad");
     refuses(weir_return(fresh(), size, 1, 31, 13, 0, 2), WEIR_BAD, "R with pending 2 is bad");
+    refuses(weir_declare(fresh(), size, 0, 1), WEIR_BAD, "K of class 0 is bad");
+    refuses(weir_declare(fresh(), size, 4096, 1), WEIR_BAD, "K of class 4096 is bad");
+    refuses(weir_declare(fresh(), size, 4294967295u, 1), WEIR_BAD, "K of class 4294967295 is bad");
+    refuses(weir_declare(fresh(), size, 5, 0), WEIR_BAD, "K under class 0 is bad");
+    refuses(weir_declare(fresh(), size, 5, 4096), WEIR_BAD, "K under class 4096 is bad");
+    refuses(weir_state(fresh(), size, 0, 5, 3), WEIR_BAD, "O of thread 0 is bad");
+    refuses(weir_state(fresh(), size, 17, 5, 3), WEIR_BAD, "O of thread 17 is bad");
+    refuses(weir_state(fresh(), size, 1, 5, 0), WEIR_BAD, "O of class 0 is bad");
+    refuses(weir_state(fresh(), size, 1, 5, 4096), WEIR_BAD, "O of class 4096 is bad");
 }
 
 static const uint32_t highest[WEIR_HANDLES] = {4294967293u, 4294967289u, 4294967285u, 4294967281u,
@@ -228,6 +259,8 @@ static void short_buffers(void)
     SHORT("C\t1\t1\t26\t0\t0\t0\t2147483647\n", weir_call(fresh(), room, 1, 1, 26, 0, 0, 0, 2147483647));
     SHORT("R\t16\t218\t-2147483648\t1\n", weir_return(fresh(), room, 16, 218, 0, lowest, 1));
     SHORT("R\t16\t169\t4294967295\t1\n", weir_return(fresh(), room, 16, 169, 4294967295u, 0, 1));
+    SHORT("K\t4095\t1\n", weir_declare(fresh(), room, 4095, 1));
+    SHORT("O\t16\t4294967295\t4095\n", weir_state(fresh(), room, 16, 4294967295u, 4095));
     SHORT("Z\n", weir_end(fresh(), room));
     /* a bad event in no room at all is bad, not short */
     refuses(weir_leave(fresh(), 0, 17, 5), WEIR_BAD, "X of thread 17 in no room is bad");
@@ -235,6 +268,16 @@ static void short_buffers(void)
 }
 
 /* ---- what the reader takes, and its refusals */
+
+/* Whether a handle is alive, and of which kind, the lines do not ask. */
+static void handles_of_every_kind(void)
+{
+    uint8_t d[WEIR_LINE];
+    uint32_t handle;
+
+    for (handle = 0; handle < 8; handle++)
+        expect(checked_state(d, 1, handle, 1) == 8, "the class of any handle is stated");
+}
 
 static void longest_lines(void)
 {
@@ -246,6 +289,8 @@ static void longest_lines(void)
     expect(checked_call(d, 16, 4294967295u, 26, 0, 0, 0, lowest) == 37, "the longest C with a capacity has 37 bytes");
     expect(checked_return(d, 16, 218, 0, lowest, 1) == 23, "the longest R has 23 bytes");
     expect(checked_return(d, 16, 169, 4294967295u, 0, 1) == 22, "the longest R with a result has 22 bytes");
+    expect(checked_declare(d, 4095, 4095) == 12, "the longest K has 12 bytes");
+    expect(checked_state(d, 16, 4294967295u, 4095) == 21, "the longest O has 21 bytes");
     expect(checked_end(d) == 2, "Z has 2 bytes");
 }
 
@@ -310,19 +355,21 @@ static void wrong_forms(void)
 {
     static const char *const lines[] = {
         /* letters */
-        "\n", "A\t1\t5\n", "x\t1\t5\n", "\tX\t1\t5\n", " Z\n", "XX\t1\t5\n", "1\t1\t5\n",
+        "\n", "A\t1\t5\n", "x\t1\t5\n", "k\t5\t1\n", "o\t1\t5\t3\n", "\tX\t1\t5\n", " Z\n", "XX\t1\t5\n", "1\t1\t5\n",
         /* fields */
         "N\n", "N\t1\n", "N\t1\t100\t1\t5\t9\t13\t17\t21\t25\t29\t33\n", "X\n", "X\t1\n", "X\t1\t5\t5\n",
         "C\t1\t100\t31\t5\t0\t0\n", "C\t1\t100\t31\t5\t0\t0\t0\t0\n", "R\t1\t31\t13\n", "R\t1\t31\t13\t0\t0\n", "Z\t1\n",
+        "K\t5\n", "K\t5\t1\t1\n", "O\t1\t5\n", "O\t1\t5\t3\t3\n",
         "X\t1\t5\t\n", "X\t1\t\t5\n", "X\t1\t\n", "Z\t\n", "X 1 5\n", "X1\t5\n", "X\t1\t5\r\n", "Z\r\n", "Z \n",
         /* numbers */
         "X\t01\t5\n", "X\t1\t00\n", "X\t1\t-0\n", "X\t1\t-01\n", "X\t1\t-\n", "X\t1\t--1\n", "X\t1\t1-\n", "X\t1\t+5\n",
         "X\t1\t 5\n", "X\t1\t5 \n", "X\t1\t5.0\n", "X\t1\t0x5\n", "X\t1\tfive\n",
-        "C\t1\t100\t19\t0\t0\t0\t-0\n", "R\t1\t26\t-0\t1\n", "R\t1\t31\t13\t01\n",
+        "C\t1\t100\t19\t0\t0\t0\t-0\n", "R\t1\t26\t-0\t1\n", "R\t1\t31\t13\t01\n", "K\t05\t1\n", "O\t1\t5\t-0\n",
         /* an LF inside */
         "Z\nZ\n", "Z\n\n", "\nZ\n", "X\t1\n\t5\n", "X\t1\n5\n", "X\t1\t5\n\n",
         /* a wrong form goes before a number out of range */
-        "X\t17\t01\n", "X\t01\t4294967296\n", "R\t17\t233\t13\n", "N\t17\t0\t0\t0\t0\t0\t0\t0\t0\t0\t0\n"};
+        "X\t17\t01\n", "X\t01\t4294967296\n", "R\t17\t233\t13\n", "K\t0\t01\n", "O\t17\t5\t\n",
+        "N\t17\t0\t0\t0\t0\t0\t0\t0\t0\t0\t0\n"};
     const uint8_t nul[] = {'X', '\t', '1', '\t', '5', 0, '\n'};
     uint8_t letter[] = {0, '\n'};
     size_t i;
@@ -354,7 +401,10 @@ static void bad_numbers(void)
         "R\t17\t31\t13\t0\n", "R\t1\t3\t0\t0\n", "R\t1\t233\t0\t0\n", "R\t1\t31\t14\t0\n", "R\t1\t31\t-1\t0\n",
         "R\t1\t21\t13\t0\n", "R\t1\t226\t14\t0\n", "R\t1\t33\t13\t0\n", "R\t1\t22\t14\t0\n",
         "R\t1\t169\t4294967296\t0\n", "R\t1\t169\t-1\t0\n", "R\t1\t19\t2147483648\t0\n", "R\t1\t218\t-2147483649\t0\n",
-        "R\t1\t31\t13\t2\n", "R\t1\t31\t13\t-1\n"};
+        "R\t1\t31\t13\t2\n", "R\t1\t31\t13\t-1\n",
+        "K\t0\t1\n", "K\t4096\t1\n", "K\t-5\t1\n", "K\t4294967301\t1\n", "K\t5\t0\n", "K\t5\t4096\n", "K\t5\t-1\n",
+        "O\t0\t5\t3\n", "O\t17\t5\t3\n", "O\t-1\t5\t3\n", "O\t1\t4294967296\t3\n", "O\t1\t-5\t3\n", "O\t1\t5\t0\n",
+        "O\t1\t5\t4096\n", "O\t1\t5\t-3\n"};
     size_t i;
 
     for (i = 0; i < sizeof lines / sizeof lines[0]; i++)
@@ -366,6 +416,7 @@ int main(void)
     trace();
     bad_events();
     short_buffers();
+    handles_of_every_kind();
     longest_lines();
     below_zero();
     no_lines();

@@ -11,6 +11,7 @@
  *   function    4 to 232, the function's place in the JNI function table
  *   handles     0 to 4294967295, 0 being null. In a handle the remainder by 4 is its kind: 1 local, 2 global, 3 weak.
  *               Method and field identities have remainder 0. Buffers may have each remainder.
+ *   classes     1 to 4095. 1 to 4 stand for object, class, string and throwable; a judge takes another once K declares it.
  *
  * Array releases in commit mode (JNI_COMMIT) are not recorded: they free nothing, and a judge would take them for releases.
  */
@@ -91,6 +92,21 @@ int32_t weir_call(uint8_t *d, size_t length, uint32_t thread, uint32_t env, uint
 int32_t weir_return(uint8_t *d, size_t length, uint32_t thread, uint32_t function, uint32_t result, int32_t status,
                     uint32_t pending);
 
+/* K: declares a class.
+ *
+ *   class_number  1 to 4095. That it is not declared yet, nor 1 to 4, is for the judge to look at.
+ *   super_number  1 to 4095, the class above it; that it is declared, or 1 to 4, is for the judge too.
+ */
+int32_t weir_declare(uint8_t *d, size_t length, uint32_t class_number, uint32_t super_number);
+
+/* O: states the class of a handle.
+ *
+ *   handle        0 to 4294967295, of any kind. That it is alive for the thread, so no null and no identity, is for the judge
+ *                 to look at.
+ *   class_number  1 to 4095; that it is declared, or 1 to 4, is for the judge too.
+ */
+int32_t weir_state(uint8_t *d, size_t length, uint32_t thread, uint32_t handle, uint32_t class_number);
+
 /* Z: the end of the run. */
 int32_t weir_end(uint8_t *d, size_t length);
 
@@ -118,6 +134,8 @@ int32_t weir_end(uint8_t *d, size_t length);
  *   'X'     2        thread, result
  *   'C'     7        thread, env, function, a, b, c, n
  *   'R'     4        thread, function, result or status, pending
+ *   'K'     2        class, super
+ *   'O'     3        thread, handle, class
  *   'Z'     0
  *
  * C's n may be below zero, and so may R's status, which stands in place of the result where the function gives one (19, 26,

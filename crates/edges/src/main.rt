@@ -78,6 +78,12 @@ fn put_event(e: Event, h: &[u32; 8]) {
             put_signed(status);
             put_number(pending);
         }
+        Event::Declare { class, superclass } => put_numbers(b" K", &[class, superclass]),
+        Event::State {
+            thread,
+            handle,
+            class,
+        } => put_numbers(b" O", &[thread, handle, class]),
         Event::End => put(b" Z"),
         Event::Refused(k) => put_number(k as u32),
     }

@@ -1,20 +1,25 @@
--- Document 01's table of functions, its marks and its buffer families agree with each other, for every number. Assumes nothing.
+-- Document 01's table of functions, its marks and its buffer families, and document 02's places with a class, agree with each other, for every number. Assumes nothing.
 use mathlib.Core.Path.{_≡_, refl, ap, sym, _∙_}
 use mathlib.Core.Bool.{Bool, true, false, _||_, false≢true}
 use mathlib.Core.List.{List, [], _∷_}
+use mathlib.Core.Logic.{_≢_}
 use Prim.Native.Nat.{ℕ, zero, suc, _<_}
+use Prim.Native.Char.{code}
 use native.Mathlib.Omega.{arith}
 use native.Mathlib.Decide.{decLt}
 use lib.Dec.{ltb, eqb}
 use borrow.Author.Tests.{eqb-true, eq-eqb}
 use Rattle.words.specs.Choice.{one}
 use Rattle.words.specs.Lists.{any, count}
-use Rattle.facts.specs.Table.{lists, first-function, last-function, is-function, Row, table, fact-of, is-allowed-pending, is-allowed-critical, in-pair, families, family, is-critical}
+use Rattle.facts.specs.Table.{lists, first-function, last-function, is-function, place, Row, table, fact-of, is-allowed-pending, is-allowed-critical, in-pair, families, family, is-critical}
 use Rattle.facts.specs.Results.{is-buffer-result, is-buffer-place}
-use Rattle.facts.specs.Letters.{no-family}
-use Rattle.facts.proofs.Letters.{one-back}
+use Rattle.facts.specs.Classes.{no-class, class-a, class-b}
+use Rattle.facts.specs.Letters.{place-letter, no-family}
+use Rattle.facts.specs.declared.Place.{Place}
+use Rattle.facts.specs.declared.Place.the-variants as Place
+use Rattle.facts.proofs.Letters.{place-back, one-back}
 use Rattle.facts.proofs.Each.{each, each-at}
-use Rattle.facts.proofs.Outside.{how-many, above-last, gets, releases, no-fact-outside, no-row-outside, not-pending-outside, not-critical-outside, no-family-outside, no-pair-outside, no-getter-outside, no-releaser-outside}
+use Rattle.facts.proofs.Outside.{how-many, above-last, gets, releases, no-fact-outside, no-row-outside, not-pending-outside, not-critical-outside, no-family-outside, no-pair-outside, no-getter-outside, no-releaser-outside, no-class-a-outside, no-class-b-outside}
 
 -- ---- a test computed once over the functions holds for each
 
@@ -106,3 +111,26 @@ unfolding family is-critical is-allowed-critical
 critical-families =
     same-tests (λ f. is-critical (family f)) is-allowed-critical refl
     (λ f e. ap is-critical (no-family-outside f e) ∙ sym (not-critical-outside f e))
+
+-- ---- classes
+
+-- a place whose class is fixed is a handle's, and never null
+abbrev has-handle : ℕ → Place → Bool
+has-handle class p = eqb class no-class || eqb (place-letter p) (code "r")
+
+handle-there : (class : ℕ) (p : Place) → has-handle class p ≡ true → class ≢ no-class → p ≡ Place.Handle
+handle-there class p h some = go (eqb class no-class) refl h
+  where
+    go : (q : Bool) → eqb class no-class ≡ q → (q || eqb (place-letter p) (code "r")) ≡ true → p ≡ Place.Handle
+    go true e k = absurd (some (eqb-true class no-class e))
+    go false e k = sym (place-back p) ∙ ap place (eqb-true (place-letter p) (code "r") k)
+
+pub class-a-handles : (f : ℕ) → class-a f ≢ no-class → fact-of f .a ≡ Place.Handle
+unfolding table fact-of class-a
+class-a-handles f =
+    handle-there (class-a f) (fact-of f .a) (by-functions (λ f. has-handle (class-a f) (fact-of f .a)) refl (λ f e. rw (no-class-a-outside f e)) f)
+
+pub class-b-handles : (f : ℕ) → class-b f ≢ no-class → fact-of f .b ≡ Place.Handle
+unfolding table fact-of class-b
+class-b-handles f =
+    handle-there (class-b f) (fact-of f .b) (by-functions (λ f. has-handle (class-b f) (fact-of f .b)) refl (λ f e. rw (no-class-b-outside f e)) f)

@@ -10,6 +10,7 @@ use borrow.Author.Tests.{le-leb, lt-leb, leb-true, eqb-true}
 use Rattle.words.specs.Choice.{within}
 use Rattle.words.specs.Lists.{any, count, place-of}
 use Rattle.facts.specs.Table.{Span, only, _to_, in-span, lists, first-function, last-function, is-function, Row, table, no-fact, find, fact-of, allowed-pending, is-allowed-pending, is-allowed-critical, Pair, _/_, in-pair, families, family}
+use Rattle.facts.specs.Classes.{no-class, class-a, class-b}
 use Rattle.facts.specs.Letters.{no-family}
 
 -- ---- tests
@@ -136,6 +137,19 @@ module _ (f : ℕ) (none : is-function f ≡ false) where
 
   pub no-releaser-outside : any (releases f) families ≡ false
   no-releaser-outside = any-none pair-of-functions (releases f) not-second families refl
+
+  pub no-class-a-outside : class-a f ≡ no-class
+  unfolding class-a
+  no-class-a-outside =
+      rw (
+        not-listed (9 to 12 ∷ only 14 ∷ 27 to 30 ∷ only 33 ∷ only 94 ∷ 113 to 162 ∷ only 172 ∷ only 215 ∷ only 216 ∷ []) refl,
+        not-listed (164 to 166 ∷ 168 to 170 ∷ only 220 ∷ only 221 ∷ only 224 ∷ only 225 ∷ []) refl,
+        not-listed (only 13 ∷ []) refl,
+      )
+
+  pub no-class-b-outside : class-b f ≡ no-class
+  unfolding class-b
+  no-class-b-outside = rw (not-listed (only 11 ∷ only 32 ∷ 64 to 93 ∷ []) refl)
 
 pub above-last : (f : ℕ) → last-function < f → is-function f ≡ false
 above-last f h = rw (le-leb first-function f (omega arith)) (lt-leb f last-function h)

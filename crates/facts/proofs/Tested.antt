@@ -9,7 +9,8 @@ use lib.Dec.{eqb}
 use borrow.Author.Tests.{lt-ltb, le-ltb, eqb-true}
 use Rattle.words.specs.Choice.{one}
 use Rattle.facts.specs.Table.{place, result, Fact, fact-of, no-fact, is-function, family}
-use Rattle.facts.specs.Letters.{no-letter, place-letter, result-letter, family-in, line-length, lines, in-lines, letter-at}
+use Rattle.facts.specs.Classes.{no-class}
+use Rattle.facts.specs.Letters.{no-letter, place-letter, result-letter, family-in, class-in, line-length, lines, in-lines, letter-at}
 use Rattle.facts.specs.declared.Place.{Place}
 use Rattle.facts.specs.declared.Result.{Result}
 use Rattle.facts.proofs.Outside.{no-fact-outside, no-family-outside, above-last}
@@ -56,3 +57,6 @@ module _ (t : List (List ℕ)) where
 
     pub family-there : agrees family-in family t ≡ true → {r : ℕ} → r ≡ family-in x → r ≡ family f
     family-there tested given = given ∙ ap family-in here ∙ at-every family-in family tested no-family-outside f
+
+    pub class-there : (fixed : ℕ → ℕ) → agrees class-in fixed t ≡ true → ((f : ℕ) → is-function f ≡ false → fixed f ≡ no-class) → {r : ℕ} → r ≡ class-in x → r ≡ fixed f
+    class-there fixed tested none given = given ∙ ap class-in here ∙ at-every class-in fixed tested none f

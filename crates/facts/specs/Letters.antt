@@ -1,11 +1,12 @@
--- The facts of a function in document 01's letters, and the columns in which the code has them. Assumes nothing.
+-- The facts of a function in document 01's letters, and in letters of our own for the classes of document 02; and the columns in which the code has them. Assumes nothing.
 use Prim.Native.Nat.{ℕ, _-_, _*_, _/_, _%_}
 use Prim.Native.Char.{code}
 use mathlib.Core.List.{List, []}
-use lib.Dec.{ltb}
+use lib.Dec.{eqb, ltb}
 use lib.ListN.{length, getD}
 use Rattle.words.specs.Choice.{if_then_else_}
 use Rattle.facts.specs.Table.{families}
+use Rattle.facts.specs.Classes.{class, string, throwable, no-class}
 use Rattle.facts.specs.declared.Place.{Place}
 use Rattle.facts.specs.declared.Place.the-variants as Place
 use Rattle.facts.specs.declared.Result.{Result}
@@ -40,6 +41,14 @@ no-family = length families
 -- A to L are families 0 to 11
 abbrev pub family-in : ℕ → ℕ
 family-in x = if ltb x (code "A") then no-family else x - code "A"
+
+-- the class that a letter stands for
+abbrev pub class-in : ℕ → ℕ
+class-in x =
+    if eqb x (code "c") then class
+    else if eqb x (code "s") then string
+    else if eqb x (code "t") then throwable
+    else no-class
 
 -- ---- a column: a letter for each number from 0 on, eight to a line
 

@@ -16,6 +16,9 @@ DeleteLocalRef = 23
 abbrev pub EnsureLocalCapacity : ℕ
 EnsureLocalCapacity = 26
 
+abbrev pub GetObjectClass : ℕ
+GetObjectClass = 31
+
 abbrev pub MonitorEnter : ℕ
 MonitorEnter = 217
 

@@ -5,7 +5,7 @@ ghost use Prim.Native.Nat.{_<_};
 ghost use lib.ListN.{getD};
 ghost use Rattle.facts.specs.Letters.{lines, letter-at};
 
-// No letter: unused, nothing, not allowed, no family; and no function.
+// No letter: unused, nothing, not allowed, no family, no class; and no function.
 pub(crate) const NONE: u8 = b'-';
 
 const LETTERS: usize = 8;
@@ -250,6 +250,73 @@ pub(crate) const FAMILY: Column = [
     *b"--------", // 208
     *b"------KK", // 216
     *b"LL------", // 224
+    *b"--------", // 232
+];
+
+// The class fixed for a place: `c` class, `s` string, `t` throwable.
+pub(crate) const CLASS_A: Column = [
+    *b"--------", // 0
+    *b"-cccctc-", // 8
+    *b"--------", // 16
+    *b"---cccc-", // 24
+    *b"-c------", // 32
+    *b"--------", // 40
+    *b"--------", // 48
+    *b"--------", // 56
+    *b"--------", // 64
+    *b"--------", // 72
+    *b"--------", // 80
+    *b"------c-", // 88
+    *b"--------", // 96
+    *b"--------", // 104
+    *b"-ccccccc", // 112
+    *b"cccccccc", // 120
+    *b"cccccccc", // 128
+    *b"cccccccc", // 136
+    *b"cccccccc", // 144
+    *b"cccccccc", // 152
+    *b"ccc-sss-", // 160
+    *b"sss-c---", // 168
+    *b"--------", // 176
+    *b"--------", // 184
+    *b"--------", // 192
+    *b"--------", // 200
+    *b"-------c", // 208
+    *b"c---ss--", // 216
+    *b"ss------", // 224
+    *b"--------", // 232
+];
+
+pub(crate) const CLASS_B: Column = [
+    *b"--------", // 0
+    *b"---c----", // 8
+    *b"--------", // 16
+    *b"--------", // 24
+    *b"c-------", // 32
+    *b"--------", // 40
+    *b"--------", // 48
+    *b"--------", // 56
+    *b"cccccccc", // 64
+    *b"cccccccc", // 72
+    *b"cccccccc", // 80
+    *b"cccccc--", // 88
+    *b"--------", // 96
+    *b"--------", // 104
+    *b"--------", // 112
+    *b"--------", // 120
+    *b"--------", // 128
+    *b"--------", // 136
+    *b"--------", // 144
+    *b"--------", // 152
+    *b"--------", // 160
+    *b"--------", // 168
+    *b"--------", // 176
+    *b"--------", // 184
+    *b"--------", // 192
+    *b"--------", // 200
+    *b"--------", // 208
+    *b"--------", // 216
+    *b"--------", // 224
     *b"--------", // 232
 ];
 

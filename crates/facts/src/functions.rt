@@ -9,6 +9,8 @@ pub const DELETE_LOCAL_REF: u32 = 23;
 
 pub const ENSURE_LOCAL_CAPACITY: u32 = 26;
 
+pub const GET_OBJECT_CLASS: u32 = 31;
+
 pub const MONITOR_ENTER: u32 = 217;
 
 pub const MONITOR_EXIT: u32 = 218;

@@ -5,6 +5,7 @@ ghost use mathlib.Core.Path.{_≡_};
 ghost use Rattle.facts.specs.Table.{place, result, fact-of, is-allowed-pending, is-allowed-critical, family, is-critical};
 ghost use Rattle.facts.specs.Letters.{family-in};
 
+pub mod classes;
 mod columns; // columns.rt: the table of functions
 pub mod functions;
 pub mod handles;

@@ -1,16 +1,14 @@
 -- An event that is a refusal, and one that is none: what was read. Assumes nothing.
 use mathlib.Core.Path.{_≡_, refl}
-use mathlib.Core.Bool.{Bool, true, false, not}
-use mathlib.Core.List.{List}
+use mathlib.Core.Bool.{Bool, true, false}
+use mathlib.Core.List.{List, [], _∷_}
 use Prim.Native.Nat.{ℕ}
 use native.Mathlib.Omega.{arith}
-use lib.Dec.{T}
 use lib.IntN.{pos}
-use mir.Val.{hasKey}
 use types.Run.{OneOf, miss}
 use denote.Enum.Declared.{tagOf}
 use Rattle.words.specs.Choice.{if_then_else_}
-use Rattle.lines.specs.Line.{Line, N, X, C, R, Z, above-zero}
+use Rattle.lines.specs.Line.{K, O, Line, N, X, C, R, Z, states, above-zero}
 use Rattle.lines.specs.Reading.{Read, says, refused}
 use Rattle.lines.specs.Events.{gives-status, event-of}
 use Rattle.lines.specs.declared.Event.the-variants as Event
@@ -27,7 +25,13 @@ event-refused (says (R t f r p)) k h = go (gives-status f) h
     go true h = let z : _≡_ {A = ℕ} 0 1 = cc in absurd (omega arith)
     go false h = let z : _≡_ {A = ℕ} 0 1 = cc in absurd (omega arith)
 event-refused (says Z) k h = let z : _≡_ {A = ℕ} 0 1 = cc in absurd (omega arith)
+event-refused (says (states (K c s))) k h = let z : _≡_ {A = ℕ} 0 1 = cc in absurd (omega arith)
+event-refused (says (states (O t v c))) k h = let z : _≡_ {A = ℕ} 0 1 = cc in absurd (omega arith)
 
-pub event-said : (x : Read) (ks : List ℕ) → T (not (hasKey ks 5)) → OneOf ks (tagOf the-type (event-of x)) → (e : Line) × (x ≡ says e)
-event-said (refused j) ks h w = absurd (miss ks 5 h w)
-event-said (says e) ks h w = (e, refl)
+-- the tags of the events that are lines, all but the last
+abbrev pub line-tags : List ℕ
+line-tags = 0 ∷ 1 ∷ 2 ∷ 3 ∷ 4 ∷ 5 ∷ 6 ∷ []
+
+pub event-said : (x : Read) → OneOf line-tags (tagOf the-type (event-of x)) → (e : Line) × (x ≡ says e)
+event-said (refused j) w = absurd (miss line-tags 7 tt w)
+event-said (says e) w = (e, refl)

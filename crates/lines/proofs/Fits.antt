@@ -19,11 +19,11 @@ use Rattle.facts.specs.declared.Place.{Place}
 use Rattle.facts.specs.declared.Place.the-variants as Place
 use Rattle.facts.specs.declared.Result.{Result}
 use Rattle.facts.specs.declared.Result.the-variants as Result
-use Rattle.lines.specs.Line.{Line, N, X, C, R, Z, is-allowed, is-thread, is-env, is-value, is-argument, is-made, is-zero, kind, threads, largest, longest, most-handles, place-allows, capacity-allows, value-allows, result-allows}
+use Rattle.lines.specs.Line.{K, O, Line, N, X, C, R, Z, states, is-allowed, is-thread, is-env, is-value, is-class, is-argument, is-made, is-zero, kind, threads, classes, largest, longest, most-handles, place-allows, capacity-allows, value-allows, result-allows}
 use Rattle.lines.specs.Forms.{most-fields, form-of, letter-of, numbers-of}
 use Rattle.lines.specs.Reading.{line-of}
 use Rattle.lines.specs.Writing.{tabbed, written}
-use Rattle.lines.proofs.Tests.{both, all4, all7, neither}
+use Rattle.lines.proofs.Tests.{both, all3, all4, all7, neither}
 use Rattle.lines.proofs.Formed.{within-high, most-few}
 use Rattle.lines.proofs.Numbered.{in-form-said, line-says}
 
@@ -39,6 +39,9 @@ thread-fits t h = let k = within-high 1 threads t h in omega arith
 
 function-fits : (f : ℕ) → is-function f ≡ true → f ≤ largest
 function-fits f h = let k = within-high first-function last-function f h in omega arith
+
+class-fits : (c : ℕ) → is-class c ≡ true → c ≤ largest
+class-fits c h = let k = within-high 1 classes c h in omega arith
 
 arguments-fit : (hs : List ℕ) → any (λ (h : ℕ). not (is-argument h)) hs ≡ false → Each (map pos hs)
 arguments-fit [] h = tt
@@ -124,6 +127,10 @@ allowed-fits (R t f r p) h =
     let q = leb-true p 1 (k .3) in
     (thread-fits t (k .0), (function-fits f (k .1), (result-fits (fact-of f .result) r (k .2), (omega arith, tt))))
 allowed-fits Z h = tt
+allowed-fits (states (K c s)) h = let k = both (is-class c) (is-class s) h in (class-fits c (k .0), (class-fits s (k .1), tt))
+allowed-fits (states (O t v c)) h =
+    let k = all3 (is-thread t) (is-value v) (is-class c) h in
+    (thread-fits t (k .0), (leb-true v largest (k .1), (class-fits c (k .2), tt)))
 
 pub few-numbers : (e : Line) → is-allowed e ≡ true → length (numbers-of e) ≤ most-fields
 unfolding line-of

@@ -1,6 +1,6 @@
 -- The event that the code makes of a line's numbers. Assumes nothing.
 use mathlib.Core.Path.{_≡_, refl, ap, sym, subst, _∙_}
-use mathlib.Core.Bool.{Bool, true, false, not, true≢false}
+use mathlib.Core.Bool.{Bool, true, false, true≢false}
 use mathlib.Core.Logic.{_≢_}
 use mathlib.Core.List.{List, [], _∷_, map}
 use Prim.Native.Nat.{ℕ, zero, suc, _+_, _-_, _≤_}
@@ -13,7 +13,7 @@ use borrow.Author.Tests.{ne-eqb, eqb-true}
 use Rattle.words.specs.Choice.{within}
 use Rattle.facts.specs.Table.{fact-of, is-function}
 use Rattle.numbers.specs.Signed.{signed, is-i32}
-use Rattle.lines.specs.Line.{Line, N, X, C, R, Z, is-allowed, is-thread, is-env, place-allows, capacity-allows, result-allows, most-handles}
+use Rattle.lines.specs.Line.{K, O, Line, N, X, C, R, Z, states, is-allowed, is-thread, is-env, place-allows, capacity-allows, result-allows, most-handles}
 use Rattle.lines.specs.Forms.{most-fields, no-place, of-letter}
 use Rattle.lines.specs.Reading.{says, refused, if-allowed, line-of}
 use Rattle.lines.specs.Events.{gives-status, event-of}
@@ -91,6 +91,12 @@ call-line minus vs = C (getD vs 0 0) (getD vs 1 0) (getD vs 2 0) (getD vs 3 0) (
 abbrev pub return-line : Bool → List ℕ → Line
 return-line minus vs = R (getD vs 0 0) (getD vs 1 0) (signed minus (getD vs 2 0)) (getD vs 3 0)
 
+abbrev pub declare-line : Bool → List ℕ → Line
+declare-line minus vs = states (K (getD vs 0 0) (getD vs 1 0))
+
+abbrev pub state-line : Bool → List ℕ → Line
+state-line minus vs = states (O (getD vs 0 0) (getD vs 1 0) (getD vs 2 0))
+
 enter-front : (n : ℕ) (minus : Bool) (vs : List ℕ) → length vs ≡ most-fields → within 2 most-fields n ≡ true
     → Front (code "N") n minus vs (enter-line n vs)
 unfolding of-letter signed-at
@@ -124,6 +130,16 @@ return-front : (minus : Bool) (vs : List ℕ) → length vs ≡ most-fields → 
 unfolding line-of of-letter signed-at
 return-front true = of-length 10 (λ vs. Front (code "R") 4 true vs (return-line true vs)) (λ _ _ _ _ _ _ _ _ _ _. refl)
 return-front false = of-length 10 (λ vs. Front (code "R") 4 false vs (return-line false vs)) (λ _ _ _ _ _ _ _ _ _ _. refl)
+
+declare-front : (minus : Bool) (vs : List ℕ) → length vs ≡ most-fields → Front (code "K") 2 minus vs (declare-line minus vs)
+unfolding line-of of-letter signed-at
+declare-front true = of-length 10 (λ vs. Front (code "K") 2 true vs (declare-line true vs)) (λ _ _ _ _ _ _ _ _ _ _. refl)
+declare-front false = of-length 10 (λ vs. Front (code "K") 2 false vs (declare-line false vs)) (λ _ _ _ _ _ _ _ _ _ _. refl)
+
+state-front : (minus : Bool) (vs : List ℕ) → length vs ≡ most-fields → Front (code "O") 3 minus vs (state-line minus vs)
+unfolding line-of of-letter signed-at
+state-front true = of-length 10 (λ vs. Front (code "O") 3 true vs (state-line true vs)) (λ _ _ _ _ _ _ _ _ _ _. refl)
+state-front false = of-length 10 (λ vs. Front (code "O") 3 false vs (state-line false vs)) (λ _ _ _ _ _ _ _ _ _ _. refl)
 
 end-front : (minus : Bool) (vs : List ℕ) → Front (code "Z") 0 minus vs Z
 unfolding line-of of-letter signed-at
@@ -163,11 +179,19 @@ module _ (b n : ℕ) (minus : Bool) (vs : List ℕ) (ten : length vs ≡ most-fi
   unfolding of-letter
   return-in e = one-count (code "R") 4 (return-line minus vs) e (within-one 4 n (right-at e)) (return-front minus vs ten)
 
-  -- no other letter has a count
-  pub end-in : b ≢ code "N" → b ≢ code "X" → b ≢ code "C" → b ≢ code "R" → says Z ≡ line-in b n minus vs
+  pub declare-in : b ≡ code "K" → if-allowed (declare-line minus vs) ≡ line-in b n minus vs
   unfolding of-letter
-  end-in hn hx hc hr = go (eqb b (code "Z")) refl
+  declare-in e = one-count (code "K") 2 (declare-line minus vs) e (within-one 2 n (right-at e)) (declare-front minus vs ten)
+
+  pub state-in : b ≡ code "O" → if-allowed (state-line minus vs) ≡ line-in b n minus vs
+  unfolding of-letter
+  state-in e = one-count (code "O") 3 (state-line minus vs) e (within-one 3 n (right-at e)) (state-front minus vs ten)
+
+  -- no other letter has a count
+  pub end-in : b ≢ code "N" → b ≢ code "X" → b ≢ code "C" → b ≢ code "R" → b ≢ code "K" → b ≢ code "O" → says Z ≡ line-in b n minus vs
+  unfolding of-letter
+  end-in hn hx hc hr hk ho = go (eqb b (code "Z")) refl
     where
       go : (t : Bool) → eqb b (code "Z") ≡ t → says Z ≡ line-in b n minus vs
       go true e = let p = eqb-true b (code "Z") e in one-count (code "Z") 0 Z p (within-one 0 n (right-at p)) (end-front minus vs)
-      go false e = absurd (true≢false (sym right ∙ rw (ne-eqb b 78 hn, ne-eqb b 88 hx, ne-eqb b 67 hc, ne-eqb b 82 hr, e) (no-count n)))
+      go false e = absurd (true≢false (sym right ∙ rw (ne-eqb b 78 hn, ne-eqb b 88 hx, ne-eqb b 67 hc, ne-eqb b 82 hr, ne-eqb b 75 hk, ne-eqb b 79 ho, e) (no-count n)))

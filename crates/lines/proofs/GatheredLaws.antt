@@ -14,7 +14,7 @@ use borrow.Author.Tests.{le-leb, lt-leb}
 use Rattle.words.specs.Choice.{if_then_else_}
 use Rattle.words.specs.Lists.{any}
 use Rattle.numbers.specs.Signed.{is-negative}
-use Rattle.lines.specs.Line.{Line, N, X, C, R, Z, above-zero}
+use Rattle.lines.specs.Line.{K, O, Line, N, X, C, R, Z, states, above-zero}
 use Rattle.lines.specs.Forms.{most-fields, form-of, numbers-of}
 use Rattle.lines.specs.Reading.{Read, says, refused, numbers, line-of, if-numbers}
 use Rattle.lines.specs.Writing.{lettered, written}
@@ -164,6 +164,8 @@ slots-said n vs (says (X t r)) h = refl
 slots-said n vs (says (C t env f a b c k)) h = refl
 slots-said n vs (says (R t f r p)) h = return-slots n vs t f r p
 slots-said n vs (says Z) h = refl
+slots-said n vs (says (states (K c s))) h = refl
+slots-said n vs (says (states (O t k c))) h = refl
 
 -- N names the handles after thread and env
 module _ (b n : ℕ) (minus : Bool) (vs : List ℕ) (ten : length vs ≡ most-fields) where

@@ -1,15 +1,14 @@
 -- Sizes and a sign as the numbers that are told to C, and a line's numbers among them. Assumes nothing.
 use mathlib.Core.Path.{_≡_, refl, ap, ap₂, sym, subst, _∙_}
-use mathlib.Core.Bool.{Bool, true, false, not}
+use mathlib.Core.Bool.{Bool, true, false}
 use mathlib.Core.List.{List, [], _∷_, _++_, map, map-append}
 use mathlib.Core.Logic.{inl, inr}
 use Prim.Native.Nat.{ℕ, zero, suc, _+_, _-_, _≤_, _<_}
 use native.Mathlib.Omega.{arith}
-use lib.Dec.{eqb, T}
+use lib.Dec.{eqb}
 use lib.IntN.{ℤ}
 use lib.ListN.{length, getD, set, take, drop, replicate, take-append-drop}
 use lib.Seq.{length-take-le}
-use mir.Val.{hasKey}
 use types.Run.{OneOf}
 use denote.Enum.Declared.{tagOf}
 use borrow.Author.Tests.{eq-eqb, ne-eqb}
@@ -27,7 +26,7 @@ use Rattle.lines.specs.declared.apart.Apart.the-variants as Apart
 use Rattle.lines.specs.declared.heads.Head.the-variants as Head
 use Rattle.lines.proofs.Event.{the-type}
 use Rattle.lines.proofs.Signs.{Away, away, away-next}
-use Rattle.lines.proofs.Answered.{event-refused, event-said}
+use Rattle.lines.proofs.Answered.{event-refused, line-tags, event-said}
 use Rattle.lines.proofs.GatheredLaws.{line-in-numbered}
 
 pub below : (size : ℕ) → (size ≡ 0 → ⊥) → largest - (size - 1) ≡ as-told (signed true size)
@@ -111,10 +110,10 @@ module _ (b n : ℕ) (minus : Bool) (vs ws : List ℕ) {e : Event} (told : e ≡
   pub apart-refused : {k : ℕ} → e ≡ Event.Refused k → (x : Read) → Headed x (Head.Numbers b n minus) vs → Tells x ws (Apart.Refused k) ws
   apart-refused {k} h x r = rw (sym (r .read) ∙ event-refused (line-in b n minus vs) k (sym told ∙ h)) (refl, refl)
 
-  module _ (ten : length vs ≡ most-fields) (ks : List ℕ) (other : T (not (hasKey ks 5))) (tag : OneOf ks (tagOf the-type e)) where
+  module _ (ten : length vs ≡ most-fields) (tag : OneOf line-tags (tagOf the-type e)) where
     pub apart-line : {left : List ℕ} → left ≡ sizes-told b minus vs → (x : Read) → Headed x (Head.Numbers b n minus) vs → Tells x ws (Apart.Line b n) left
     apart-line w x r =
-        let s = event-said (line-in b n minus vs) ks other (subst (λ (y : Event). OneOf ks (tagOf the-type y)) told tag) in
+        let s = event-said (line-in b n minus vs) (subst (λ (y : Event). OneOf line-tags (tagOf the-type y)) told tag) in
         let l = s .0 in
         let k = line-in-numbered b n minus vs l (s .1) in
         let q : x ≡ says l = sym (r .read) ∙ s .1 in

@@ -9,7 +9,7 @@ use lib.ListN.{length, replicate}
 use Rattle.words.specs.Text.{bytes, with-tabs}
 use Rattle.numbers.specs.Decimal.{read-on, digits, digits-in}
 use Rattle.facts.specs.Table.{table, fact-of}
-use Rattle.lines.specs.Line.{N, X, C, R, Z}
+use Rattle.lines.specs.Line.{K, O, N, X, C, R, Z, states}
 use Rattle.lines.specs.Forms.{of-letter}
 use Rattle.lines.specs.Reading.{Read, says, refused, fields, numbers, line-of, of-fields, read}
 use Rattle.lines.specs.Writing.{tabbed, written}
@@ -59,6 +59,31 @@ worked =
     ∷ "R 1 31 9 2\n" reads refused 3
     ∷ "R 1 31 -9 1\n" reads refused 3
     ∷ "R 1 4 1 0\n" reads refused 3
+    -- classes
+    ∷ "K 5 1\n" reads says (states (K 5 1))
+    ∷ "K 1 4095\n" reads says (states (K 1 4095))
+    ∷ "K 4095 1\n" reads says (states (K 4095 1))
+    ∷ "K 5 5\n" reads says (states (K 5 5))
+    ∷ "K 0 1\n" reads refused 3
+    ∷ "K 1 0\n" reads refused 3
+    ∷ "K 4096 1\n" reads refused 3
+    ∷ "K 1 4096\n" reads refused 3
+    ∷ "K -5 1\n" reads refused 3
+    ∷ "K 5 -1\n" reads refused 3
+    ∷ "K 5 4294967297\n" reads refused 3
+    ∷ "O 1 5 3\n" reads says (states (O 1 5 3))
+    ∷ "O 16 4294967295 4095\n" reads says (states (O 16 4294967295 4095))
+    ∷ "O 1 5 1\n" reads says (states (O 1 5 1))
+    ∷ "O 1 0 3\n" reads says (states (O 1 0 3))
+    ∷ "O 1 8 3\n" reads says (states (O 1 8 3))
+    ∷ "O 0 5 3\n" reads refused 3
+    ∷ "O 17 5 3\n" reads refused 3
+    ∷ "O -1 5 3\n" reads refused 3
+    ∷ "O 1 4294967296 3\n" reads refused 3
+    ∷ "O 1 -5 3\n" reads refused 3
+    ∷ "O 1 5 0\n" reads refused 3
+    ∷ "O 1 5 4096\n" reads refused 3
+    ∷ "O 1 5 -3\n" reads refused 3
     -- letter, field count and number form, before any range
     ∷ "X 01 5\n" reads refused 2
     ∷ "N 17 01\n" reads refused 2
@@ -68,6 +93,12 @@ worked =
     ∷ "X 1\n" reads refused 2
     ∷ "X 1 5 5\n" reads refused 2
     ∷ "N 1 100 1 5 9 13 17 21 25 29 33\n" reads refused 2
+    ∷ "K 5\n" reads refused 2
+    ∷ "K 5 1 1\n" reads refused 2
+    ∷ "K 0 01\n" reads refused 2
+    ∷ "O 1 5\n" reads refused 2
+    ∷ "O 1 5 3 3\n" reads refused 2
+    ∷ "O 17 5 -0\n" reads refused 2
     ∷ "X 1 5 \n" reads refused 2
     ∷ "X  5\n" reads refused 2
     ∷ "X 1 5\r\n" reads refused 2
@@ -101,9 +132,11 @@ pub written-lines : (written (N 1 100 (5 ∷ [])) ≡ with-tabs (bytes "N 1 100 
     × (written (C 1 100 19 0 0 0 (negsuc 4)) ≡ with-tabs (bytes "C 1 100 19 0 0 0 -5\n"))
     × (written (R 1 19 (negsuc 2147483647) 0) ≡ with-tabs (bytes "R 1 19 -2147483648 0\n"))
     × (written (X 16 4294967295) ≡ with-tabs (bytes "X 16 4294967295\n"))
+    × (written (states (K 4095 1)) ≡ with-tabs (bytes "K 4095 1\n"))
+    × (written (states (O 16 4294967295 4095)) ≡ with-tabs (bytes "O 16 4294967295 4095\n"))
     × (written Z ≡ with-tabs (bytes "Z\n"))
 unfolding written tabbed digits digits-in
-written-lines = (refl, refl, refl, refl, refl)
+written-lines = (refl, refl, refl, refl, refl, refl, refl)
 
 -- ---- lines as they are told to C
 
@@ -126,6 +159,8 @@ told =
     ∷ "R 1 26 -1 1\n" tells Line (code "R") 4 and (1 ∷ 26 ∷ 4294967295 ∷ 1 ∷ 0 ∷ 0 ∷ 0 ∷ 0 ∷ 0 ∷ 0 ∷ [])
     ∷ "R 1 19 -2147483648 0\n" tells Line (code "R") 4 and (1 ∷ 19 ∷ 2147483648 ∷ 0 ∷ 0 ∷ 0 ∷ 0 ∷ 0 ∷ 0 ∷ 0 ∷ [])
     ∷ "R 1 169 4294967295 0\n" tells Line (code "R") 4 and (1 ∷ 169 ∷ 4294967295 ∷ 0 ∷ 0 ∷ 0 ∷ 0 ∷ 0 ∷ 0 ∷ 0 ∷ [])
+    ∷ "K 5 1\n" tells Line (code "K") 2 and (5 ∷ 1 ∷ 0 ∷ 0 ∷ 0 ∷ 0 ∷ 0 ∷ 0 ∷ 0 ∷ 0 ∷ [])
+    ∷ "O 16 4294967295 4095\n" tells Line (code "O") 3 and (16 ∷ 4294967295 ∷ 4095 ∷ 0 ∷ 0 ∷ 0 ∷ 0 ∷ 0 ∷ 0 ∷ 0 ∷ [])
     ∷ "Z\n" tells Line (code "Z") 0 and replicate 10 0
     ∷ "N 1 100 1 5 9 13 17 21 25 29 33\n" tells Refused 2 and replicate 10 7
     ∷ "X 17 5\n" tells Refused 3 and replicate 10 7

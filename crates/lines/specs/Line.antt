@@ -1,4 +1,4 @@
--- A line of a trace, and which lines document 01 allows by themselves. Assumes nothing.
+-- A line of a trace, and which lines documents 01 and 02 allow by themselves. Assumes nothing.
 use Prim.Native.Nat.{ℕ, _%_}
 use mathlib.Core.Bool.{Bool, true, false, not, _&&_, _||_}
 use mathlib.Core.List.{List}
@@ -15,6 +15,13 @@ use Rattle.facts.specs.declared.Place.the-variants as Place
 use Rattle.facts.specs.declared.Result.{Result}
 use Rattle.facts.specs.declared.Result.the-variants as Result
 
+-- what is stated of classes; it opens and closes nothing
+pub data Statement : Type 0 where
+  -- declares a class: class super
+  K : ℕ → ℕ → Statement
+  -- the class of a handle: thread handle class
+  O : ℕ → ℕ → ℕ → Statement
+
 pub data Line : Type 0 where
   -- Java enters native: thread env, then 0 to 8 handles
   N : ℕ → ℕ → List ℕ → Line
@@ -26,6 +33,8 @@ pub data Line : Type 0 where
   R : ℕ → ℕ → ℤ → ℕ → Line
   -- end of the run
   Z : Line
+  -- a statement
+  states : Statement → Line
 
 -- ---- by the kind of line: what `f` says of its fields, else `d`
 
@@ -37,6 +46,7 @@ module _ {ℓ} {A : Type ℓ} where
   if-N C t env g a b c n then f else d = d
   if-N R t g r p then f else d = d
   if-N Z then f else d = d
+  if-N states s then f else d = d
 
   infixr 1 if-X_then_else_
   abbrev pub if-X_then_else_ : Line → (ℕ → ℕ → A) → A → A
@@ -45,6 +55,7 @@ module _ {ℓ} {A : Type ℓ} where
   if-X C t env g a b c n then f else d = d
   if-X R t g r p then f else d = d
   if-X Z then f else d = d
+  if-X states s then f else d = d
 
   infixr 1 if-C_then_else_
   abbrev pub if-C_then_else_ : Line → (ℕ → ℕ → ℕ → ℕ → ℕ → ℕ → ℤ → A) → A → A
@@ -53,6 +64,7 @@ module _ {ℓ} {A : Type ℓ} where
   if-C C t env g a b c n then f else d = f t env g a b c n
   if-C R t g r p then f else d = d
   if-C Z then f else d = d
+  if-C states s then f else d = d
 
   infixr 1 if-R_then_else_
   abbrev pub if-R_then_else_ : Line → (ℕ → ℕ → ℤ → ℕ → A) → A → A
@@ -61,6 +73,7 @@ module _ {ℓ} {A : Type ℓ} where
   if-R C t env g a b c n then f else d = d
   if-R R t g r p then f else d = f t g r p
   if-R Z then f else d = d
+  if-R states s then f else d = d
 
   infixr 1 if-Z_then_else_
   abbrev pub if-Z_then_else_ : Line → A → A → A
@@ -69,6 +82,36 @@ module _ {ℓ} {A : Type ℓ} where
   if-Z C t env g a b c n then f else d = d
   if-Z R t g r p then f else d = d
   if-Z Z then f else d = f
+  if-Z states s then f else d = d
+
+  infixr 1 if-states_then_else_
+  abbrev pub if-states_then_else_ : Line → A → A → A
+  if-states N t env hs then f else d = d
+  if-states X t r then f else d = d
+  if-states C t env g a b c n then f else d = d
+  if-states R t g r p then f else d = d
+  if-states Z then f else d = d
+  if-states states s then f else d = f
+
+  infixr 1 if-K_then_else_
+  abbrev pub if-K_then_else_ : Line → (ℕ → ℕ → A) → A → A
+  if-K N t env hs then f else d = d
+  if-K X t r then f else d = d
+  if-K C t env g a b c n then f else d = d
+  if-K R t g r p then f else d = d
+  if-K Z then f else d = d
+  if-K states (K c s) then f else d = f c s
+  if-K states (O t h c) then f else d = d
+
+  infixr 1 if-O_then_else_
+  abbrev pub if-O_then_else_ : Line → (ℕ → ℕ → ℕ → A) → A → A
+  if-O N t env hs then f else d = d
+  if-O X t r then f else d = d
+  if-O C t env g a b c n then f else d = d
+  if-O R t g r p then f else d = d
+  if-O Z then f else d = d
+  if-O states (K c s) then f else d = d
+  if-O states (O t h c) then f else d = f t h c
 
 -- ---- ranges
 
@@ -78,6 +121,10 @@ largest = 4294967295
 
 abbrev pub threads : ℕ
 threads = 16
+
+-- classes are numbered from 1 to here
+abbrev pub classes : ℕ
+classes = 4095
 
 abbrev pub most-handles : ℕ
 most-handles = 8
@@ -99,6 +146,9 @@ is-env e = within 1 largest e
 -- from 0 to `largest`
 abbrev pub is-value : ℕ → Bool
 is-value v = leb v largest
+
+abbrev pub is-class : ℕ → Bool
+is-class c = within 1 classes c
 
 -- N handles are local kind; null arguments are left out
 abbrev pub is-argument : ℕ → Bool
@@ -160,3 +210,5 @@ is-allowed (C t env f a b c n) =
     && capacity-allows f n
 is-allowed (R t f r p) = is-thread t && is-function f && result-allows (fact-of f .result) r && leb p 1
 is-allowed Z = true
+is-allowed (states (K c s)) = is-class c && is-class s
+is-allowed (states (O t h c)) = is-thread t && is-value h && is-class c

@@ -48,6 +48,8 @@ slots-in (Event.Enter t env k) n vs = padded (named n vs)
 slots-in (Event.Leave t r) n vs = padded []
 slots-in (Event.Call t env f a b c k) n vs = padded []
 slots-in (Event.Return t f r s p) n vs = padded []
+slots-in (Event.Declare c s) n vs = padded []
+slots-in (Event.State t h c) n vs = padded []
 slots-in Event.End n vs = padded []
 slots-in (Event.Refused k) n vs = padded []
 

@@ -10,7 +10,7 @@ ghost use mathlib.Core.Bool.{true};
 ghost use lib.ListN.{getD};
 ghost use Rattle.words.specs.Choice.{within};
 ghost use Rattle.numbers.specs.Signed.{signed};
-ghost use Rattle.lines.specs.Line.{N, X, C, R};
+ghost use Rattle.lines.specs.Line.{K, O, N, X, C, R, states};
 ghost use Rattle.lines.specs.Forms.{form-of};
 ghost use Rattle.lines.specs.Reading.{if-allowed};
 ghost use Rattle.lines.specs.Events.{event-of};
@@ -49,6 +49,16 @@ pub fn counts_of(letter: u8) -> Counts
             least: 4,
             most: 4,
             signed: 2,
+        },
+        b'K' => Counts {
+            least: 2,
+            most: 2,
+            signed: NO_PLACE,
+        },
+        b'O' => Counts {
+            least: 3,
+            most: 3,
+            signed: NO_PLACE,
         },
         b'Z' => Counts {
             least: 0,
@@ -148,6 +158,31 @@ fn returns(thread: Handle, function: Handle, minus: bool, result: Handle, pendin
     }
 }
 
+fn declare(class: Handle, superclass: Handle) -> Event
+    ensures { λ r. ⌜ r ≡ event-of (if-allowed (states (K class superclass))) ⌝ }
+{
+    if !ranges::declare_allows(class, superclass) {
+        return Event::Refused(RANGE);
+    }
+    Event::Declare {
+        class: class,
+        superclass: superclass,
+    }
+}
+
+fn state(thread: Handle, handle: Handle, class: Handle) -> Event
+    ensures { λ r. ⌜ r ≡ event-of (if-allowed (states (O thread handle class))) ⌝ }
+{
+    if !ranges::state_allows(thread, handle, class) {
+        return Event::Refused(RANGE);
+    }
+    Event::State {
+        thread: thread,
+        handle: handle,
+        class: class,
+    }
+}
+
 // The event of a letter and n numbers: their sizes, and whether the one that may be below zero is.
 pub fn event_of(letter: u8, n: usize, minus: bool, v: [Handle; 10]) -> Event
     ensures { λ r. ⌜ r ≡ event-of (line-in letter n minus v) ⌝ }
@@ -160,6 +195,8 @@ pub fn event_of(letter: u8, n: usize, minus: bool, v: [Handle; 10]) -> Event
         b'X' => leave(v[0], v[1]),
         b'C' => call(v[0], v[1], v[2], v[3], v[4], v[5], minus, v[6]),
         b'R' => returns(v[0], v[1], minus, v[2], v[3]),
+        b'K' => declare(v[0], v[1]),
+        b'O' => state(v[0], v[1], v[2]),
         _ => Event::End,
     }
 }

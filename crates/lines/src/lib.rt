@@ -55,6 +55,15 @@ pub enum Event {
         status: i32,
         pending: u32,
     },
+    Declare {
+        class: u32,
+        superclass: u32,
+    },
+    State {
+        thread: u32,
+        handle: Handle,
+        class: u32,
+    },
     End,
     Refused(u8),
 }

@@ -18,11 +18,14 @@ ghost use lib.IntN.{pos};
 ghost use Rattle.words.specs.Lists.{any};
 ghost use Rattle.numbers.specs.Signed.{signed, is-i32};
 ghost use Rattle.facts.specs.Table.{fact-of, is-function};
-ghost use Rattle.lines.specs.Line.{N, X, C, R, is-allowed, is-thread, is-env, is-argument, is-made, value-allows, place-allows, capacity-allows, result-allows};
+ghost use Rattle.lines.specs.Line.{K, O, N, X, C, R, states, is-allowed, is-thread, is-env, is-class, is-argument, is-made, value-allows, place-allows, capacity-allows, result-allows};
 ghost use Rattle.lines.specs.Events.{is-status, gives-status};
 ghost use Rattle.lines.specs.Sizes.{named};
 
 pub const THREADS: u32 = 16;
+
+// Classes are numbered from 1 to here.
+pub const CLASSES: u32 = 4095;
 
 const FIRST_FUNCTION: u32 = 4;
 
@@ -64,6 +67,12 @@ fn is_function(f: u32) -> bool
     ensures { λ r. ⌜ r ≡ is-function f ⌝ }
 {
     (FIRST_FUNCTION <= f) & (f <= LAST_FUNCTION)
+}
+
+fn is_class(c: u32) -> bool
+    ensures { λ r. ⌜ r ≡ is-class c ⌝ }
+{
+    (1 <= c) & (c <= CLASSES)
 }
 
 fn is_argument(h: Handle) -> bool
@@ -214,4 +223,16 @@ pub(crate) fn return_allows(
     ensures { λ r. ⌜ r ≡ is-allowed (R thread f (signed minus result) pending) ⌝ }
 {
     is_thread(thread) & is_function(f) & result_allows(k, minus, result) & (pending <= 1)
+}
+
+pub(crate) fn declare_allows(class: u32, superclass: u32) -> bool
+    ensures { λ r. ⌜ r ≡ is-allowed (states (K class superclass)) ⌝ }
+{
+    is_class(class) & is_class(superclass)
+}
+
+pub(crate) fn state_allows(thread: u32, handle: Handle, class: u32) -> bool
+    ensures { λ r. ⌜ r ≡ is-allowed (states (O thread handle class)) ⌝ }
+{
+    is_thread(thread) & (handle <= LARGEST) & is_class(class)
 }

@@ -3,7 +3,7 @@ use lines::Event;
 use lines::Wrote;
 use words::Handle;
 ghost use mathlib.Core.Path.{_≡_};
-ghost use Rattle.lines.specs.declared.Event.the-variants.{Enter, Leave, Call, Return, End};
+ghost use Rattle.lines.specs.declared.Event.the-variants.{Enter, Leave, Call, Return, Declare, State, End};
 ghost use Rattle.lines.specs.Events.{meant, wrote, left};
 ghost use Rattle.recorder.specs.Told.{told, no-handles};
 
@@ -108,6 +108,39 @@ pub extern "C" fn weir_return(
             result: result,
             status: status,
             pending: pending,
+        },
+        &[0; 8],
+    )
+}
+
+// K: declares a class.
+#[no_mangle]
+pub extern "C" fn weir_declare(d: &mut [u8], class: u32, superclass: u32) -> i32
+    ensures { λ r. ⌜ r ≡ told (wrote (meant (Declare class superclass) no-handles) (now (d .entry))) ⌝ }
+    ensures { λ _. ⌜ now (d .exit) ≡ left (meant (Declare class superclass) no-handles) (now (d .entry)) ⌝ }
+{
+    tell(
+        d,
+        Event::Declare {
+            class: class,
+            superclass: superclass,
+        },
+        &[0; 8],
+    )
+}
+
+// O: states the class of a handle.
+#[no_mangle]
+pub extern "C" fn weir_state(d: &mut [u8], thread: u32, handle: Handle, class: u32) -> i32
+    ensures { λ r. ⌜ r ≡ told (wrote (meant (State thread handle class) no-handles) (now (d .entry))) ⌝ }
+    ensures { λ _. ⌜ now (d .exit) ≡ left (meant (State thread handle class) no-handles) (now (d .entry)) ⌝ }
+{
+    tell(
+        d,
+        Event::State {
+            thread: thread,
+            handle: handle,
+            class: class,
         },
         &[0; 8],
     )

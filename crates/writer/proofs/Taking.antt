@@ -1,21 +1,21 @@
 -- An event taken apart is what it means, and the line of its numbers is what is written. Assumes nothing.
 use mathlib.Core.Path.{_≡_, refl, ap, sym, subst, _∙_}
-use mathlib.Core.Bool.{Bool, true, false, not, _&&_}
+use mathlib.Core.Bool.{Bool, true, false, _&&_}
 use mathlib.Core.List.{List, [], _∷_}
 use Prim.Native.Nat.{ℕ, suc, _+_, _^_, _≤_, _<_}
 use Prim.Native.Char.{code}
 use native.Mathlib.Omega.{arith}
-use lib.Dec.{eqb, leb, T}
+use lib.Dec.{eqb, leb}
 use lib.IntN.{ℤ, pos, negsuc, natAbs}
 use lib.ListN.{length, getD, take}
 use mir.Syntax.{w32}
-use mir.Val.{SFits, hasKey}
+use mir.Val.{SFits}
 use types.Run.{OneOf}
 use denote.Enum.Declared.{tagOf}
 use borrow.Author.Tests.{leb-true, ne-eqb}
 use Rattle.words.specs.Choice.{if_then_else_}
 use Rattle.numbers.specs.Signed.{is-negative}
-use Rattle.lines.specs.Line.{Line, N, X, C, R, Z, is-allowed, is-zero, most-handles}
+use Rattle.lines.specs.Line.{K, O, Line, N, X, C, R, Z, states, is-allowed, is-zero, most-handles}
 use Rattle.lines.specs.Forms.{most-fields, of-letter}
 use Rattle.lines.specs.Reading.{Read, says, refused, if-allowed, line-of}
 use Rattle.lines.specs.Writing.{lettered}
@@ -31,7 +31,7 @@ use Rattle.lines.proofs.Listed.{of-length}
 use Rattle.lines.proofs.Formed.{is-within}
 use Rattle.lines.proofs.FormLaws.{enter-in}
 use Rattle.lines.proofs.GatheredLaws.{line-in-said}
-use Rattle.lines.proofs.Answered.{event-refused, event-said}
+use Rattle.lines.proofs.Answered.{event-refused, line-tags, event-said}
 use Rattle.writer.specs.Laid.{Writes, Answers}
 use Rattle.writer.specs.Apart.{are-empty, apart-return, apart}
 use Rattle.writer.specs.declared.apart.Taken.{Taken}
@@ -110,6 +110,8 @@ apart-meant (Event.Enter t env n) hs l = enter-meant t env n hs l
 apart-meant (Event.Leave t r) hs l = split (are-empty 0 hs) (X t r) (λ _. refl)
 apart-meant (Event.Call t env f a b c n) hs l = call-meant t env f a b c n hs
 apart-meant (Event.Return t f r s p) hs l = return-meant t f r s p hs
+apart-meant (Event.Declare c s) hs l = split (are-empty 0 hs) (states (K c s)) (λ _. refl)
+apart-meant (Event.State t h c) hs l = split (are-empty 0 hs) (states (O t h c)) (λ _. refl)
 apart-meant Event.End hs l = split (are-empty 0 hs) Z (λ _. refl)
 apart-meant (Event.Refused k) hs l = refl
 
@@ -129,9 +131,9 @@ module _ (b n : ℕ) (minus : Bool) (vs d : List ℕ) {e : Event} (told : e ≡ 
   pub numbers-refused : {k : ℕ} → e ≡ Event.Refused k → Answers (line-in b n minus vs) d (Wrote.Refused k) d
   numbers-refused {k} h = rw (event-refused (line-in b n minus vs) k (sym told ∙ h)) (refl, refl)
 
-  module _ (ks : List ℕ) (other : T (not (hasKey ks 5))) (tag : OneOf ks (tagOf the-type e)) where
+  module _ (tag : OneOf line-tags (tagOf the-type e)) where
     said : (l : Line) × (line-in b n minus vs ≡ says l)
-    said = event-said (line-in b n minus vs) ks other (subst (λ (x : Event). OneOf ks (tagOf the-type x)) told tag)
+    said = event-said (line-in b n minus vs) (subst (λ (x : Event). OneOf line-tags (tagOf the-type x)) told tag)
 
     pub numbers-few : n ≤ most-fields
     numbers-few = line-in-said b n minus vs (said .0) (said .1) .0

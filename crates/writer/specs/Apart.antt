@@ -33,5 +33,7 @@ apart (Event.Enter t env n) hs = taken (code "N") (n + 2) false (t ∷ env ∷ h
 apart (Event.Leave t r) hs = taken (code "X") 2 false (t ∷ r ∷ 0 ∷ 0 ∷ 0 ∷ 0 ∷ 0 ∷ 0 ∷ 0 ∷ 0 ∷ []) (are-empty 0 hs)
 apart (Event.Call t env f a b c n) hs = taken (code "C") 7 (is-negative n) (t ∷ env ∷ f ∷ a ∷ b ∷ c ∷ natAbs n ∷ 0 ∷ 0 ∷ 0 ∷ []) (are-empty 0 hs)
 apart (Event.Return t f r s p) hs = apart-return t f r s p (are-empty 0 hs)
+apart (Event.Declare c s) hs = taken (code "K") 2 false (c ∷ s ∷ 0 ∷ 0 ∷ 0 ∷ 0 ∷ 0 ∷ 0 ∷ 0 ∷ 0 ∷ []) (are-empty 0 hs)
+apart (Event.State t h c) hs = taken (code "O") 3 false (t ∷ h ∷ c ∷ 0 ∷ 0 ∷ 0 ∷ 0 ∷ 0 ∷ 0 ∷ 0 ∷ []) (are-empty 0 hs)
 apart Event.End hs = taken (code "Z") 0 false (0 ∷ 0 ∷ 0 ∷ 0 ∷ 0 ∷ 0 ∷ 0 ∷ 0 ∷ 0 ∷ 0 ∷ []) (are-empty 0 hs)
 apart (Event.Refused k) hs = taken 0 0 false (0 ∷ 0 ∷ 0 ∷ 0 ∷ 0 ∷ 0 ∷ 0 ∷ 0 ∷ 0 ∷ 0 ∷ []) false

@@ -109,6 +109,24 @@ pub(crate) fn take_apart(e: Event, h: [Handle; 8]) -> Taken
             status,
             pending,
         } => take_return(thread, function, result, status, pending, are_empty(h, 0)),
+        Event::Declare { class, superclass } => Taken {
+            letter: b'K',
+            count: 2,
+            minus: false,
+            values: [class, superclass, 0, 0, 0, 0, 0, 0, 0, 0],
+            good: are_empty(h, 0),
+        },
+        Event::State {
+            thread,
+            handle,
+            class,
+        } => Taken {
+            letter: b'O',
+            count: 3,
+            minus: false,
+            values: [thread, handle, class, 0, 0, 0, 0, 0, 0, 0],
+            good: are_empty(h, 0),
+        },
         Event::End => Taken {
             letter: b'Z',
             count: 0,

@@ -1,6 +1,5 @@
 -- `writer::write_numbers` meets its contract. Assumes nothing.
 use mathlib.Core.Path.{_≡_, ap, sym}
-use mathlib.Core.List.{[], _∷_}
 use Prim.Native.Nat.{ℕ}
 use native.Mathlib.Omega.{arith}
 use lib.ListN.{length, take, length-take}
@@ -24,10 +23,10 @@ write-numbers-spec =
     numbers-refused (a .letter) (a .n) (a .minus) (a .t5) (now (a .d)) (c .before .before .before .event-of .ensures) (c .before .e .given .1))
     (λ c. let a = c .before .before .before .before .args in
     let ten : length (a .t5) ≡ 10 = search needs in
-    omega (arith, numbers-few (a .letter) (a .n) (a .minus) (a .t5) (now (a .d)) (c .before .before .event-of .ensures) (0 ∷ 1 ∷ 2 ∷ 3 ∷ 4 ∷ []) tt (c .before .match .keys2)))
+    omega (arith, numbers-few (a .letter) (a .n) (a .minus) (a .t5) (now (a .d)) (c .before .before .event-of .ensures) (c .before .match .keys2)))
     (λ c. let a = c .before .before .before .before .before .args in
     let ten : length (a .t5) ≡ 10 = search needs in
-    sym (length-take-le (a .n) (a .t5) (omega (arith, numbers-few (a .letter) (a .n) (a .minus) (a .t5) (now (a .d)) (c .before .before .before .event-of .ensures) (0 ∷ 1 ∷ 2 ∷ 3 ∷ 4 ∷ []) tt (c .before .before .match .keys2)))))
+    sym (length-take-le (a .n) (a .t5) (omega (arith, numbers-few (a .letter) (a .n) (a .minus) (a .t5) (now (a .d)) (c .before .before .before .event-of .ensures) (c .before .before .match .keys2)))))
     (λ c κs. search needs)
     (λ c κs. let a = c .before .before .before .before .before .before .args in
     let ten : length (a .t5) ≡ 10 = search needs in
@@ -35,5 +34,5 @@ write-numbers-spec =
     omega arith)
     (λ c. search needs)
     (λ c. let a = c .before .before .before .before .before .before .before .before .before .args in
-    numbers-written (a .letter) (a .n) (a .minus) (a .t5) (now (a .d)) (c .before .before .before .before .before .before .before .event-of .ensures) (0 ∷ 1 ∷ 2 ∷ 3 ∷ 4 ∷ []) tt (c .before .before .before .before .before .before .match .keys2)
+    numbers-written (a .letter) (a .n) (a .minus) (a .t5) (now (a .d)) (c .before .before .before .before .before .before .before .event-of .ensures) (c .before .before .before .before .before .before .match .keys2)
     (writes-as (ap (λ (k : ℕ). lettered (a .letter) (signed-at 0 k (take (a .n) (a .t5)))) (c .before .before .before .minus-place .ensures)) (c .before .before .put-line .ensures))))

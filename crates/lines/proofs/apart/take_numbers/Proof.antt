@@ -1,5 +1,4 @@
 -- `lines::apart::take_numbers` meets its contract. Assumes nothing.
-use mathlib.Core.List.{[], _∷_}
 use denote.Ref.{now}
 use Rattle.lines.proofs.ToldLaws.{apart-refused, apart-line}
 use borrow.Author.Needs.{needs}
@@ -13,4 +12,4 @@ take-numbers-spec =
     (λ c. search needs)
     (λ c. let a = c .before .before .before .before .args in apart-refused (a .letter) (a .n) (a .minus) (a .v) (now (a .numbers)) (c .before .before .before .event-of .ensures) (c .before .e .given .1))
     (λ c κs. search needs)
-    (λ c. let a = c .before .before .before .args in apart-line (a .letter) (a .n) (a .minus) (a .v) (now (a .numbers)) (c .before .before .event-of .ensures) (search needs) (0 ∷ 1 ∷ 2 ∷ 3 ∷ 4 ∷ []) tt (c .before .match .keys2) (c .sizes-told .ensures)))
+    (λ c. let a = c .before .before .before .args in apart-line (a .letter) (a .n) (a .minus) (a .v) (now (a .numbers)) (c .before .before .event-of .ensures) (search needs) (c .before .match .keys2) (c .sizes-told .ensures)))

@@ -43,6 +43,10 @@ take-apart-spec =
     (λ c. search needs)
     (λ c κs. search needs)
     (λ c. search needs)
+    (λ c κs. search needs)
+    (λ c. search needs)
+    (λ c κs. search needs)
+    (λ c. search needs)
     (λ c. let a = c .before .before .before .before .args in
     let e = c .before .before .e in
     let n = e .given .0 .1 .1 .0 in
@@ -66,8 +70,16 @@ take-apart-spec =
     c .take-return .ensures
     ∙ ap₂ (λ (s : ℤ) (b : Bool). apart-return (f .0) (f .1 .0) (f .1 .1 .0) s (f .1 .1 .1 .1 .0) b) (toZ-ofZ {w = w32} {z = f .1 .1 .1 .0} (search needs)) (c .before .are-empty4 .ensures)
     ∙ sym (ap (λ (x : Event). apart x (a .t2)) (e .given .1)))
+    (λ c. let a = c .before .before .before .before .args in
+    let e = c .before .before .e5 in
+    ap (λ (b : Bool). taken 75 2 false (e .given .0 .0 ∷ e .given .0 .1 .0 ∷ 0 ∷ 0 ∷ 0 ∷ 0 ∷ 0 ∷ 0 ∷ 0 ∷ 0 ∷ []) b) (c .are-empty5 .ensures)
+    ∙ sym (ap (λ (x : Event). apart x (a .t2)) (e .given .1)))
+    (λ c. let a = c .before .before .before .before .args in
+    let e = c .before .before .e6 in
+    ap (λ (b : Bool). taken 79 3 false (e .given .0 .0 ∷ e .given .0 .1 .0 ∷ e .given .0 .1 .1 .0 ∷ 0 ∷ 0 ∷ 0 ∷ 0 ∷ 0 ∷ 0 ∷ 0 ∷ []) b) (c .are-empty6 .ensures)
+    ∙ sym (ap (λ (x : Event). apart x (a .t2)) (e .given .1)))
     (λ c. let a = c .before .before .before .args in
-    ap (λ (b : Bool). taken 90 0 false (0 ∷ 0 ∷ 0 ∷ 0 ∷ 0 ∷ 0 ∷ 0 ∷ 0 ∷ 0 ∷ 0 ∷ []) b) (c .are-empty5 .ensures)
+    ap (λ (b : Bool). taken 90 0 false (0 ∷ 0 ∷ 0 ∷ 0 ∷ 0 ∷ 0 ∷ 0 ∷ 0 ∷ 0 ∷ 0 ∷ []) b) (c .are-empty7 .ensures)
     ∙ sym (ap (λ (x : Event). apart x (a .t2)) (c .before .enum-told .given .1)))
     (λ c. let a = c .before .before .args in
     sym (ap (λ (x : Event). apart x (a .t2)) (c .enum-told2 .given .1))))
