@@ -10,8 +10,8 @@ use Rattle.words.specs.Choice.{one}
 use Rattle.words.specs.Lists.{count, keep, but-first}
 use Rattle.facts.specs.Table.{fact-of}
 use Rattle.facts.specs.Results.{is-buffer-place}
-use Rattle.lines.specs.Line.{Line, C, Z}
-use Rattle.history.specs.Past.{History, thread-of}
+use Rattle.lines.specs.Line.{Line, Statement, C, Z, states}
+use Rattle.history.specs.Past.{History, thread-of, is-of}
 use Rattle.history.specs.Frames.{depth}
 use Rattle.history.specs.Handles.{Alive, local, shared, makes, deletes, ends, living}
 use Rattle.history.specs.Buffers.{Pin, pin, same-pin, gets, releases, outstanding}
@@ -58,26 +58,39 @@ module _ (t env f a b c : ℕ) (n : ℤ) where
   pub nothing-released : (l : List Pin) → is-buffer-place (fact-of f .b) ≡ false → but-first (releases (C t env f a b c n)) l ≡ l
   nothing-released l is = rw (releasing false is) (none-first l)
 
--- ---- Z, which ends nothing
+-- ---- a line of no thread, that makes and deletes nothing
 
-not-ended : (past : History) (x : Alive) → List·Memᴰ x (living past) → ends Z past x ≡ false
-unfolding ends deletes
-not-ended past (local t d h) m = ap (λ (n : ℕ). ltb n d) (other-depth t Z past refl) ∙ frame-stands past (local t d h) m
-not-ended past (shared h) m = refl
+module _ (e : Line) (apart : (t : ℕ) → is-of t e ≡ false) (kept : (x : Alive) → deletes e x ≡ false) (past : History) where
+  not-ended : (x : Alive) → List·Memᴰ x (living past) → ends e past x ≡ false
+  unfolding ends
+  not-ended (local t d h) m = rw (kept (local t d h)) (ap (λ (n : ℕ). ltb n d) (other-depth t e past (apart t)) ∙ frame-stands past (local t d h) m)
+  not-ended (shared h) m = rw (kept (shared h))
 
-none-ended : (past : History) → count (ends Z past) (living past) ≡ 0
-none-ended past = go (count (ends Z past) (living past)) refl
-  where
-    go : (n : ℕ) → count (ends Z past) (living past) ≡ n → count (ends Z past) (living past) ≡ 0
-    go zero e = e
-    go (suc n) e =
-        let (x, m, h) = some-member (ends Z past) (living past) (omega (arith, e)) in
-        true-not-false (ends Z past x) h (not-ended past x m)
+  none-ended : count (ends e past) (living past) ≡ 0
+  none-ended = go (count (ends e past) (living past)) refl
+    where
+      go : (n : ℕ) → count (ends e past) (living past) ≡ n → count (ends e past) (living past) ≡ 0
+      go zero e = e
+      go (suc n) is =
+          let (x, m, h) = some-member (ends e past) (living past) (omega (arith, is)) in
+          true-not-false (ends e past x) h (not-ended x m)
+
+  same-living : makes e (depth (thread-of e) past) ≡ [] → living (e ∷ past) ≡ living past
+  unfolding living
+  same-living nothing = rw nothing (keep-all (ends e past) (living past) none-ended)
 
 pub end-living : (past : History) → living (Z ∷ past) ≡ living past
-unfolding living makes
-end-living past = keep-all (ends Z past) (living past) (none-ended past)
+unfolding makes deletes
+end-living past = same-living Z (λ t. refl) (λ x. refl) past refl
 
 pub end-outstanding : (past : History) → outstanding (Z ∷ past) ≡ outstanding past
 unfolding outstanding gets releases
 end-outstanding past = none-first (outstanding past)
+
+pub stated-living : (s : Statement) (past : History) → living (states s ∷ past) ≡ living past
+unfolding makes deletes
+stated-living s past = same-living (states s) (λ t. refl) (λ x. refl) past refl
+
+pub stated-outstanding : (s : Statement) (past : History) → outstanding (states s ∷ past) ≡ outstanding past
+unfolding outstanding gets releases
+stated-outstanding s past = none-first (outstanding past)

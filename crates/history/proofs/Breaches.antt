@@ -1,4 +1,4 @@
--- The breaches computed of a line are those of document 01, for every history. Assumes nothing.
+-- The breaches computed of a line are those of documents 01 and 02, after accepted lines. Assumes nothing.
 use Prim.Native.Nat.{ℕ, suc, _<_}
 use mathlib.Core.Path.{_≡_, refl, sym, ap, _∙_, subst, fun-ext}
 use mathlib.Core.Logic.{_⊎_, inl, inr, _↔_, _≢_}
@@ -13,12 +13,13 @@ use Rattle.words.specs.Choice.{if_then_else_}
 use Rattle.words.specs.Lists.{count, sum}
 use Rattle.facts.specs.Table.{fact-of, is-allowed-pending, is-allowed-critical}
 use Rattle.facts.specs.Named.{PopLocalFrame, MonitorExit}
+use Rattle.facts.specs.Classes.{no-class, class-a, class-b}
 use Rattle.facts.specs.declared.Place.{Place}
 use Rattle.facts.specs.declared.Place.the-variants as Place
 use Rattle.facts.specs.declared.Result.{Result}
 use Rattle.facts.specs.Results.{is-local-result}
 use Rattle.facts.specs.declared.Result.the-variants as Result
-use Rattle.lines.specs.Line.{Line, N, X, C, R, Z, above-zero}
+use Rattle.lines.specs.Line.{Line, N, X, C, R, Z, states, above-zero}
 use Rattle.history.specs.Past.{History}
 use Rattle.history.specs.Frames.{frames, top-pushed, depth}
 use Rattle.history.specs.Handles.{living, global-or-weak, alive-in}
@@ -26,7 +27,8 @@ use Rattle.history.specs.Capacities.{capacities}
 use Rattle.history.specs.Buffers.{Pin, ordinary, critical, critical-of, outstanding}
 use Rattle.history.specs.Thread.{pending, monitors, env-of, all-threads}
 use Rattle.history.specs.Seen.{seen}
-use Rattle.history.specs.Acceptance.{everything}
+use Rattle.history.specs.Acceptance.{Room, everything}
+use Rattle.history.specs.Accepted.{Accepted}
 use Rattle.history.specs.Breaches.{when, place-rule, is-there, rule-here, value-at, rule-at, in-critical, exceeds, overflows, call-rule, some-of, end-rule, line-rule, is-rule, breach}
 use Rattle.history.specs.Paper.{Outstanding, In-critical, Broken, at-a, at-b, at-c, at-result, other-env, not-allowed, called-in-critical, no-monitor, not-pushed, left-in-critical, overflow, buffers-left, monitors-left, handles-left}
 use Rattle.history.proofs.Tests.{and-left, and-right, all-three, true-not-false, eqb-self}
@@ -41,7 +43,7 @@ pub that-rule : (rule : ℕ) (o : Option ℕ) → is-rule rule o ≡ true → o 
 that-rule rule none h = absurd (false≢true h)
 that-rule rule (some r) h = rw (eqb-true rule r h)
 
-module _ (past : History) where
+module _ (room : Room) (past : History) (so-far : Accepted room past) where
   -- ---- critical regions
 
   critical-out : (t : ℕ) → (in-critical t (seen past) ≡ true) ↔ In-critical t past
@@ -177,6 +179,7 @@ module _ (past : History) where
   line-right (C t env f a b c n) rule = call-right t env f a b c rule n
   line-right (R t f r p) rule = return-right t f p rule r
   line-right Z rule = end-right rule
+  line-right (states s) rule = tt
 
   -- ---- places
 
@@ -185,20 +188,21 @@ module _ (past : History) where
   place-right (N t env hs) rule place h = absurd (Option·none-ne-some rule h)
   place-right (X t r) rule place h = go (eqb place 1) refl h
     where
-      go : (q : Bool) → eqb place 1 ≡ q → rule-here (if q then Place.HandleOrNull else Place.Unused) t 0 r (seen past) ≡ some rule → Broken past (X t r) rule place r
-      go true e k = rw (eqb-true place 1 e) (at-result t r rule (place-is past t 0 Place.HandleOrNull r rule .0 k))
+      go : (q : Bool) → eqb place 1 ≡ q → rule-here no-class (if q then Place.HandleOrNull else Place.Unused) t 0 r (seen past) ≡ some rule → Broken past (X t r) rule place r
+      go true e k = rw (eqb-true place 1 e) (at-result t r rule (place-is room past so-far t 0 no-class Place.HandleOrNull r rule .0 k))
       go false e k = absurd (Option·none-ne-some rule k)
   place-right (C t env f a b c n) rule place h = go (eqb place 1) refl (eqb place 2) refl (eqb place 3) refl h
     where
       go : (x : Bool) → eqb place 1 ≡ x → (y : Bool) → eqb place 2 ≡ y → (z : Bool) → eqb place 3 ≡ z
-          → rule-here (if x then fact-of f .a else if y then fact-of f .b else if z then fact-of f .c else Place.Unused) t f (if x then a else if y then b else c) (seen past) ≡ some rule
+          → rule-here (if x then class-a f else if y then class-b f else no-class) (if x then fact-of f .a else if y then fact-of f .b else if z then fact-of f .c else Place.Unused) t f (if x then a else if y then b else c) (seen past) ≡ some rule
           → Broken past (C t env f a b c n) rule place (if x then a else if y then b else c)
-      go true e y ey z ez k = rw (eqb-true place 1 e) (at-a t env f a b c rule n (place-is past t f (fact-of f .a) a rule .0 k))
-      go false e true ey z ez k = rw (eqb-true place 2 ey) (at-b t env f a b c rule n (place-is past t f (fact-of f .b) b rule .0 k))
-      go false e false ey true ez k = rw (eqb-true place 3 ez) (at-c t env f a b c rule n (place-is past t f (fact-of f .c) c rule .0 k))
+      go true e y ey z ez k = rw (eqb-true place 1 e) (at-a t env f a b c rule n (place-is room past so-far t f (class-a f) (fact-of f .a) a rule .0 k))
+      go false e true ey z ez k = rw (eqb-true place 2 ey) (at-b t env f a b c rule n (place-is room past so-far t f (class-b f) (fact-of f .b) b rule .0 k))
+      go false e false ey true ez k = rw (eqb-true place 3 ez) (at-c t env f a b c rule n (place-is room past so-far t f no-class (fact-of f .c) c rule .0 k))
       go false e false ey false ez k = absurd (Option·none-ne-some rule k)
   place-right (R t f r p) rule place h = absurd (Option·none-ne-some rule h)
   place-right Z rule place h = absurd (Option·none-ne-some rule h)
+  place-right (states s) rule place h = absurd (Option·none-ne-some rule h)
 
   breach-right : (e : Line) (rule place : ℕ) → Right e rule place (breach e (seen past) rule place)
   unfolding breach
@@ -225,10 +229,10 @@ module _ (past : History) where
 
   computed : (e : Line) (rule place v : ℕ) → Broken past e rule place v → breach e (seen past) rule place ≡ some v
   unfolding breach line-rule call-rule end-rule rule-at seen
-  computed _ _ _ _ (at-a t env f a b c rule n w) = at-place rule a (rule-here (fact-of f .a) t f a (seen past)) (place-is past t f (fact-of f .a) a rule .1 w)
-  computed _ _ _ _ (at-b t env f a b c rule n w) = at-place rule b (rule-here (fact-of f .b) t f b (seen past)) (place-is past t f (fact-of f .b) b rule .1 w)
-  computed _ _ _ _ (at-c t env f a b c rule n w) = at-place rule c (rule-here (fact-of f .c) t f c (seen past)) (place-is past t f (fact-of f .c) c rule .1 w)
-  computed _ _ _ _ (at-result t v rule w) = at-place rule v (rule-here Place.HandleOrNull t 0 v (seen past)) (place-is past t 0 Place.HandleOrNull v rule .1 w)
+  computed _ _ _ _ (at-a t env f a b c rule n w) = at-place rule a (rule-here (class-a f) (fact-of f .a) t f a (seen past)) (place-is room past so-far t f (class-a f) (fact-of f .a) a rule .1 w)
+  computed _ _ _ _ (at-b t env f a b c rule n w) = at-place rule b (rule-here (class-b f) (fact-of f .b) t f b (seen past)) (place-is room past so-far t f (class-b f) (fact-of f .b) b rule .1 w)
+  computed _ _ _ _ (at-c t env f a b c rule n w) = at-place rule c (rule-here no-class (fact-of f .c) t f c (seen past)) (place-is room past so-far t f no-class (fact-of f .c) c rule .1 w)
+  computed _ _ _ _ (at-result t v rule w) = at-place rule v (rule-here no-class Place.HandleOrNull t 0 v (seen past)) (place-is room past so-far t 0 no-class Place.HandleOrNull v rule .1 w)
   computed _ _ _ _ (other-env t env f a b c n d) = rw (ne-eqb env (env-of t past) d)
   computed _ _ _ _ (not-allowed t env f a b c n h k) = rw (h, k)
   computed _ _ _ _ (called-in-critical t env f a b c n h k) = rw (critical-out t .1 h, outside f .1 k)
@@ -240,7 +244,7 @@ module _ (past : History) where
   computed _ _ _ _ (monitors-left k e l) = counted (sum (λ t. monitors t past) all-threads) k (e ∙ sym left-monitors) l
   computed _ _ _ _ (handles-left k e l) = counted (count global-or-weak (living past)) k (e ∙ sym left-handles) l
 
--- what is computed of a line is what document 01 says of it, and nothing besides
-pub breaches-are : (past : History) (e : Line) (rule place thing : ℕ) → (breach e (seen past) rule place ≡ some thing) ↔ Broken past e rule place thing
-breaches-are past e rule place thing =
-    (λ h. subst (λ (o : Option ℕ). Right past e rule place o) h (breach-right past e rule place), computed past e rule place thing)
+-- what is computed of a line is what documents 01 and 02 say of it, and nothing besides
+pub breaches-are : (room : Room) (past : History) → Accepted room past → (e : Line) (rule place thing : ℕ) → (breach e (seen past) rule place ≡ some thing) ↔ Broken past e rule place thing
+breaches-are room past so-far e rule place thing =
+    (λ h. subst (λ (o : Option ℕ). Right room past so-far e rule place o) h (breach-right room past so-far e rule place), computed room past so-far e rule place thing)

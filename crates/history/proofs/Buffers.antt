@@ -16,7 +16,7 @@ use Rattle.facts.specs.declared.Place.the-variants as Place
 use Rattle.facts.specs.declared.Result.{Result}
 use Rattle.facts.specs.Results.{is-buffer-result, is-buffer-place}
 use Rattle.facts.specs.declared.Result.the-variants as Result
-use Rattle.lines.specs.Line.{Line, N, X, C, R, Z}
+use Rattle.lines.specs.Line.{Line, N, X, C, R, Z, states}
 use Rattle.history.specs.Past.{History}
 use Rattle.history.specs.Buffers.{Pin, ordinary, critical, pin, same-pin, gets, releases, outstanding}
 use Rattle.history.specs.Seen.{seen, is-outstanding}
@@ -107,6 +107,7 @@ releasing-one (C t env f a b c n) x h =
     rw (same-pin-is (pin t f b) x that) (at-call t env f a b c n (buffer-place (fact-of f .b) is))
 releasing-one (R t f r p) x h = absurd (false≢true h)
 releasing-one Z x h = absurd (false≢true h)
+releasing-one (states s) x h = absurd (false≢true h)
 
 is-released : (e : Line) (x : Pin) → Releases e x → releases e x ≡ true
 unfolding releases
@@ -128,6 +129,7 @@ releases-one (C t env f a b c n) x y h k =
     ∙ sym (same-pin-is (pin t f b) x (and-right (is-buffer-place (fact-of f .b)) (same-pin (pin t f b) x) h))
 releases-one (R t f r p) x y h k = absurd (false≢true h)
 releases-one Z x y h k = absurd (false≢true h)
+releases-one (states s) x y h k = absurd (false≢true h)
 
 -- where a release names it, its test is that of being the same
 releases-same : (e : Line) (x : Pin) → releases e x ≡ true → releases e ≡ same-pin x

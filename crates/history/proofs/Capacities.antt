@@ -9,7 +9,7 @@ use lib.Dec.{eqb}
 use lib.ListN.{length, drop, length-drop}
 use Rattle.words.specs.Choice.{if_then_else_}
 use Rattle.facts.specs.Named.{PushLocalFrame, PopLocalFrame, EnsureLocalCapacity}
-use Rattle.lines.specs.Line.{Line, N, X, C, R, Z, is-zero}
+use Rattle.lines.specs.Line.{Line, N, X, C, R, Z, states, is-zero}
 use Rattle.history.specs.Past.{History, is-of, through}
 use Rattle.history.specs.Items.{items, top-of, asked}
 use Rattle.history.specs.Frames.{Frame, entered, pushed, frames, frames-after, depth, without-native, without-pushed}
@@ -66,6 +66,7 @@ fit-line (R s f r p) held n fs cs h = go (is-zero r) (eqb f PushLocalFrame) (eqb
     go true false true = raised-length (held + n) cs ∙ h
     go true false false = h
 fit-line Z held n fs cs h = dropped (length fs) (length fs) cs h (omega arith)
+fit-line (states s) held n fs cs h = dropped (length fs) (length fs) cs h (omega arith)
 
 -- a capacity for each frame
 pub capacities-fit : (past : History) (t : ℕ) → length (capacities t past) ≡ depth t past

@@ -1,4 +1,4 @@
--- P1 to P12 of document 01, one table and one statement. Assumes nothing.
+-- P1 to P12 of document 01, P1 as document 02 changes it, one table and one statement. Assumes nothing.
 use mathlib.Core.Path.{_≡_, refl}
 use mathlib.Core.List.{List, [], _∷_, map}
 use Rattle.history.proofs.Worked.{Case, case_reads_prints_, judged, printed}
@@ -23,9 +23,10 @@ cases =
     prints
     "6 11 1 5"
     ∷ "8 1 0 101"
+    ∷ "8 4 1 9"
     ∷ "10 2 0 0"
     ∷ "12 11 1 5"
-    ∷ "end closed 13 0 4"
+    ∷ "end closed 13 0 5"
     ∷ [])
     ∷ (case "P2: empty input" reads [] prints "end open 0 0 0" ∷ [])
     ∷ (case "P3: Z alone: closed, 1 line" reads "Z" ∷ [] prints "end closed 1 0 0" ∷ [])

@@ -9,7 +9,7 @@ use lib.IntN.{ℤ, pos, negsuc}
 use lib.ListN.{length, drop}
 use borrow.Author.Tests.{eqb-true}
 use Rattle.facts.specs.Named.{PushLocalFrame, PopLocalFrame, EnsureLocalCapacity, MonitorEnter, MonitorExit}
-use Rattle.lines.specs.Line.{Line, N, X, C, R, Z, is-zero}
+use Rattle.lines.specs.Line.{Line, N, X, C, R, Z, states, is-zero}
 use Rattle.history.specs.Past.{History, thread-of, is-of, through}
 use Rattle.history.specs.Items.{Item, items, items-after}
 use Rattle.history.specs.Frames.{Frame, entered, pushed, frames, frames-after, without-pushed, depth}
@@ -41,6 +41,7 @@ items-line (X t r) is k = absurd (k (closes-native r))
 items-line (C t env f a b c n) is k = absurd (k (opens-call env f a b c n))
 items-line (R t f r p) is k = absurd (k (closes-call f p r))
 items-line Z is k = refl
+items-line (states s) is k = refl
 
 pub items-kept : (t : ℕ) (e : Line) (past : History) → ¬ Changes-items t e → items t (e ∷ past) ≡ items t past
 items-kept t e past k =
@@ -65,6 +66,7 @@ frames-line (R t f r p) past k =
     (λ z. simp (another-function (Changes-frames t past) t f PushLocalFrame p r k (pushes-frame p) z))
     (λ z. simp (z, and-false))
 frames-line Z past k = refl
+frames-line (states s) past k = refl
 
 pub frames-kept : (t : ℕ) (e : Line) (past : History) → ¬ Changes-frames t past e → frames t (e ∷ past) ≡ frames t past
 frames-kept t e past k =
@@ -93,6 +95,7 @@ capacities-line (R t f r p) past o k =
     ))
     (λ z. simp z)
 capacities-line Z past o k = absurd (false≢true o)
+capacities-line (states s) past o k = absurd (false≢true o)
 
 pub capacities-kept : (t : ℕ) (e : Line) (past : History) → ¬ Changes-capacities t past e → capacities t (e ∷ past) ≡ capacities t past
 capacities-kept t e past k =
@@ -108,6 +111,7 @@ pending-line (X t r) p k = refl
 pending-line (C t env f a b c n) p k = refl
 pending-line (R t f r q) p k = absurd (k (sets-pending f q r))
 pending-line Z p k = refl
+pending-line (states s) p k = refl
 
 pub pending-kept : (t : ℕ) (e : Line) (past : History) → ¬ Changes-pending t e → pending t (e ∷ past) ≡ pending t past
 pending-kept t e past k =
@@ -128,6 +132,7 @@ monitors-line (R t f r p) m k =
     ))
     (λ z. simp z)
 monitors-line Z m k = refl
+monitors-line (states s) m k = refl
 
 pub monitors-kept : (t : ℕ) (e : Line) (past : History) → ¬ Changes-monitors t e → monitors t (e ∷ past) ≡ monitors t past
 monitors-kept t e past k =

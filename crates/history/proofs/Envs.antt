@@ -8,7 +8,7 @@ use native.Mathlib.Omega.{arith}
 use lib.Dec.{eqb, leb}
 use borrow.Author.Tests.{eqb-true, eqb-false, ne-eqb, leb-true}
 use Rattle.words.specs.Choice.{if_then_else_}
-use Rattle.lines.specs.Line.{Line, N, X, C, R, Z, is-thread, is-allowed}
+use Rattle.lines.specs.Line.{Line, N, X, C, R, Z, states, is-thread, is-allowed}
 use Rattle.history.specs.Past.{History, is-of, through}
 use Rattle.history.specs.Thread.{all-threads, env-of, env-after}
 use Rattle.history.specs.Seen.{seen}
@@ -28,6 +28,7 @@ env-kept (X t r) v nz = refl
 env-kept (C t env f a b c n) v nz = refl
 env-kept (R t f r p) v nz = refl
 env-kept Z v nz = refl
+env-kept (states s) v nz = refl
 
 unchanged : (t : ℕ) (e : Line) (past : History) → env-after e (env-of t past) ≡ env-of t past → env-of t (e ∷ past) ≡ env-of t past
 unchanged t e past h = whether (is-of t e) (λ o. own-env t e past o ∙ h) (other-env-of t e past)
@@ -45,6 +46,7 @@ no-env t (X s r ∷ past) h = unchanged t (X s r) past refl ∙ no-env t past (�
 no-env t (C s env f a b c n ∷ past) h = unchanged t (C s env f a b c n) past refl ∙ no-env t past (λ v gs m. h v gs (List·Memᴰ·tail m))
 no-env t (R s f r p ∷ past) h = unchanged t (R s f r p) past refl ∙ no-env t past (λ v gs m. h v gs (List·Memᴰ·tail m))
 no-env t (Z ∷ past) h = unchanged t Z past refl ∙ no-env t past (λ v gs m. h v gs (List·Memᴰ·tail m))
+no-env t (states s ∷ past) h = unchanged t (states s) past refl ∙ no-env t past (λ v gs m. h v gs (List·Memᴰ·tail m))
 
 -- a thread's env is that of its first N, for ever
 pub env-of-first : (t env : ℕ) (hs : List ℕ) (newer older : History) → env ≢ 0 → ((v : ℕ) (gs : List ℕ) → ¬ List·Memᴰ (N t v gs) older)
@@ -63,6 +65,7 @@ allowed-thread t (X s r) a o = rw (eqb-true t s o) (and-left _ _ a)
 allowed-thread t (C s env f x y z n) a o = rw (eqb-true t s o) (and-left _ _ (and-left _ _ (and-left _ _ (and-left _ _ (and-left _ _ (and-left _ _ a))))))
 allowed-thread t (R s f r p) a o = rw (eqb-true t s o) (and-left _ _ (and-left _ _ (and-left _ _ a)))
 allowed-thread t Z a o = absurd (false≢true o)
+allowed-thread t (states s) a o = absurd (false≢true o)
 
 entered-thread : (room : Room) (past : History) → Accepted room past → (t : ℕ) → env-of t past ≢ 0 → List·Memᴰ t all-threads
 unfolding env-of through
@@ -102,7 +105,7 @@ envs-apart room _ (and-line (N u env hs) past n a r k) s t d nz is =
     go (eqb s u) refl (eqb t u) refl (envs-apart room past k s t d) (envs-apart room past k t s (λ e. d (sym e)))
   where
     right : env-right (N u env hs) (seen past) ≡ true
-    right = passed room (N u env hs) past r .1
+    right = passed room (N u env hs) past r .env
 
     go : (x : Bool) → eqb s u ≡ x → (y : Bool) → eqb t u ≡ y → (env-of s past ≢ 0 → env-of s past ≢ env-of t past)
         → (env-of t past ≢ 0 → env-of t past ≢ env-of s past) → ⊥
@@ -124,3 +127,4 @@ envs-apart room _ (and-line (X u r) past n a i k) s t d nz is = stay-apart s t (
 envs-apart room _ (and-line (C u env f x y z m) past n a i k) s t d nz is = stay-apart s t (C u env f x y z m) past (λ v. refl) (envs-apart room past k s t d) nz is
 envs-apart room _ (and-line (R u f r p) past n a i k) s t d nz is = stay-apart s t (R u f r p) past (λ v. refl) (envs-apart room past k s t d) nz is
 envs-apart room _ (and-line Z past n a i k) s t d nz is = stay-apart s t Z past (λ v. refl) (envs-apart room past k s t d) nz is
+envs-apart room _ (and-line (states c) past n a i k) s t d nz is = stay-apart s t (states c) past (λ v. refl) (envs-apart room past k s t d) nz is

@@ -5,38 +5,42 @@ use mathlib.Core.Logic.{inl, inr, _↔_}
 use mathlib.Core.List.{List, [], _∷_, _++_, List·Memᴰ, List·Memᴰ·append-cases, Memᴰ·append-left, Memᴰ·append-right, List·Memᴰ·not-nil, List·Memᴰ·head, List·Memᴰ·eq-of-singleton}
 use mathlib.Core.Option.{Option, none, some}
 use native.Mathlib.Omega.{arith}
-use lib.ListN.{length, length-append}
+use lib.ListN.{length}
 use Rattle.words.specs.Lists.{joined}
 use Rattle.facts.specs.declared.Place.{Place}
 use Rattle.lines.specs.Line.{Line}
 use Rattle.history.specs.Past.{History}
 use Rattle.history.specs.Seen.{Seen, seen}
 use Rattle.history.specs.Breaches.{breach}
+use Rattle.history.specs.Acceptance.{Room}
+use Rattle.history.specs.Accepted.{Accepted}
 use Rattle.history.specs.Findings.{rules, places, found, of-line, findings}
 use Rattle.history.specs.declared.Finding.{Finding}
-use Rattle.history.specs.Paper.{Wrong, null-handle, null-identity, null-buffer, wrong-kind, dead-local, dead-shared, not-outstanding}
+use Rattle.history.specs.Paper.{Wrong, null-handle, null-identity, null-buffer, wrong-kind, dead-local, dead-shared, other-class, not-outstanding}
 use Rattle.history.specs.Paper.{Broken, at-a, at-b, at-c, at-result, other-env, not-allowed, called-in-critical, no-monitor, not-pushed, left-in-critical, overflow, buffers-left, monitors-left, handles-left}
 use Rattle.history.specs.Order.{Breached, Ordered, no-more, then-more}
 use Rattle.history.proofs.Tests.{either}
 use Rattle.history.proofs.Order.{joined-member, member-joined, in-from, ordered-append, joined-ordered, ordered-once}
+use Rattle.history.proofs.Accepting.{before, accepted-before}
 use Rattle.history.proofs.Breaches.{breaches-are}
 
 -- ---- rules and places
 
-wrong-rule : (past : History) (t f : ℕ) (p : Place) (v r : ℕ) → Wrong past t f p v r → (1 ≤ r) × (r ≤ 11)
-wrong-rule past t f _ _ _ null-handle = omega arith
-wrong-rule past t f _ _ _ null-identity = omega arith
-wrong-rule past t f _ _ _ null-buffer = omega arith
-wrong-rule past t f _ _ _ (wrong-kind p v nz k) = omega arith
-wrong-rule past t f _ _ _ (dead-local p v hp fit k d) = omega arith
-wrong-rule past t f _ _ _ (dead-shared p v hp fit k d) = omega arith
-wrong-rule past t f _ _ _ (not-outstanding v nz o) = omega arith
+wrong-rule : (past : History) (t f fixed : ℕ) (p : Place) (v r : ℕ) → Wrong past t f fixed p v r → (1 ≤ r) × (r ≤ 11)
+wrong-rule past t f fixed _ _ _ null-handle = omega arith
+wrong-rule past t f fixed _ _ _ null-identity = omega arith
+wrong-rule past t f fixed _ _ _ null-buffer = omega arith
+wrong-rule past t f fixed _ _ _ (wrong-kind p v nz k) = omega arith
+wrong-rule past t f fixed _ _ _ (dead-local p v hp fit k d) = omega arith
+wrong-rule past t f fixed _ _ _ (dead-shared p v hp fit k d) = omega arith
+wrong-rule past t f fixed _ _ _ (other-class p v hp fit o) = omega arith
+wrong-rule past t f fixed _ _ _ (not-outstanding v nz o) = omega arith
 
 broken-rule : (past : History) (e : Line) (rule place v : ℕ) → Broken past e rule place v → (1 ≤ rule) × (rule ≤ 11) × (place ≤ 3)
-broken-rule past _ _ _ _ (at-a t env f a b c rule n w) = omega (arith, wrong-rule past t f _ a rule w)
-broken-rule past _ _ _ _ (at-b t env f a b c rule n w) = omega (arith, wrong-rule past t f _ b rule w)
-broken-rule past _ _ _ _ (at-c t env f a b c rule n w) = omega (arith, wrong-rule past t f _ c rule w)
-broken-rule past _ _ _ _ (at-result t v rule w) = omega (arith, wrong-rule past t 0 _ v rule w)
+broken-rule past _ _ _ _ (at-a t env f a b c rule n w) = omega (arith, wrong-rule past t f _ _ a rule w)
+broken-rule past _ _ _ _ (at-b t env f a b c rule n w) = omega (arith, wrong-rule past t f _ _ b rule w)
+broken-rule past _ _ _ _ (at-c t env f a b c rule n w) = omega (arith, wrong-rule past t f _ _ c rule w)
+broken-rule past _ _ _ _ (at-result t v rule w) = omega (arith, wrong-rule past t 0 _ _ v rule w)
 broken-rule past _ _ _ _ (other-env t env f a b c n d) = omega arith
 broken-rule past _ _ _ _ (not-allowed t env f a b c n h k) = omega arith
 broken-rule past _ _ _ _ (called-in-critical t env f a b c n h k) = omega arith
@@ -107,33 +111,33 @@ module _ (line : ℕ) (e : Line) (v : Seen) where
       inr (a .at-line ∙ sym (c .at-line), inl (omega (arith, a .at-rule, c .at-rule))))
 
 -- the findings of a line are its breaches
-pub line-is : (past : History) (e : Line) (g : Finding)
+pub line-is : (room : Room) (past : History) → Accepted room past → (e : Line) (g : Finding)
     → List·Memᴰ g (of-line (suc (length past)) e (seen past)) ↔ ((g .line ≡ suc (length past)) × Broken past e (g .rule) (g .place) (g .thing))
 unfolding of-line of-rule of-place seen
-line-is past e g = (
+line-is room past so-far e g = (
   λ m.
       let (rule, i, k) = joined-member rules (of-rule (suc (length past)) e (seen past)) m in
       let (place, is) = rule-is (suc (length past)) e (seen past) g rule k in
       let same = ap (λ (r : ℕ). breach e (seen past) r (g .place)) (is .at-rule) ∙ ap (breach e (seen past) rule) (is .at-place) in
-      (is .at-line, breaches-are past e (g .rule) (g .place) (g .thing) .0 (same ∙ is .thing)),
+      (is .at-line, breaches-are room past so-far e (g .rule) (g .place) (g .thing) .0 (same ∙ is .thing)),
   λ k.
       let (low, high, place) = broken-rule past e (g .rule) (g .place) (g .thing) (k .1) in
       member-joined rules (of-rule (suc (length past)) e (seen past)) (g .rule) (in-from 11 1 (g .rule) low (omega arith))
       (member-joined places (of-place (suc (length past)) e (seen past) (g .rule)) (g .place) (in-from 4 0 (g .place) (omega arith) (omega arith))
       (is-found g (suc (length past)) (g .rule) (g .place) (breach e (seen past) (g .rule) (g .place))
-      (record { at-line = k .0; at-rule = refl; at-place = refl; thing = breaches-are past e (g .rule) (g .place) (g .thing) .1 (k .1) }))),
+      (record { at-line = k .0; at-rule = refl; at-place = refl; thing = breaches-are room past so-far e (g .rule) (g .place) (g .thing) .1 (k .1) }))),
 )
 
 -- ---- all findings
 
-finding-breached : (past : History) (g : Finding) → List·Memᴰ g (findings past) → Breached g past
+finding-breached : (room : Room) (past : History) → Accepted room past → (g : Finding) → List·Memᴰ g (findings past) → Breached g past
 unfolding findings
-finding-breached [] g m = absurd (List·Memᴰ·not-nil m)
-finding-breached (e ∷ past) g m =
+finding-breached room [] a g m = absurd (List·Memᴰ·not-nil m)
+finding-breached room (e ∷ past) a g m =
     either (List·Memᴰ·append-cases (findings past) m)
-    (λ h. later (finding-breached past g h))
+    (λ h. later (finding-breached room past (before room e past a) g h))
     (λ h.
-    let (line, broken) = line-is past e g .0 h in
+    let (line, broken) = line-is room past (before room e past a) e g .0 h in
     record { newer = []; condemned = e; older = past; split = refl; line = line; broken = broken })
   where
     later : Breached g past → Breached g (e ∷ past)
@@ -146,14 +150,26 @@ breached-finding [] e older g m = Memᴰ·append-right (findings older) m
 breached-finding (x ∷ n) e older g m = Memᴰ·append-left (of-line (suc (length (n ++ (e ∷ older)))) x (seen (n ++ (e ∷ older)))) (breached-finding n e older g m)
 
 -- the findings are all the breaches of the accepted lines, and nothing besides
-pub findings-are : (past : History) (f : Finding) → List·Memᴰ f (findings past) ↔ Breached f past
-findings-are past f = (
-  finding-breached past f,
-  λ k. rw (k .split) (breached-finding (k .newer) (k .condemned) (k .older) f (line-is (k .older) (k .condemned) f .1 (k .line, k .broken))),
+pub findings-are : (room : Room) (past : History) → Accepted room past → (f : Finding) → List·Memᴰ f (findings past) ↔ Breached f past
+findings-are room past a f = (
+  finding-breached room past a f,
+  λ k.
+      let so-far = before room (k .condemned) (k .older) (accepted-before room (k .newer) (k .condemned ∷ k .older) (subst (Accepted room) (k .split) a)) in
+      rw (k .split) (breached-finding (k .newer) (k .condemned) (k .older) f (line-is room (k .older) so-far (k .condemned) f .1 (k .line, k .broken))),
 )
 
-within-lines : (past : History) (g : Finding) → Breached g past → g .line ≤ length past
-within-lines past g k = omega (arith, k .line, ap length (k .split), length-append (k .newer) (k .condemned ∷ k .older))
+line-number : (past : History) (e : Line) (g : Finding) → List·Memᴰ g (of-line (suc (length past)) e (seen past)) → g .line ≡ suc (length past)
+unfolding of-line of-rule of-place
+line-number past e g m =
+    let (rule, i, k) = joined-member rules (of-rule (suc (length past)) e (seen past)) m in
+    let (place, is) = rule-is (suc (length past)) e (seen past) g rule k in
+    is .at-line
+
+within-lines : (past : History) (g : Finding) → List·Memᴰ g (findings past) → g .line ≤ length past
+unfolding findings
+within-lines [] g m = absurd (List·Memᴰ·not-nil m)
+within-lines (e ∷ past) g m =
+    either (List·Memᴰ·append-cases (findings past) m) (λ h. omega (arith, within-lines past g h)) (λ h. omega (arith, line-number past e g h))
 
 -- they stand in order of line, rule and place
 pub findings-ordered : (past : History) → Ordered (findings past)
@@ -161,7 +177,7 @@ unfolding findings
 findings-ordered [] = no-more
 findings-ordered (e ∷ past) =
     ordered-append (findings past) (of-line (suc (length past)) e (seen past)) (findings-ordered past) (line-ordered (suc (length past)) e (seen past))
-    (λ x y i j. inl (omega (arith, within-lines past x (finding-breached past x i), line-is past e y .0 j .0)))
+    (λ x y i j. inl (omega (arith, within-lines past x i, line-number past e y j)))
 
 -- and each once
 pub found-once : (past : History) (before : List Finding) (f : Finding) (after : List Finding) → findings past ≡ before ++ (f ∷ after) → ¬ List·Memᴰ f after

@@ -20,6 +20,9 @@ pub mod Capacities
 pub mod Calls
 pub mod Kept
 pub mod Accepting
+pub mod Classes
+pub mod Stated
+pub mod Stating
 pub mod Stacks
 pub mod Once
 pub mod Leaks
@@ -45,3 +48,4 @@ mod LineCases
 mod LimitCases
 mod AgainCases
 mod LeakCases
+mod ClassCases

@@ -36,7 +36,9 @@ lines =
     ∷ l "X 1 0" gives 0 ∷ l "X 1" gives 2 ∷ l "X 1 0 0" gives 2
     ∷ l "C 1 1 6 0 0 0 0" gives 0 ∷ l "C 1 1 6 0 0 0" gives 2 ∷ l "C 1 1 6 0 0 0 0 0" gives 2
     ∷ l "R 1 6 0 0" gives 0 ∷ l "R 1 6 0" gives 2 ∷ l "R 1 6 0 0 0" gives 2
-    ∷ l "Z" gives 0 ∷ l "Z 0" gives 2 ∷ l "Z " gives 2 ∷ l "" gives 2 ∷ l "K 5 1" gives 2 ∷ l "A 1 1" gives 2
+    ∷ l "Z" gives 0 ∷ l "Z 0" gives 2 ∷ l "Z " gives 2 ∷ l "" gives 2 ∷ l "A 1 1" gives 2
+    ∷ l "K 5 1" gives 0 ∷ l "K 5" gives 2 ∷ l "K 5 1 1" gives 2 ∷ l "k 5 1" gives 2
+    ∷ l "O 1 5 2" gives 0 ∷ l "O 1 5" gives 2 ∷ l "O 1 5 2 2" gives 2
     -- N has 0 to 8 handles
     ∷ l "N 1 1 1 5 9 13 17 21 25 29" gives 0 ∷ l "N 1 1 1 5 9 13 17 21 25 29 33" gives 2
     -- fields are parted by one tab
@@ -56,6 +58,13 @@ lines =
     ∷ l "X 0 0" gives 3 ∷ l "X 16 0" gives 0 ∷ l "X 17 0" gives 3
     ∷ l "C 0 1 6 0 0 0 0" gives 3 ∷ l "C 16 1 6 0 0 0 0" gives 0 ∷ l "C 17 1 6 0 0 0 0" gives 3
     ∷ l "R 0 6 0 0" gives 3 ∷ l "R 16 6 0 0" gives 0 ∷ l "R 17 6 0 0" gives 3
+    ∷ l "O 0 5 2" gives 3 ∷ l "O 16 5 2" gives 0 ∷ l "O 17 5 2" gives 3
+    -- class and super 1..4095
+    ∷ l "K 0 1" gives 3 ∷ l "K 1 1" gives 0 ∷ l "K 4095 1" gives 0 ∷ l "K 4096 1" gives 3 ∷ l "K -1 1" gives 3
+    ∷ l "K 5 0" gives 3 ∷ l "K 5 4095" gives 0 ∷ l "K 5 4096" gives 3 ∷ l "K 5 -1" gives 3
+    ∷ l "O 1 5 0" gives 3 ∷ l "O 1 5 1" gives 0 ∷ l "O 1 5 4095" gives 0 ∷ l "O 1 5 4096" gives 3 ∷ l "O 1 5 -1" gives 3
+    -- O's handle is a handle, null or an identity
+    ∷ l "O 1 0 2" gives 0 ∷ l "O 1 8 2" gives 0 ∷ l "O 1 4294967295 2" gives 0 ∷ l "O 1 4294967296 2" gives 3 ∷ l "O 1 -1 2" gives 3
     -- env 1..4294967295
     ∷ l "N 1 0" gives 3 ∷ l "N 1 4294967295" gives 0 ∷ l "N 1 4294967296" gives 3
     ∷ l "C 1 0 6 0 0 0 0" gives 3 ∷ l "C 1 4294967295 6 0 0 0 0" gives 0 ∷ l "C 1 4294967296 6 0 0 0 0" gives 3

@@ -15,7 +15,7 @@ use Rattle.facts.specs.Table.{fact-of}
 use Rattle.facts.specs.Named.{PushLocalFrame, PopLocalFrame, DeleteGlobalRef, DeleteLocalRef, DeleteWeakGlobalRef}
 use Rattle.facts.specs.declared.Result.{Result}
 use Rattle.facts.specs.declared.Result.the-variants as Result
-use Rattle.lines.specs.Line.{Line, N, X, C, R, Z, kind, is-zero}
+use Rattle.lines.specs.Line.{Line, N, X, C, R, Z, states, kind, is-zero}
 use Rattle.history.specs.Past.{History, thread-of, is-of}
 use Rattle.history.specs.Frames.{Frame, entered, pushed, frames, depth, without-pushed}
 use Rattle.history.specs.Handles.{Alive, local, shared, makes, result-made, is-local, is-shared, deletes, ends, frame-gone, living}
@@ -49,6 +49,7 @@ module _ (past : History) where
       go false z Result.Status is m = absurd (List·Memᴰ·not-nil m)
       go false z Result.Nothing is m = absurd (List·Memᴰ·not-nil m)
   made-makes Z x m = absurd (List·Memᴰ·not-nil m)
+  made-makes (states s) x m = absurd (List·Memᴰ·not-nil m)
 
   pub result-makes : (t f h p : ℕ) (k : Result) → fact-of f .result ≡ k → h ≢ 0 → makes (R t f (pos h) p) (depth t past) ≡ result-made k t (depth t past) h
   unfolding makes
@@ -85,6 +86,7 @@ module _ (past : History) where
       go true m = omega arith
       go false m = omega arith
   frame-left Z t d h k l o = absurd (false≢true o)
+  frame-left (states s) t d h k l o = absurd (false≢true o)
 
   ended-local : (e : Line) (t d h : ℕ) → d ≤ depth t past → frame-gone (e ∷ past) (local t d h) ≡ true → Ends past e (local t d h)
   ended-local e t d h k g = go (is-of t e) refl
@@ -117,6 +119,7 @@ module _ (past : History) where
       rw (eqb-true f DeleteWeakGlobalRef u, eqb-true g a is) (deletes-weak t env a b c n (eqb-true (kind a) 3 k)))
   deleted (R t f r p) x h = absurd (false≢true h)
   deleted Z x h = absurd (false≢true h)
+  deleted (states s) x h = absurd (false≢true h)
 
   -- of a handle whose frame is there
   ended : (e : Line) (x : Alive) → frame-gone past x ≡ false → ends e past x ≡ true → Ends past e x

@@ -3,7 +3,7 @@ use Prim.Native.Nat.{ℕ, zero, suc, _+_, _≤_, _<_}
 use mathlib.Core.Path.{_≡_, refl, sym, ap, _∙_, fun-ext}
 use mathlib.Core.Bool.{Bool, true, false, not, _&&_}
 use mathlib.Core.List.{List, [], _∷_}
-use mathlib.Core.Option.{Option, none, some, Option·some-injective, Option·none-ne-some}
+use mathlib.Core.Option.{Option, none, some}
 use native.Mathlib.Omega.{arith}
 use lib.Dec.{eqb, ltb}
 use lib.IntN.{ℤ}
@@ -14,38 +14,45 @@ use Rattle.words.specs.Lists.{joined, sum}
 use Rattle.facts.specs.Table.{fact-of, table, is-allowed-pending, is-allowed-critical}
 use Rattle.facts.specs.Named.{PopLocalFrame, MonitorExit}
 use Rattle.facts.specs.declared.Place.the-variants as Place
-use Rattle.lines.specs.Line.{Line, N, X, C, R, Z, above-zero}
-use Rattle.history.specs.Past.{History}
+use Rattle.lines.specs.Line.{Line, N, X, C, R, Z, states, above-zero}
+use Rattle.history.specs.Past.{History, thread-of}
 use Rattle.history.specs.Frames.{top-pushed}
 use Rattle.history.specs.Handles.{global-or-weak}
-use Rattle.history.specs.Seen.{Seen, seen}
+use Rattle.history.specs.Seen.{Seen}
 use Rattle.history.specs.Acceptance.{everything}
-use Rattle.history.specs.Breaches.{when, place-rule, rule-at, value-at, is-rule, in-critical, overflows, line-rule, call-rule, end-rule, breach}
+use Rattle.history.specs.Breaches.{when, place-rule, place-at, class-at, value-at, function-of, rule-at, is-rule, in-critical, overflows, line-rule, call-rule, end-rule, breach}
 use Rattle.history.specs.Findings.{rules, places, found, of-line}
-use Rattle.history.specs.Paper.{Broken}
+use Rattle.history.specs.Paper.{Wrong, Broken, at-a, at-b, at-c, at-result, other-env, not-allowed, called-in-critical, no-monitor, not-pushed, left-in-critical, overflow, buffers-left, monitors-left, handles-left}
 use Rattle.history.specs.Order.{most-findings}
 use Rattle.history.proofs.Tests.{one-most}
 use Rattle.history.proofs.Order.{from}
-use Rattle.history.proofs.Breaches.{that-rule, breaches-are}
+use Rattle.history.proofs.Places.{one-wrong}
 
 -- ---- a used place
 
-when-some : (b : Bool) (x v : ℕ) → when b x ≡ some v → (b ≡ true) × (x ≡ v)
-when-some true x v h = (refl, Option·some-injective x v h)
-when-some false x v h = absurd (Option·none-ne-some v h)
-
-of-place : (e : Line) (v : Seen) (rule place x : ℕ) → 1 ≤ place → breach e v rule place ≡ some x → (rule-at e v place ≡ some rule) × (value-at e place ≡ x)
-unfolding breach
-of-place e v rule place x l h =
-    let (is, val) = when-some (is-rule rule (rule-at e v place)) (value-at e place) x (rw (ne-eqb place 0 (λ z. omega (arith, z))) at h) in
-    (that-rule rule (rule-at e v place) is, val)
+place-wrong : (past : History) (e : Line) (r place v : ℕ) → 1 ≤ place → Broken past e r place v
+    → Wrong past (thread-of e) (function-of e) (class-at e place) (place-at e place) (value-at e place) r × (value-at e place ≡ v)
+place-wrong past _ _ _ _ l (at-a t env f a b c rule n w) = (w, refl)
+place-wrong past _ _ _ _ l (at-b t env f a b c rule n w) = (w, refl)
+place-wrong past _ _ _ _ l (at-c t env f a b c rule n w) = (w, refl)
+place-wrong past _ _ _ _ l (at-result t v rule w) = (w, refl)
+place-wrong past _ _ _ _ l (other-env t env f a b c n d) = absurd (omega arith)
+place-wrong past _ _ _ _ l (not-allowed t env f a b c n h k) = absurd (omega arith)
+place-wrong past _ _ _ _ l (called-in-critical t env f a b c n h k) = absurd (omega arith)
+place-wrong past _ _ _ _ l (no-monitor t env a b c n h) = absurd (omega arith)
+place-wrong past _ _ _ _ l (not-pushed t env a b c n h) = absurd (omega arith)
+place-wrong past _ _ _ _ l (left-in-critical t v h) = absurd (omega arith)
+place-wrong past _ _ _ _ l (overflow t f h p capacity lower is nz cs above) = absurd (omega arith)
+place-wrong past _ _ _ _ l (buffers-left k e z) = absurd (omega arith)
+place-wrong past _ _ _ _ l (monitors-left k e z) = absurd (omega arith)
+place-wrong past _ _ _ _ l (handles-left k e z) = absurd (omega arith)
 
 -- a used place gives at most one finding
 pub one-a-place : (past : History) (e : Line) (place r s v w : ℕ) → 1 ≤ place → Broken past e r place v → Broken past e s place w → (r ≡ s) × (v ≡ w)
 one-a-place past e place r s v w l x y =
-    let (a, b) = of-place e (seen past) r place v l (breaches-are past e r place v .1 x) in
-    let (c, d) = of-place e (seen past) s place w l (breaches-are past e s place w .1 y) in
-    (Option·some-injective r s (sym a ∙ c), sym b ∙ d)
+    let (a, b) = place-wrong past e r place v l x in
+    let (c, d) = place-wrong past e s place w l y in
+    (one-wrong past (thread-of e) (function-of e) (class-at e place) (place-at e place) (value-at e place) r s a c, sym b ∙ d)
 
 -- ---- sums
 
@@ -196,3 +203,4 @@ at-most line Z v =
       most-when (ltb 0 (v .all-monitors)) (v .all-monitors),
       most-when (ltb 0 (v .handles global-or-weak)) (v .handles global-or-weak),
     )
+at-most line (states s) v = omega (arith, no-places line (states s) v (λ place. refl))

@@ -50,7 +50,7 @@ not-twice x (y ∷ l) h = go (same-handle x y) refl (not-twice x l (or-neither (
     go false e ih = ih
 
 -- what is made anew was not alive
-made-anew : (e : Line) (past : History) → makes-anew e (seen past) ≡ true → (x : Alive)
+pub made-anew : (e : Line) (past : History) → makes-anew e (seen past) ≡ true → (x : Alive)
     → (count (same-handle x) (makes e (depth (thread-of e) past)) ≤ 1)
     × (0 < count (same-handle x) (makes e (depth (thread-of e) past)) → count (same-handle x) (living past) ≡ 0)
 unfolding makes-anew made-by depth seen
@@ -93,7 +93,7 @@ alive-once room _ (and-line e past n a r k) x = go (count (same-handle x) made) 
         )
 
     anew : (count (same-handle x) made ≤ 1) × (0 < count (same-handle x) made → count (same-handle x) (living past) ≡ 0)
-    anew = made-anew e past (passed room e past r .2) x
+    anew = made-anew e past (passed room e past r .anew) x
 
     go : (n : ℕ) → count (same-handle x) made ≡ n → count (same-handle x) (living past) ≤ 1 → count (same-handle x) (made ++ kept) ≤ 1
     go ℕ.zero z ih = omega (arith, count-append (same-handle x) made kept, fewer)
@@ -116,7 +116,7 @@ Placed (shared h) = (kind h ≡ 2) ⊎ (kind h ≡ 3)
 -- an R has a call open, so its thread has a frame
 returned-frame : (room : Room) (t f p : ℕ) (r : ℤ) (past : History) → Accepted room (R t f r p ∷ past) → 1 ≤ depth t past
 unfolding in-step
-returned-frame room t f p r past a = framed-items room past (before room (R t f r p) past a) t (go (items t past) (passed room (R t f r p) past (not-refused room (R t f r p) past a) .0))
+returned-frame room t f p r past a = framed-items room past (before room (R t f r p) past a) t (go (items t past) (passed room (R t f r p) past (not-refused room (R t f r p) past a) .step))
   where
     go : (is : List Item) → (not (closed past) && is-call-of f (top-of is)) ≡ true → 0 < length is
     go [] h = absurd (false≢true (and-right (not (closed past)) false h))

@@ -10,7 +10,7 @@ use Rattle.words.specs.Choice.{if_then_else_}
 use Rattle.words.specs.Lists.{count, but-first}
 use Rattle.facts.specs.Table.{fact-of, family, is-critical}
 use Rattle.facts.specs.Results.{is-buffer-result, is-buffer-place}
-use Rattle.lines.specs.Line.{Line, N, X, C, R, Z, above-zero}
+use Rattle.lines.specs.Line.{Line, N, X, C, R, Z, states, above-zero}
 use Rattle.history.specs.Past.{History, is-of}
 use Rattle.history.specs.Handles.{Alive, local, shared, living}
 use Rattle.history.specs.Buffers.{Pin, ordinary, critical, pin, same-pin, gets, releases, outstanding}
@@ -72,6 +72,7 @@ gets-none t k b (R s f r p) o = go (is-buffer-result (fact-of f .result) && not 
     go true = rw (not-same t s f k b (above-zero r) (eqb-false _ _ o))
     go false = refl
 gets-none t k b Z o = refl
+gets-none t k b (states s) o = refl
 
 releases-none : (t k b : ℕ) (e : Line) → is-of t e ≡ false → releases e (critical t k b) ≡ false
 unfolding releases
@@ -80,6 +81,7 @@ releases-none t k b (X s r) o = refl
 releases-none t k b (C s env f x y z n) o = rw (not-that t s f k b y (eqb-false _ _ o)) (and-false (is-buffer-place (fact-of f .b)))
 releases-none t k b (R s f r p) o = refl
 releases-none t k b Z o = refl
+releases-none t k b (states s) o = refl
 
 same-critical-of : (t k b : ℕ) (e : Line) (past : History) → is-of t e ≡ false
     → count (same-pin (critical t k b)) (outstanding (e ∷ past)) ≡ count (same-pin (critical t k b)) (outstanding past)

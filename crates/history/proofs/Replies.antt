@@ -20,7 +20,7 @@ use Rattle.history.specs.Replies.{most-lines, weighed, verdict, accepted
 use Rattle.history.specs.Report.{Run, go-on, run}
 use Rattle.history.specs.declared.Finding.{Finding}
 use Rattle.history.specs.Accepted.{Accepted, at-start, and-line}
-use Rattle.history.specs.Refusals.{Given, four, five, six, seven, none}
+use Rattle.history.specs.Refusals.{Given, four, five, six, nine, ten, seven, none}
 use Rattle.history.specs.Verdicts.{Weighs, too-many, not-read, refuses, takes}
 use Rattle.history.specs.Runs.{findings-in, told, Runs, no-more, stops, goes-on}
 use Rattle.history.proofs.Refusals.{refusal-is}
@@ -111,29 +111,31 @@ refusal-changes-nothing room before bs k h = go (verdict room (heard room before
 
 abbrev Number : Read → Type 0
 Number (says e) = Unit {0}
-Number (refused k) = (1 ≤ k) × (k ≤ 7)
+Number (refused k) = (1 ≤ k) × (k ≤ 10) × (k ≢ 8)
 
-given-number : (room : Room) (past : History) (e : Line) (k : ℕ) → Given room past e k → k ≤ 7
-given-number room past e _ (four s) = omega arith
-given-number room past e _ (five s w) = omega arith
-given-number room past e _ (six s w m) = omega arith
-given-number room past e _ (seven s w m x) = omega arith
-given-number room past e _ (none s w m x) = omega arith
+given-number : (room : Room) (past : History) (e : Line) (k : ℕ) → Given room past e k → (k ≤ 10) × (k ≢ 8)
+given-number room past e _ (four s) = (omega arith, λ z. omega (arith, z))
+given-number room past e _ (five s w) = (omega arith, λ z. omega (arith, z))
+given-number room past e _ (six s w m) = (omega arith, λ z. omega (arith, z))
+given-number room past e _ (nine s w m c) = (omega arith, λ z. omega (arith, z))
+given-number room past e _ (ten s w m c d) = (omega arith, λ z. omega (arith, z))
+given-number room past e _ (seven s w m c d x) = (omega arith, λ z. omega (arith, z))
+given-number room past e _ (none s w m c d x) = (omega arith, λ z. omega (arith, z))
 
 weighs-number : (room : Room) (past : History) (bs : List ℕ) (x : Read) → Weighs room past bs x → Number x
-weighs-number room past bs _ (too-many l) = omega arith
-weighs-number room past bs _ (not-read k l h) = omega (arith, refused-by-number bs k h)
-weighs-number room past bs _ (refuses e k l h d g) = omega (arith, given-number room past e k g)
+weighs-number room past bs _ (too-many l) = (omega arith, omega arith, λ z. omega (arith, z))
+weighs-number room past bs _ (not-read k l h) = (omega (arith, refused-by-number bs k h), omega (arith, refused-by-number bs k h), λ z. omega (arith, z, refused-by-number bs k h))
+weighs-number room past bs _ (refuses e k l h d g) = let (x, y) = given-number room past e k g in (omega arith, x, y)
 weighs-number room past bs _ (takes e l h g) = tt
 
--- from a start a refusal is a number from 1 to 7: never 8, and never 0
-pub refused-number : (room : Room) (calls : List (List ℕ)) (bs : List ℕ) (k : ℕ) → reply room (heard room calls) bs ≡ not-accepted k → (1 ≤ k) × (k ≤ 7)
+-- from a start a refusal is a number from 1 to 10: never 8, and never 0
+pub refused-number : (room : Room) (calls : List (List ℕ)) (bs : List ℕ) (k : ℕ) → reply room (heard room calls) bs ≡ not-accepted k → (1 ≤ k) × (k ≤ 10) × (k ≢ 8)
 unfolding reply
 refused-number room calls bs k h =
     go (verdict room (heard room calls) bs) (weighs-number room (heard room calls) bs _ (weighs room (heard room calls) bs (heard-accepted room calls))) h
   where
-    go : (x : Read) → Number x → reply-of (heard room calls) x ≡ not-accepted k → (1 ≤ k) × (k ≤ 7)
-    go (refused j) n is = let same : j ≡ k = cc in omega arith
+    go : (x : Read) → Number x → reply-of (heard room calls) x ≡ not-accepted k → (1 ≤ k) × (k ≤ 10) × (k ≢ 8)
+    go (refused j) n is = let same : j ≡ k = cc in subst (λ (m : ℕ). (1 ≤ m) × (m ≤ 10) × (m ≢ 8)) same n
     go (says e) n is = absurd (accepted-not (of-line (suc (length (heard room calls))) e (seen (heard room calls))) k is)
 
 -- the findings replied to all calls are the findings of the lines heard

@@ -14,21 +14,23 @@ use Rattle.lines.specs.Reading.{Read, says, refused, read}
 use Rattle.history.specs.Past.{History, thread-of}
 use Rattle.history.specs.Items.{items}
 use Rattle.history.specs.Seen.{Seen, seen}
-use Rattle.history.specs.Acceptance.{Room, env-right, makes-anew, has-room, has-item-room, everything, deepest, first-refusal, refusal}
+use Rattle.history.specs.Acceptance.{Room, env-right, makes-anew, classes-right, names-alive, has-room, has-item-room, everything, deepest, first-refusal, refusal}
 use Rattle.history.specs.Replies.{most-lines, weighed, verdict}
 use Rattle.history.specs.Report.{go-on, run}
 use Rattle.history.specs.Runs.{Roomier}
 use Rattle.history.proofs.Tests.{all-three, and-left, and-right, and-both}
 use Rattle.history.proofs.Accepting.{in-step-of, has-room-of}
 
-same-number : (step env anew less more : Bool) → (less ≡ true → more ≡ true) → first-refusal step env anew less ≢ 7
-    → first-refusal step env anew more ≡ first-refusal step env anew less
-same-number false env anew less more f h = refl
-same-number true false anew less more f h = refl
-same-number true true false less more f h = refl
-same-number true true true true true f h = refl
-same-number true true true true false f h = absurd (false≢true (f refl))
-same-number true true true false more f h = absurd (h refl)
+same-number : (step env anew classes alive less more : Bool) → (less ≡ true → more ≡ true) → first-refusal step env anew classes alive less ≢ 7
+    → first-refusal step env anew classes alive more ≡ first-refusal step env anew classes alive less
+same-number false env anew classes alive less more f h = refl
+same-number true false anew classes alive less more f h = refl
+same-number true true false classes alive less more f h = refl
+same-number true true true false alive less more f h = refl
+same-number true true true true false less more f h = refl
+same-number true true true true true true true f h = refl
+same-number true true true true true true false f h = absurd (false≢true (f refl))
+same-number true true true true true false more f h = absurd (h refl)
 
 module _ (a b : Room) (r : Roomier a b) where
   more-fits : (n m k : ℕ) → m ≤ k → leb n m ≡ true → leb n k ≡ true
@@ -46,7 +48,7 @@ module _ (a b : Room) (r : Roomier a b) where
   refusal-more : (e : Line) (past : History) → refusal a e past ≢ 7 → refusal b e past ≡ refusal a e past
   unfolding refusal
   refusal-more e past h =
-      same-number (in-step-of e past) (env-right e (seen past)) (makes-anew e (seen past)) (has-room-of a e past) (has-room-of b e past)
+      same-number (in-step-of e past) (env-right e (seen past)) (makes-anew e (seen past)) (classes-right e (seen past)) (names-alive e (seen past)) (has-room-of a e past) (has-room-of b e past)
       (λ k.
       and-both (has-room b (thread-of e) (seen (e ∷ past))) (has-item-room e (length (items (thread-of e) past)))
       (has-more (thread-of e) (seen (e ∷ past)) (and-left (has-room a (thread-of e) (seen (e ∷ past))) (has-item-room e (length (items (thread-of e) past))) k))

@@ -1,6 +1,6 @@
 -- All the sentences, proved. Assumes nothing.
 use mathlib.Core.Path.{refl}
-use Rattle.history.specs.Sentences.{On-breaches, On-handles, On-buffers, On-lines, On-refusals, On-leaks, On-input, On-replies, Shut-out}
+use Rattle.history.specs.Sentences.{On-breaches, On-handles, On-buffers, On-lines, On-classes, On-refusals, On-leaks, On-input, On-replies, Shut-out}
 use Rattle.history.proofs.Living.{living-are, local-alive, shared-alive}
 use Rattle.history.proofs.Acts.{enter-items, call-items, leave-items, return-items, enter-frames, enter-capacities, enter-pending, pop-frames, pop-nothing, pop-capacities, return-pending, call-pending, push-frames, enter-monitors, exit-monitors, other-status-frames, other-status-capacities, other-status-monitors}
 use Rattle.history.proofs.Arguments.{enter-alive}
@@ -19,12 +19,15 @@ use Rattle.history.proofs.Kept.{capacities-close}
 use Rattle.history.proofs.Others.{other-threads}
 use Rattle.history.proofs.Envs.{env-of-first, no-env, envs-apart}
 use Rattle.history.proofs.Accepting.{accepted-before}
+use Rattle.history.proofs.Classes.{known-are, leads-are, one-super, never-round}
+use Rattle.history.proofs.Stated.{class-is, state-class, made-class, class-kept, class-ended, class-named, declares-alone}
+use Rattle.history.proofs.Stating.{states-alone, nothing-else}
 use Rattle.history.proofs.Refusals.{refusal-is, seven-is-room, within-room, never-eight}
 use Rattle.history.proofs.Rooms.{run-more}
 use Rattle.history.proofs.Replies.{verdict-is, after-Z, heard-accepted, refusal-changes-nothing, refused-number, told-all, whole-run, run-told}
 use Rattle.history.proofs.Cut.{lines-joined, lines-cut}
 use Rattle.history.proofs.Report.{end-counts, refused-word, closed-word, open-word}
-use Rattle.history.proofs.ShutOut.{not-always-refused, not-one-reply, each-letter, not-first-only}
+use Rattle.history.proofs.ShutOut.{not-always-refused, not-one-reply, each-letter, statements-accepted, not-first-only}
 
 pub on-breaches : On-breaches
 on-breaches =
@@ -79,6 +82,25 @@ on-lines =
       envs-apart = envs-apart;
     }
 
+pub on-classes : On-classes
+on-classes =
+    record {
+      reserved-classes = (refl, refl, refl, refl, refl);
+      known-are = known-are;
+      leads-are = leads-are;
+      one-super = one-super;
+      never-round = never-round;
+      class-is = class-is;
+      state-class = state-class;
+      made-class = made-class;
+      class-kept = class-kept;
+      class-ended = class-ended;
+      class-named = class-named;
+      declares-alone = declares-alone;
+      states-alone = states-alone;
+      nothing-else = nothing-else;
+    }
+
 pub on-refusals : On-refusals
 on-refusals =
     record { refusal-is = refusal-is; seven-is-room = seven-is-room; within-room = within-room; never-eight = never-eight; accepted-before = accepted-before; run-more = run-more }
@@ -107,4 +129,4 @@ on-replies =
     }
 
 pub shut-out : Shut-out
-shut-out = record { not-always-refused = not-always-refused; not-one-reply = not-one-reply; each-letter = each-letter; not-first-only = not-first-only }
+shut-out = record { not-always-refused = not-always-refused; not-one-reply = not-one-reply; each-letter = each-letter; statements-accepted = statements-accepted; not-first-only = not-first-only }

@@ -6,7 +6,8 @@ use lib.Dec.{leb·zero}
 use lib.IntN.{pos}
 use Rattle.numbers.specs.Decimal.{read-on}
 use Rattle.facts.specs.Table.{table, fact-of, is-allowed-pending, is-allowed-critical}
-use Rattle.lines.specs.Line.{N, X, C, R, Z}
+use Rattle.facts.specs.Classes.{class-a, class-b}
+use Rattle.lines.specs.Line.{N, X, C, R, Z, states, K, O}
 use Rattle.lines.specs.Forms.{of-letter}
 use Rattle.lines.specs.Reading.{fields, numbers, line-of, of-fields, read}
 use Rattle.history.specs.Past.{History, through, closed}
@@ -16,9 +17,11 @@ use Rattle.history.specs.Handles.{makes, deletes, ends, living, alive-in
 use Rattle.history.specs.Capacities.{capacities}
 use Rattle.history.specs.Buffers.{pin, gets, releases, outstanding}
 use Rattle.history.specs.Thread.{pending, monitors, env-of}
-use Rattle.history.specs.Seen.{seen}
-use Rattle.history.specs.Acceptance.{Room, in-step, env-right, made-by, makes-anew, has-room, refusal}
-use Rattle.history.specs.Breaches.{handle-rule, kind-rule, place-rule, handle-alive, is-there, rule-at, in-critical, overflows, call-rule, end-rule, line-rule, breach}
+use Rattle.history.specs.Statements.{names, class-stated}
+use Rattle.history.specs.Classes.{super-of, super, leads, class-fits}
+use Rattle.history.specs.Seen.{seen, handle-alive}
+use Rattle.history.specs.Acceptance.{Room, in-step, env-right, made-by, makes-anew, classes-right, names-alive, has-room, refusal}
+use Rattle.history.specs.Breaches.{handle-rule, kind-rule, place-rule, is-there, rule-at, in-critical, overflows, call-rule, end-rule, line-rule, breach}
 use Rattle.history.specs.Findings.{of-line}
 use Rattle.history.specs.Replies.{verdict, accepted, not-accepted, reply, heard}
 use Rattle.history.specs.Accepted.{Accepted, at-start, and-line}
@@ -31,12 +34,12 @@ reads = tt
 
 -- the history
 tells : Unit {0}
-unfolding items frames through depth makes deletes ends living alive-in capacities pin gets releases outstanding pending monitors env-of closed seen
+unfolding items frames through depth makes deletes ends living alive-in capacities pin gets releases outstanding pending monitors env-of names class-stated super-of closed seen
 tells = tt
 
 -- acceptance, breaches and replies
 judges : Unit {0}
-unfolding in-step env-right made-by makes-anew has-room refusal handle-rule kind-rule place-rule handle-alive is-there rule-at in-critical overflows call-rule end-rule line-rule breach of-line verdict reply heard
+unfolding in-step env-right made-by makes-anew classes-right names-alive has-room refusal super leads class-fits class-a class-b handle-rule kind-rule place-rule handle-alive is-there rule-at in-critical overflows call-rule end-rule line-rule breach of-line verdict reply heard
 judges = tt
 
 module _ (room : Room) where
@@ -63,6 +66,14 @@ module _ (room : Room) where
       (and-line (R 1 6 (pos 0) 0) c (omega arith) refl (rw (leb·zero (room .references), leb·zero (room .pins)))
       (and-line (C 1 100 6 0 0 0 (pos 0)) n (omega arith) refl (rw (leb·zero (room .references), leb·zero (room .pins)))
       (and-line (N 1 100 []) [] (omega arith) refl (rw (leb·zero (room .references), leb·zero (room .pins))) at-start))))
+
+-- K and O too, where there is a row
+pub statements-accepted : Accepted program-room (states (O 1 5 5) ∷ N 1 100 (5 ∷ []) ∷ states (K 5 1) ∷ [])
+unfolding tells judges
+statements-accepted =
+    let k : History = states (K 5 1) ∷ [] in
+    let n : History = N 1 100 (5 ∷ []) ∷ k in
+    and-line (states (O 1 5 5)) n (omega arith) refl refl (and-line (N 1 100 (5 ∷ [])) k (omega arith) refl refl (and-line (states (K 5 1)) [] (omega arith) refl refl at-start))
 
 -- after the same first line the reply to the same later bytes differs, by what came between: a judge that works on the first line only is shut out
 pub not-first-only : (reply program-room (heard program-room (line "R 1 4 0 0" ∷ line "C 1 100 4 0 0 0 0" ∷ line "N 1 100 5" ∷ [])) (line "C 1 100 31 5 0 0 0")

@@ -10,7 +10,7 @@ use lib.ListN.{length}
 use Rattle.words.specs.Choice.{if_then_else_}
 use Rattle.words.specs.Lists.{count}
 use Rattle.facts.specs.Named.{PushLocalFrame, PopLocalFrame, MonitorEnter, MonitorExit}
-use Rattle.lines.specs.Line.{Line, N, X, C, R, Z, is-zero}
+use Rattle.lines.specs.Line.{Line, N, X, C, R, Z, states, is-zero}
 use Rattle.history.specs.Past.{History, is-of, through, closed}
 use Rattle.history.specs.Items.{Item, in-native, in-call, items, items-after, top-of, is-empty, is-native, is-call}
 use Rattle.history.specs.Frames.{Frame, entered, pushed, frames, frames-after, without-native, without-pushed, depth}
@@ -81,6 +81,7 @@ fit-line (R t f r p) over (in-native ∷ is) fs k s = absurd (false≢true (and-
 fit-line (R t f r p) over (in-call g n ∷ is) fs k s =
     record { turns = and-right (is-native (top-of is)) (by-turns is) (k .turns); natives = k .natives ∙ sym (count-pushed (eqb f PushLocalFrame && is-zero r) fs) }
 fit-line Z over is fs k s = k
+fit-line (states c) over is fs k s = k
 
 fit : (room : Room) (past : History) → Accepted room past → (t : ℕ) → Fit (items t past) (frames t past)
 unfolding items frames through
@@ -88,7 +89,7 @@ fit room _ at-start t = record { turns = refl; natives = refl }
 fit room _ (and-line e past n a r k) t = go (is-of t e) refl (fit room past k t)
   where
     step : is-of t e ≡ true → in-step e (top-of (items t past)) (closed past) ≡ true
-    step o = subst (λ (s : ℕ). in-step e (top-of (items s past)) (closed past) ≡ true) (thread-is t e o) (passed room e past r .0)
+    step o = subst (λ (s : ℕ). in-step e (top-of (items s past)) (closed past) ≡ true) (thread-is t e o) (passed room e past r .step)
 
     go : (q : Bool) → is-of t e ≡ q → Fit (items t past) (frames t past) → Fit (items t (e ∷ past)) (frames t (e ∷ past))
     go true o ih = rw (own-items t e past o, own-frames t e past o) (fit-line e (closed past) (items t past) (frames t past) ih (step o))
@@ -127,6 +128,7 @@ one-monitor (R t f r p) m = go (not (is-zero r)) (eqb f MonitorEnter) (eqb f Mon
     go false false true = less
     go false false false = omega arith
 one-monitor Z m = omega arith
+one-monitor (states s) m = omega arith
 
 -- no more monitors than lines
 pub monitors-in-lines : (past : History) (t : ℕ) → monitors t past ≤ length past

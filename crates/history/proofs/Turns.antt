@@ -12,7 +12,7 @@ use Rattle.words.specs.Lists.{any}
 use Rattle.facts.specs.Table.{fact-of}
 use Rattle.facts.specs.declared.Result.{Result}
 use Rattle.facts.specs.declared.Result.the-variants as Result
-use Rattle.lines.specs.Line.{Line, N, X, C, R, Z, above-zero}
+use Rattle.lines.specs.Line.{Line, N, X, C, R, Z, states, above-zero}
 use Rattle.history.specs.Past.{History, thread-of, closed}
 use Rattle.history.specs.Items.{Item, in-native, in-call, items, top-of}
 use Rattle.history.specs.Frames.{depth}
@@ -21,7 +21,7 @@ use Rattle.history.specs.Thread.{all-threads, env-of}
 use Rattle.history.specs.Seen.{seen, is-alive}
 use Rattle.history.specs.Acceptance.{in-step, env-right, made-by, twice, makes-anew}
 use Rattle.history.specs.Lives.{Makes}
-use Rattle.history.specs.Refusals.{In-turn, first-native, inner-native, native-leaves, native-calls, call-returns, run-ends, In-step, Wrong-env, another-env, shared-env, Twice, here, further, Made-again, local-again, shared-again, named-twice}
+use Rattle.history.specs.Refusals.{In-turn, first-native, inner-native, native-leaves, native-calls, call-returns, run-ends, anywhere, In-step, Wrong-env, another-env, shared-env, Twice, here, further, Made-again, local-again, shared-again, named-twice}
 use Rattle.history.proofs.Tests.{and-left, and-right, and-both, or-cases, or-left, or-right, never-true, true-not-false, either, eqb-self}
 use Rattle.history.proofs.Counts.{some-any, any-member, map-member, member-map}
 use Rattle.history.proofs.Living.{made-makes, makes-made, local-alive, shared-alive}
@@ -35,6 +35,7 @@ is-end (X t r) = false
 is-end (C t env f a b c n) = false
 is-end (R t f r p) = false
 is-end Z = true
+is-end (states s) = false
 
 end-is : (e : Line) → is-end e ≡ true → Z ≡ e
 end-is (N t env hs) h = absurd (false≢true h)
@@ -42,6 +43,7 @@ end-is (X t r) h = absurd (false≢true h)
 end-is (C t env f a b c n) h = absurd (false≢true h)
 end-is (R t f r p) h = absurd (false≢true h)
 end-is Z h = refl
+end-is (states s) h = absurd (false≢true h)
 
 closed-any : (past : History) → closed past ≡ any is-end past
 unfolding closed
@@ -51,6 +53,7 @@ closed-any (X t r ∷ past) = closed-any past
 closed-any (C t env f a b c n ∷ past) = closed-any past
 closed-any (R t f r p ∷ past) = closed-any past
 closed-any (Z ∷ past) = refl
+closed-any (states s ∷ past) = closed-any past
 
 pub closed-is : (past : History) → (closed past ≡ true) ↔ List·Memᴰ Z past
 closed-is past = (
@@ -90,6 +93,7 @@ in-turn past (R t f r p) h = go (items t past) refl h
     go (in-native ∷ is) e k = absurd (false≢true k)
     go (in-call g n ∷ is) e k = call-returns t f n p r is (e ∙ rw (eqb-true f g k))
 in-turn past Z h = run-ends
+in-turn past (states s) h = anywhere s
 
 turn-in : (past : History) (e : Line) → In-turn past e → in-step e (top-of (items (thread-of e) past)) false ≡ true
 unfolding in-step
@@ -99,6 +103,7 @@ turn-in past _ (native-leaves t r below is) = rw is
 turn-in past _ (native-calls t env f a b c n below is) = rw is
 turn-in past _ (call-returns t f n p r below is) = rw is (eqb-self f)
 turn-in past _ run-ends = refl
+turn-in past _ (anywhere s) = refl
 
 over-no : (e : Line) (top : Option Item) → in-step e top true ≡ false
 unfolding in-step
@@ -144,6 +149,7 @@ env-is past (X t r) = (λ h. absurd (false≢true (sym h)), λ w. elim w [ ])
 env-is past (C t env f a b c n) = (λ h. absurd (false≢true (sym h)), λ w. elim w [ ])
 env-is past (R t f r p) = (λ h. absurd (false≢true (sym h)), λ w. elim w [ ])
 env-is past Z = (λ h. absurd (false≢true (sym h)), λ w. elim w [ ])
+env-is past (states s) = (λ h. absurd (false≢true (sym h)), λ w. elim w [ ])
 
 -- ---- handles made
 
@@ -183,6 +189,7 @@ made-twice past (X t r) h = absurd (false≢true h)
 made-twice past (C t env f a b c n) h = absurd (false≢true h)
 made-twice past (R t f r p) h = true-not-false _ h (one-result (eqb (above-zero r) 0) (fact-of f .result) t (depth t past) (above-zero r))
 made-twice past Z h = absurd (false≢true h)
+made-twice past (states s) h = absurd (false≢true h)
 
 named : (past : History) (t env : ℕ) (hs : List ℕ) → Twice hs → twice (makes (N t env hs) (depth t past)) ≡ true
 unfolding makes

@@ -6,6 +6,7 @@ use lib.ListN.{length, take}
 use Rattle.words.specs.Lists.{joined}
 use Rattle.words.specs.Text.{bytes, with-tabs, line-feed}
 use Rattle.facts.specs.Table.{table, fact-of, is-allowed-pending, is-allowed-critical, family, is-critical}
+use Rattle.facts.specs.Classes.{class-a, class-b}
 use Rattle.numbers.specs.Decimal.{digits-in, digits, read-on}
 use Rattle.lines.specs.Line.{Line}
 use Rattle.lines.specs.Forms.{of-letter}
@@ -17,9 +18,11 @@ use Rattle.history.specs.Handles.{makes, deletes, ends, living, alive-in
 use Rattle.history.specs.Capacities.{capacities}
 use Rattle.history.specs.Buffers.{pin, gets, releases, outstanding}
 use Rattle.history.specs.Thread.{pending, monitors, env-of}
-use Rattle.history.specs.Seen.{seen}
-use Rattle.history.specs.Acceptance.{Room, in-step, env-right, made-by, makes-anew, has-room, refusal}
-use Rattle.history.specs.Breaches.{handle-rule, kind-rule, place-rule, handle-alive, is-there, rule-at, in-critical, overflows, call-rule, end-rule, line-rule, breach}
+use Rattle.history.specs.Statements.{names, class-stated}
+use Rattle.history.specs.Classes.{super-of, super, leads, class-fits}
+use Rattle.history.specs.Seen.{seen, handle-alive}
+use Rattle.history.specs.Acceptance.{Room, in-step, env-right, made-by, makes-anew, classes-right, names-alive, has-room, refusal}
+use Rattle.history.specs.Breaches.{handle-rule, kind-rule, place-rule, is-there, rule-at, in-critical, overflows, call-rule, end-rule, line-rule, breach}
 use Rattle.history.specs.Findings.{of-line, findings}
 use Rattle.history.specs.Replies.{verdict, Reply, reply, heard}
 use Rattle.history.specs.Report.{run, lines-of, shown-end, shown, report}
@@ -53,14 +56,14 @@ unended c = record { name = c .name; room = c .room; input = take (pred (length 
 
 -- ---- what the definitions say, computed: each line names all that is computed with
 
--- the number 4 to 7 given to a line after a history, or 0
+-- the number 4 to 7, 9 or 10 given to a line after a history, or 0
 unfoldable pub refused-by : Room → Line → History → ℕ
-unfolding table fact-of family is-critical through closed items frames depth makes deletes ends living alive-in capacities pin gets releases outstanding pending monitors env-of seen in-step env-right made-by makes-anew has-room refusal
+unfolding table fact-of family is-critical through closed items frames depth makes deletes ends living alive-in capacities pin gets releases outstanding pending monitors env-of names class-stated super-of seen in-step env-right made-by makes-anew classes-right names-alive has-room refusal
 refused-by = refusal
 
 -- the reply to a line after calls, which stand newest first
 unfoldable pub replied : Room → List (List ℕ) → List ℕ → Reply
-unfolding refused-by is-allowed-pending is-allowed-critical read-on fields numbers line-of of-letter of-fields read handle-rule kind-rule place-rule handle-alive is-there rule-at in-critical overflows call-rule end-rule line-rule breach of-line verdict reply heard
+unfolding refused-by is-allowed-pending is-allowed-critical read-on fields numbers line-of of-letter of-fields read handle-rule kind-rule place-rule handle-alive super leads class-fits class-a class-b is-there rule-at in-critical overflows call-rule end-rule line-rule breach of-line verdict reply heard
 replied room before bs = reply room (heard room before) bs
 
 -- the report

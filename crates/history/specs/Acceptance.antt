@@ -1,4 +1,4 @@
--- Which line is accepted after a history: the numbers 4 to 7. Assumes nothing.
+-- Which line is accepted after a history: the numbers 4 to 7, 9 and 10. Assumes nothing.
 use Prim.Native.Nat.{ℕ}
 use mathlib.Core.Bool.{Bool, true, false, not, _&&_, _||_}
 use mathlib.Core.List.{List, [], _∷_}
@@ -7,17 +7,18 @@ use lib.Dec.{eqb, leb, ltb}
 use lib.ListN.{length}
 use Rattle.words.specs.Choice.{if_then_else_}
 use Rattle.words.specs.Lists.{any}
-use Rattle.lines.specs.Line.{Line, if-N_then_else_, if-X_then_else_, if-C_then_else_, if-R_then_else_}
+use Rattle.lines.specs.Line.{Line, if-N_then_else_, if-X_then_else_, if-C_then_else_, if-R_then_else_, if-K_then_else_, if-O_then_else_}
 use Rattle.history.specs.Past.{History, thread-of, closed}
 use Rattle.history.specs.Items.{Item, items, top-of, is-empty, is-native, is-call, is-call-of}
 use Rattle.history.specs.Handles.{Alive, makes, same-handle}
 use Rattle.history.specs.Thread.{all-threads}
-use Rattle.history.specs.Seen.{Seen, seen, is-alive}
+use Rattle.history.specs.Classes.{is-known}
+use Rattle.history.specs.Seen.{Seen, seen, is-alive, handle-alive}
 
 -- ---- 4: out of step
 
 -- N is allowed when the stack is empty or its top is an open call; C and X when the top is a native; R when the top is an open call of the same function.
--- Nothing is allowed after Z.
+-- Statements are in step anywhere. Nothing is allowed after Z.
 unfoldable pub in-step : Line → Option Item → Bool → Bool
 in-step e top over =
     not over
@@ -49,6 +50,19 @@ twice (x ∷ xs) = any (same-handle x) xs || twice xs
 unfoldable pub makes-anew : Line → Seen → Bool
 makes-anew e v = not (any (λ (x : Alive). is-alive (same-handle x) v) (made-by e v)) && not (twice (made-by e v))
 
+-- ---- 9: K of a class declared or reserved; a super or stated class that is neither
+
+unfoldable pub classes-right : Line → Seen → Bool
+classes-right e v =
+    if-K e then (λ c s. not (is-known (v .super) c) && is-known (v .super) s)
+    else if-O e then (λ t h c. is-known (v .super) c)
+    else true
+
+-- ---- 10: O on a handle not alive
+
+unfoldable pub names-alive : Line → Seen → Bool
+names-alive e v = if-O e then (λ t h c. handle-alive t h v) else true
+
 -- ---- 7: after it the alive handles, the outstanding buffers, or a thread's items or frames would exceed room
 
 -- the rows lent
@@ -79,9 +93,15 @@ has-item-room e n =
 
 -- ---- tested in this order; 0 for a line that is accepted
 
-abbrev pub first-refusal : Bool → Bool → Bool → Bool → ℕ
-first-refusal step env anew room =
-    if not step then 4 else if not env then 5 else if not anew then 6 else if not room then 7 else 0
+abbrev pub first-refusal : Bool → Bool → Bool → Bool → Bool → Bool → ℕ
+first-refusal step env anew classes alive room =
+    if not step then 4
+    else if not env then 5
+    else if not anew then 6
+    else if not classes then 9
+    else if not alive then 10
+    else if not room then 7
+    else 0
 
 unfoldable pub refusal : Room → Line → History → ℕ
 refusal room e past =
@@ -89,4 +109,6 @@ refusal room e past =
     (in-step e (top-of (items (thread-of e) past)) (closed past))
     (env-right e (seen past))
     (makes-anew e (seen past))
+    (classes-right e (seen past))
+    (names-alive e (seen past))
     (has-room room (thread-of e) (seen (e ∷ past)) && has-item-room e (length (items (thread-of e) past)))

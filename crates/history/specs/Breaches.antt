@@ -9,50 +9,47 @@ use Rattle.words.specs.Choice.{if_then_else_}
 use Rattle.facts.specs.Table.{fact-of, is-allowed-pending, is-allowed-critical}
 use Rattle.facts.specs.Named.{PopLocalFrame, MonitorExit}
 use Rattle.facts.specs.Results.{is-local-result, is-handle-place, is-buffer-place}
+use Rattle.facts.specs.Classes.{no-class, class-a, class-b}
 use Rattle.facts.specs.declared.Place.{Place}
 use Rattle.facts.specs.declared.Place.the-variants as Place
 use Rattle.lines.specs.Line.{Line, if-X_then_else_, if-C_then_else_, if-R_then_else_, if-Z_then_else_, kind, above-zero}
 use Rattle.history.specs.Past.{thread-of}
 use Rattle.history.specs.Frames.{top-pushed}
-use Rattle.history.specs.Handles.{is-local, is-shared, in-frame, global-or-weak}
+use Rattle.history.specs.Handles.{in-frame, global-or-weak}
 use Rattle.history.specs.Buffers.{pin, same-pin, critical-of}
-use Rattle.history.specs.Seen.{Seen, is-alive, is-outstanding}
+use Rattle.history.specs.Classes.{class-fits}
+use Rattle.history.specs.Seen.{Seen, is-outstanding, handle-alive}
 use Rattle.history.specs.Acceptance.{everything}
 
 abbrev pub when : Bool → ℕ → Option ℕ
 when true n = some n
 when false n = none
 
--- ---- the places a b c: the rule that a value breaks, the first that fits; `there` tells whether what it names is alive or outstanding
+-- ---- the places a b c: the rule that a value breaks, the first that fits; `there` tells whether what it names is alive or outstanding, `fits`
+-- whether its stated class is right there
 
--- wrong kind: 4; local not alive in this thread: 11; global or weak not alive: 10
-unfoldable pub handle-rule : ℕ → Bool → Option ℕ
-handle-rule h there =
+-- wrong kind: 4; local not alive in this thread: 11; global or weak not alive: 10; a live handle of a wrong class: 4
+unfoldable pub handle-rule : ℕ → Bool → Bool → Option ℕ
+handle-rule h there fits =
     if eqb (kind h) 0 then some 4
-    else if eqb (kind h) 1 then when (not there) 11
-    else when (not there) 10
+    else if there then when (not fits) 4
+    else if eqb (kind h) 1 then some 11
+    else some 10
 
 -- another kind under l g w: 4
-unfoldable pub kind-rule : ℕ → ℕ → Bool → Option ℕ
-kind-rule k h there = if eqb h 0 then none else if eqb (kind h) k then handle-rule h there else some 4
+unfoldable pub kind-rule : ℕ → ℕ → Bool → Bool → Option ℕ
+kind-rule k h there fits = if eqb h 0 then none else if eqb (kind h) k then handle-rule h there fits else some 4
 
 -- null where r, i or b stands: 7; buffer not outstanding in its family (and thread, if critical): 8
-unfoldable pub place-rule : Place → ℕ → Bool → Option ℕ
-place-rule Place.Unused h there = none
-place-rule Place.Handle h there = if eqb h 0 then some 7 else handle-rule h there
-place-rule Place.HandleOrNull h there = if eqb h 0 then none else handle-rule h there
-place-rule Place.LocalOrNull h there = kind-rule 1 h there
-place-rule Place.GlobalOrNull h there = kind-rule 2 h there
-place-rule Place.WeakOrNull h there = kind-rule 3 h there
-place-rule Place.Identity h there = if eqb h 0 then some 7 else when (not (eqb (kind h) 0)) 4
-place-rule Place.Buffer h there = if eqb h 0 then some 7 else when (not there) 8
-
--- a local in this thread; null and identities are no handles
-unfoldable pub handle-alive : ℕ → ℕ → Seen → Bool
-handle-alive t h v =
-    if eqb (kind h) 0 then false
-    else if eqb (kind h) 1 then is-alive (is-local t h) v
-    else is-alive (is-shared h) v
+unfoldable pub place-rule : Place → ℕ → Bool → Bool → Option ℕ
+place-rule Place.Unused h there fits = none
+place-rule Place.Handle h there fits = if eqb h 0 then some 7 else handle-rule h there fits
+place-rule Place.HandleOrNull h there fits = if eqb h 0 then none else handle-rule h there fits
+place-rule Place.LocalOrNull h there fits = kind-rule 1 h there fits
+place-rule Place.GlobalOrNull h there fits = kind-rule 2 h there fits
+place-rule Place.WeakOrNull h there fits = kind-rule 3 h there fits
+place-rule Place.Identity h there fits = if eqb h 0 then some 7 else when (not (eqb (kind h) 0)) 4
+place-rule Place.Buffer h there fits = if eqb h 0 then some 7 else when (not there) 8
 
 -- the value at a place of function f, called by thread t
 unfoldable pub is-there : Place → ℕ → ℕ → ℕ → Seen → Bool
@@ -61,8 +58,13 @@ is-there p t f h v =
     else if is-buffer-place p then is-outstanding (same-pin (pin t f h)) v
     else false
 
-abbrev pub rule-here : Place → ℕ → ℕ → ℕ → Seen → Option ℕ
-rule-here p t f h v = place-rule p h (is-there p t f h v)
+-- where a class is fixed: what is stated of the handle is that class, or below it, or nothing
+abbrev pub fits-here : ℕ → ℕ → ℕ → Seen → Bool
+fits-here fixed t h v = class-fits (v .super) fixed (v .class t h)
+
+-- where class `fixed` is fixed, or none
+abbrev pub rule-here : ℕ → Place → ℕ → ℕ → ℕ → Seen → Option ℕ
+rule-here fixed p t f h v = place-rule p h (is-there p t f h v) (fits-here fixed t h v)
 
 -- places 1 to 3 are a b c; X's result is place 1 of kind `o`
 abbrev pub place-at : Line → ℕ → Place
@@ -76,6 +78,11 @@ place-at e p =
     else Place.Unused)
     else Place.Unused
 
+-- the class fixed for the place
+abbrev pub class-at : Line → ℕ → ℕ
+class-at e p =
+    if-C e then (λ t env f a b c n. if eqb p 1 then class-a f else if eqb p 2 then class-b f else no-class) else no-class
+
 abbrev pub value-at : Line → ℕ → ℕ
 value-at e p =
     if-X e then (λ t r. r)
@@ -86,7 +93,7 @@ abbrev pub function-of : Line → ℕ
 function-of e = if-C e then (λ t env f a b c n. f) else 0
 
 unfoldable pub rule-at : Line → Seen → ℕ → Option ℕ
-rule-at e v p = rule-here (place-at e p) (thread-of e) (function-of e) (value-at e p) v
+rule-at e v p = rule-here (class-at e p) (place-at e p) (thread-of e) (function-of e) (value-at e p) v
 
 -- ---- place 0: the whole line breaks the rule, with what thing
 

@@ -8,6 +8,8 @@ pub mod Capacities
 pub mod Buffers
 pub mod Thread
 pub mod Lives
+pub mod Below
+pub mod Stated
 pub mod Paper
 pub mod Order
 -- from a start: refusal by refusal-is, heard-accepted
@@ -21,6 +23,10 @@ pub mod Sentences
 pub mod Kinds
 pub mod Leaks
 -- believed of any tables
+-- from a start: super-of, leads by leads-are
+pub mod Classes
+-- from a start: class-stated by class-is
+pub mod Statements
 -- from a start: seen by told-all
 pub mod Seen
 pub mod Breaches

@@ -1,5 +1,5 @@
 -- Alive in the words of document 01: an earlier line made it and no line since has ended it. Assumes nothing.
-use Prim.Native.Nat.{ℕ, suc, _<_}
+use Prim.Native.Nat.{ℕ, suc, _≤_, _<_}
 use mathlib.Core.Path.{_≡_}
 use mathlib.Core.Logic.{_≢_}
 use mathlib.Core.List.{List, [], _∷_, _++_, List·Memᴰ}
@@ -56,3 +56,8 @@ pub record Lives (x : Alive) (past : History) : Type 0 where
 pub record Local-lives (t h : ℕ) (past : History) : Type 0 where
   pub frame : ℕ
   pub lives : Lives (local t frame h) past
+
+-- handle v of thread t: a local of its own, a global or weak
+pub data Means (t : ℕ) : ℕ → Alive → Type 0 where
+  its-local : (d v : ℕ) → kind v ≡ 1 → Means t v (local t d v)
+  a-shared : (v : ℕ) → 2 ≤ kind v → Means t v (shared v)

@@ -1,4 +1,4 @@
--- The breaches in the words of document 01, a constructor for each of its sentences. Assumes nothing.
+-- The breaches in the words of documents 01 and 02, a constructor for each of their sentences. Assumes nothing.
 use Prim.Native.Nat.{ℕ, _≤_, _<_}
 use mathlib.Core.Path.{_≡_}
 use mathlib.Core.Logic.{_⊎_, _≢_}
@@ -9,17 +9,20 @@ use lib.ListN.{length}
 use Rattle.words.specs.Lists.{count, sum}
 use Rattle.facts.specs.Table.{fact-of, is-allowed-pending}
 use Rattle.facts.specs.Named.{PopLocalFrame, MonitorExit}
+use Rattle.facts.specs.Classes.{no-class, class-a, class-b}
 use Rattle.facts.specs.declared.Place.{Place}
 use Rattle.facts.specs.declared.Place.the-variants as Place
 use Rattle.facts.specs.declared.Result.the-variants as Result
 use Rattle.lines.specs.Line.{Line, X, C, R, Z, kind}
 use Rattle.history.specs.Past.{History}
 use Rattle.history.specs.Frames.{frames, depth, top-pushed}
-use Rattle.history.specs.Handles.{living, alive-in, global-or-weak, shared}
+use Rattle.history.specs.Handles.{Alive, living, alive-in, global-or-weak, shared}
 use Rattle.history.specs.Capacities.{capacities}
 use Rattle.history.specs.Buffers.{Pin, pin, critical, outstanding}
 use Rattle.history.specs.Thread.{all-threads, pending, monitors, env-of}
-use Rattle.history.specs.Lives.{Lives, Local-lives}
+use Rattle.history.specs.Lives.{Lives, Local-lives, Means}
+use Rattle.history.specs.Below.{At-or-below}
+use Rattle.history.specs.Stated.{Stated}
 
 -- ---- what is outstanding
 
@@ -57,30 +60,42 @@ pub data Wrong-kind : Place → ℕ → Type 0 where
   -- another kind under l g w
   other-kind : (p : Place) (k v : ℕ) → Wants p k → kind v ≢ k → Wrong-kind p v
 
--- the value v at a place, of function f called by thread t, breaks the rule: the first that fits
-pub data Wrong (past : History) (t f : ℕ) : Place → ℕ → ℕ → Type 0 where
+-- thread t names a live handle by v, and its stated class is not the fixed class or below it
+pub record Of-other-class (past : History) (t v fixed : ℕ) : Type 0 where
+  pub handle : Alive
+  pub named : Means t v handle
+  pub lives : Lives handle past
+  pub class : ℕ
+  pub stated : Stated handle class past
+  pub some-fixed : fixed ≢ no-class
+  pub not-below : ¬ At-or-below past class fixed
+
+-- the value v at a place of which class `fixed` is fixed, or none, of function f called by thread t, breaks the rule: the first that fits
+pub data Wrong (past : History) (t f fixed : ℕ) : Place → ℕ → ℕ → Type 0 where
   -- null where r, i or b stands: rule 7
-  null-handle : Wrong past t f Place.Handle 0 7
-  null-identity : Wrong past t f Place.Identity 0 7
-  null-buffer : Wrong past t f Place.Buffer 0 7
+  null-handle : Wrong past t f fixed Place.Handle 0 7
+  null-identity : Wrong past t f fixed Place.Identity 0 7
+  null-buffer : Wrong past t f fixed Place.Buffer 0 7
   -- wrong kind: rule 4
-  wrong-kind : (p : Place) (v : ℕ) → v ≢ 0 → Wrong-kind p v → Wrong past t f p v 4
+  wrong-kind : (p : Place) (v : ℕ) → v ≢ 0 → Wrong-kind p v → Wrong past t f fixed p v 4
   -- local not alive in this thread: 11
-  dead-local : (p : Place) (v : ℕ) → Handle-place p → ¬ Wrong-kind p v → kind v ≡ 1 → ¬ Local-lives t v past → Wrong past t f p v 11
+  dead-local : (p : Place) (v : ℕ) → Handle-place p → ¬ Wrong-kind p v → kind v ≡ 1 → ¬ Local-lives t v past → Wrong past t f fixed p v 11
   -- global or weak not alive: 10
-  dead-shared : (p : Place) (v : ℕ) → Handle-place p → ¬ Wrong-kind p v → 2 ≤ kind v → ¬ Lives (shared v) past → Wrong past t f p v 10
+  dead-shared : (p : Place) (v : ℕ) → Handle-place p → ¬ Wrong-kind p v → 2 ≤ kind v → ¬ Lives (shared v) past → Wrong past t f fixed p v 10
+  -- a live handle whose stated class is not the fixed class or below it: 4
+  other-class : (p : Place) (v : ℕ) → Handle-place p → ¬ Wrong-kind p v → Of-other-class past t v fixed → Wrong past t f fixed p v 4
   -- buffer not outstanding in its family (and thread, if critical): 8
-  not-outstanding : (v : ℕ) → v ≢ 0 → ¬ Outstanding (pin t f v) past → Wrong past t f Place.Buffer v 8
+  not-outstanding : (v : ℕ) → v ≢ 0 → ¬ Outstanding (pin t f v) past → Wrong past t f fixed Place.Buffer v 8
 
 -- ---- a line that comes after `past`: the rule that it breaks, the place, the thing
 
 pub data Broken (past : History) : Line → ℕ → ℕ → ℕ → Type 0 where
   -- 1 to 3 are the places a b c, and thing is its value
-  at-a : (t env f a b c rule : ℕ) (n : ℤ) → Wrong past t f (fact-of f .a) a rule → Broken past (C t env f a b c n) rule 1 a
-  at-b : (t env f a b c rule : ℕ) (n : ℤ) → Wrong past t f (fact-of f .b) b rule → Broken past (C t env f a b c n) rule 2 b
-  at-c : (t env f a b c rule : ℕ) (n : ℤ) → Wrong past t f (fact-of f .c) c rule → Broken past (C t env f a b c n) rule 3 c
+  at-a : (t env f a b c rule : ℕ) (n : ℤ) → Wrong past t f (class-a f) (fact-of f .a) a rule → Broken past (C t env f a b c n) rule 1 a
+  at-b : (t env f a b c rule : ℕ) (n : ℤ) → Wrong past t f (class-b f) (fact-of f .b) b rule → Broken past (C t env f a b c n) rule 2 b
+  at-c : (t env f a b c rule : ℕ) (n : ℤ) → Wrong past t f no-class (fact-of f .c) c rule → Broken past (C t env f a b c n) rule 3 c
   -- X's result is place 1 of kind `o`
-  at-result : (t v rule : ℕ) → Wrong past t 0 Place.HandleOrNull v rule → Broken past (X t v) rule 1 v
+  at-result : (t v rule : ℕ) → Wrong past t 0 no-class Place.HandleOrNull v rule → Broken past (X t v) rule 1 v
   -- on C: rule 1 when env is not the thread's (thing is the env)
   other-env : (t env f a b c : ℕ) (n : ℤ) → env ≢ env-of t past → Broken past (C t env f a b c n) 1 0 env
   -- 2 when pending and not allowed

@@ -4,12 +4,12 @@ use mathlib.Core.Bool.{Bool, true, false}
 use mathlib.Core.List.{List, [], _∷_}
 use lib.Dec.{eqb}
 use Rattle.words.specs.Choice.{if_then_else_}
-use Rattle.lines.specs.Line.{Line, if-N_then_else_, if-X_then_else_, if-C_then_else_, if-R_then_else_, if-Z_then_else_}
+use Rattle.lines.specs.Line.{Line, if-N_then_else_, if-X_then_else_, if-C_then_else_, if-R_then_else_, if-Z_then_else_, if-states_then_else_}
 
 abbrev pub History : Type 0
 History = List Line
 
--- the thread of a line; Z is of none
+-- the thread whose open items a line is of; Z and statements are of none
 abbrev pub thread-of : Line → ℕ
 thread-of e =
     if-N e then (λ t env hs. t)
@@ -19,7 +19,7 @@ thread-of e =
     else 0
 
 abbrev pub is-of : ℕ → Line → Bool
-is-of t e = if-Z e then false else eqb t (thread-of e)
+is-of t e = if-Z e then false else if-states e then false else eqb t (thread-of e)
 
 -- what the lines of thread t make of `x`, one after another
 unfoldable pub through {ℓ} : {A : Type ℓ} → (Line → A → A) → A → ℕ → History → A

@@ -1,19 +1,20 @@
--- The numbers 4 to 7 given instead of an event, in the words of document 01. Assumes nothing.
+-- The numbers 4 to 7, 9 and 10 given instead of an event, in the words of documents 01 and 02. Assumes nothing.
 use Prim.Native.Nat.{ℕ, _<_}
 use mathlib.Core.Path.{_≡_}
 use mathlib.Core.Logic.{_≢_}
 use mathlib.Core.List.{List, [], _∷_, List·Memᴰ}
 use lib.IntN.{ℤ}
 use lib.ListN.{length}
-use Rattle.lines.specs.Line.{Line, N, X, C, R, Z}
+use Rattle.lines.specs.Line.{Line, Statement, N, X, C, R, Z, states, K, O}
 use Rattle.history.specs.Past.{History}
 use Rattle.history.specs.Items.{Item, in-native, in-call, items}
 use Rattle.history.specs.Frames.{depth}
-use Rattle.history.specs.Handles.{local, shared, living}
+use Rattle.history.specs.Handles.{Alive, local, shared, living}
 use Rattle.history.specs.Buffers.{outstanding}
 use Rattle.history.specs.Thread.{all-threads, env-of}
 use Rattle.history.specs.Acceptance.{Room}
-use Rattle.history.specs.Lives.{Makes, Lives, Local-lives}
+use Rattle.history.specs.Lives.{Makes, Lives, Local-lives, Means}
+use Rattle.history.specs.Below.{Known}
 
 -- ---- step order
 
@@ -29,6 +30,8 @@ pub data In-turn (past : History) : Line → Type 0 where
   call-returns : (t f n p : ℕ) (r : ℤ) (below : List Item) → items t past ≡ in-call f n ∷ below → In-turn past (R t f r p)
   -- Z may come with items open
   run-ends : In-turn past Z
+  -- K and O are in step anywhere before Z
+  anywhere : (s : Statement) → In-turn past (states s)
 
 pub record In-step (past : History) (e : Line) : Type 0 where
   -- nothing is allowed after Z
@@ -55,6 +58,18 @@ pub data Made-again (past : History) : Line → Type 0 where
   shared-again : (e : Line) (h : ℕ) → Makes past e (shared h) → Lives (shared h) past → Made-again past e
   named-twice : (t env : ℕ) (hs : List ℕ) → Twice hs → Made-again past (N t env hs)
 
+-- ---- K of a class declared or reserved; a super or stated class that is neither
+
+pub data Wrong-class (past : History) : Line → Type 0 where
+  known-already : (c s : ℕ) → Known past c → Wrong-class past (states (K c s))
+  super-unknown : (c s : ℕ) → ¬ Known past s → Wrong-class past (states (K c s))
+  class-unknown : (t h c : ℕ) → ¬ Known past c → Wrong-class past (states (O t h c))
+
+-- ---- O on a handle not alive: a local in this thread, a global or weak for any
+
+pub data Names-dead (past : History) : Line → Type 0 where
+  not-alive : (t h c : ℕ) → ((x : Alive) → Means t h x → ¬ Lives x past) → Names-dead past (states (O t h c))
+
 -- ---- the alive handles, the outstanding buffers, or a thread's items or frames exceed room
 
 pub data Exceeds (room : Room) (past : History) : Type 0 where
@@ -73,6 +88,12 @@ pub data Given (room : Room) (past : History) (e : Line) : ℕ → Type 0 where
   five : In-step past e → Wrong-env past e → Given room past e 5
   -- it makes a handle already alive (a local: in that thread), or N names one twice
   six : In-step past e → ¬ Wrong-env past e → Made-again past e → Given room past e 6
+  -- K of a class declared or reserved, a super or stated class that is neither
+  nine : In-step past e → ¬ Wrong-env past e → ¬ Made-again past e → Wrong-class past e → Given room past e 9
+  -- O on a handle not alive
+  ten : In-step past e → ¬ Wrong-env past e → ¬ Made-again past e → ¬ Wrong-class past e → Names-dead past e → Given room past e 10
   -- after it the alive handles, the outstanding buffers, or a thread's items or frames would exceed room
-  seven : In-step past e → ¬ Wrong-env past e → ¬ Made-again past e → Exceeds room (e ∷ past) → Given room past e 7
-  none : In-step past e → ¬ Wrong-env past e → ¬ Made-again past e → ¬ Exceeds room (e ∷ past) → Given room past e 0
+  seven : In-step past e → ¬ Wrong-env past e → ¬ Made-again past e → ¬ Wrong-class past e → ¬ Names-dead past e → Exceeds room (e ∷ past)
+      → Given room past e 7
+  none : In-step past e → ¬ Wrong-env past e → ¬ Made-again past e → ¬ Wrong-class past e → ¬ Names-dead past e → ¬ Exceeds room (e ∷ past)
+      → Given room past e 0

@@ -1,12 +1,16 @@
 -- All that a judgement of the next line looks at, but the open items. Assumes nothing.
 use Prim.Native.Nat.{ℕ}
-use mathlib.Core.Bool.{Bool}
+use mathlib.Core.Bool.{Bool, false}
 use mathlib.Core.List.{List}
-use lib.Dec.{ltb}
-use Rattle.words.specs.Lists.{count, sum}
+use lib.Dec.{eqb, ltb}
+use Rattle.words.specs.Choice.{if_then_else_}
+use Rattle.words.specs.Lists.{count, sum, of-first}
+use Rattle.lines.specs.Line.{kind}
 use Rattle.history.specs.Past.{History, closed}
 use Rattle.history.specs.Frames.{Frame, frames}
-use Rattle.history.specs.Handles.{Alive, living}
+use Rattle.history.specs.Handles.{Alive, is-local, is-shared, living}
+use Rattle.history.specs.Statements.{names, class-stated}
+use Rattle.history.specs.Classes.{super-of}
 use Rattle.history.specs.Capacities.{capacities}
 use Rattle.history.specs.Buffers.{Pin, outstanding}
 use Rattle.history.specs.Thread.{all-threads, pending, monitors, env-of}
@@ -23,6 +27,10 @@ pub record Seen : Type 0 where
   -- how many handles alive, and how many buffers outstanding, pass a test
   pub handles : (Alive → Bool) → ℕ
   pub buffers : (Pin → Bool) → ℕ
+  -- the class stated of the handle alive that a thread names so, 0 where none is
+  pub class : ℕ → ℕ → ℕ
+  -- the super declared of a class, 0 where none is
+  pub super : ℕ → ℕ
   -- Z was one of the lines
   pub closed : Bool
 
@@ -37,6 +45,8 @@ seen past =
       all-monitors = sum (λ t. monitors t past) all-threads;
       handles = λ test. count test (living past);
       buffers = λ test. count test (outstanding past);
+      class = λ t h. of-first (names t h) (class-stated past) (living past);
+      super = super-of past;
       closed = closed past;
     }
 
@@ -46,3 +56,10 @@ is-alive test v = ltb 0 (v .handles test)
 
 abbrev pub is-outstanding : (Pin → Bool) → Seen → Bool
 is-outstanding test v = ltb 0 (v .buffers test)
+
+-- a local in this thread; null and identities are no handles
+unfoldable pub handle-alive : ℕ → ℕ → Seen → Bool
+handle-alive t h v =
+    if eqb (kind h) 0 then false
+    else if eqb (kind h) 1 then is-alive (is-local t h) v
+    else is-alive (is-shared h) v

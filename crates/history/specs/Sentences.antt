@@ -11,11 +11,12 @@ use lib.ListN.{length}
 use Rattle.words.specs.Lists.{any, keep, count, joined}
 use Rattle.words.specs.Text.{bytes, line-feed}
 use Rattle.facts.specs.Table.{_/_, fact-of, is-function, families, family, is-critical}
-use Rattle.facts.specs.Named.{PushLocalFrame, PopLocalFrame, DeleteGlobalRef, DeleteLocalRef, EnsureLocalCapacity, MonitorEnter, MonitorExit, DeleteWeakGlobalRef}
+use Rattle.facts.specs.Classes.{object, class, string, throwable, no-class}
+use Rattle.facts.specs.Named.{PushLocalFrame, PopLocalFrame, DeleteGlobalRef, DeleteLocalRef, EnsureLocalCapacity, GetObjectClass, MonitorEnter, MonitorExit, DeleteWeakGlobalRef}
 use Rattle.facts.specs.Results.{is-buffer-result, is-buffer-place}
-use Rattle.lines.specs.Line.{Line, N, X, C, R, Z, kind, is-zero, above-zero}
+use Rattle.lines.specs.Line.{Line, Statement, N, X, C, R, Z, states, K, O, kind, is-zero, above-zero}
 use Rattle.lines.specs.Reading.{Read, says, refused, read}
-use Rattle.history.specs.Past.{History, is-of}
+use Rattle.history.specs.Past.{History, is-of, closed}
 use Rattle.history.specs.Items.{in-native, in-call, items}
 use Rattle.history.specs.Frames.{Frame, entered, pushed, frames, depth}
 use Rattle.history.specs.Handles.{Alive, local, shared, is-local, is-shared, same-handle, global-or-weak, living, alive-in}
@@ -29,7 +30,11 @@ use Rattle.history.specs.Findings.{of-line, findings}
 use Rattle.history.specs.Replies.{verdict, accepted, not-accepted, reply, heard}
 use Rattle.history.specs.Report.{Run, last-field, end-word, run, lines-of, shown}
 use Rattle.history.specs.declared.Finding.{Finding}
-use Rattle.history.specs.Lives.{Lives, Local-lives}
+use Rattle.history.specs.Lives.{Makes, Lives, Local-lives, Means}
+use Rattle.history.specs.Classes.{super-of, is-known, leads, most-looks}
+use Rattle.history.specs.Below.{Known, Super, Below, At-or-below}
+use Rattle.history.specs.Statements.{class-by, class-stated}
+use Rattle.history.specs.Stated.{States, Stated}
 use Rattle.history.specs.Kinds.{of-kind}
 use Rattle.history.specs.Paper.{Broken}
 use Rattle.history.specs.Order.{Breached, Ordered, most-findings}
@@ -48,10 +53,11 @@ use Rattle.history.specs.Families.{is-get, is-release}
 use Rattle.history.specs.Bounds.{Bounded}
 
 pub record On-breaches : Type 0 where
-  -- what is computed of a line is what document 01 says of it, and nothing besides, after every history
-  pub breaches-are : (past : History) (e : Line) (rule place thing : ℕ) → (breach e (seen past) rule place ≡ some thing) ↔ Broken past e rule place thing
+  -- what is computed of a line is what documents 01 and 02 say of it, and nothing besides, after accepted lines
+  pub breaches-are : (room : Room) (past : History) → Accepted room past → (e : Line) (rule place thing : ℕ)
+      → (breach e (seen past) rule place ≡ some thing) ↔ Broken past e rule place thing
   -- the findings are all the breaches of the accepted lines, and nothing besides
-  pub findings-are : (past : History) (f : Finding) → List·Memᴰ f (findings past) ↔ Breached f past
+  pub findings-are : (room : Room) (past : History) → Accepted room past → (f : Finding) → List·Memᴰ f (findings past) ↔ Breached f past
   -- in order of line, rule and place
   pub findings-ordered : (past : History) → Ordered (findings past)
   -- each once
@@ -157,7 +163,7 @@ pub record On-lines : Type 0 where
       → capacities t (X t r ∷ (inside ++ (N t env hs ∷ past))) ≡ capacities t past
   pub nothing-of-it-lives : (t r env d h : ℕ) (hs : List ℕ) (inside past : History) → Whole t inside → 1 ≤ d
       → Lives (local t d h) (X t r ∷ (inside ++ (N t env hs ∷ past))) → Lives (local t d h) past
-  -- the lines of other threads change nothing of a thread
+  -- the lines of other threads, and K and O, change nothing of a thread
   pub other-threads : (t : ℕ) (e : Line) (past : History) → is-of t e ≡ false → Same-for t past (e ∷ past)
   -- a thread's env is that of its first N
   pub env-of-first : (t env : ℕ) (hs : List ℕ) (newer older : History) → env ≢ 0 → ((v : ℕ) (gs : List ℕ) → ¬ List·Memᴰ (N t v gs) older)
@@ -167,12 +173,44 @@ pub record On-lines : Type 0 where
   -- no two threads share one
   pub envs-apart : (room : Room) (past : History) → Accepted room past → (s t : ℕ) → s ≢ t → env-of s past ≢ 0 → env-of s past ≢ env-of t past
 
+-- classes, and what is stated of handles
+pub record On-classes : Type 0 where
+  -- class numbers 1, 2, 3 and 4 are reserved for object, class, string and throwable; function 31 gives a class
+  pub reserved-classes : (object ≡ 1) × (class ≡ 2) × (string ≡ 3) × (throwable ≡ 4) × (GetObjectClass ≡ 31)
+  -- a class declared or reserved
+  pub known-are : (room : Room) (past : History) → Accepted room past → (c : ℕ) → (is-known (super-of past) c ≡ true) ↔ Known past c
+  -- a class is below another when a chain of supers leads there: the test, of at most 4,096 looks, finds every chain
+  pub leads-are : (room : Room) (past : History) → Accepted room past → (c k : ℕ) → k ≢ no-class → (leads (super-of past) most-looks c k ≡ true) ↔ At-or-below past c k
+  -- a class has one super
+  pub one-super : (room : Room) (past : History) → Accepted room past → (c s u : ℕ) → Super past c s → Super past c u → s ≡ u
+  -- declared classes never go round
+  pub never-round : (room : Room) (past : History) → Accepted room past → (c : ℕ) → ¬ Below past c c
+  -- the stated class of a handle: the last one counts
+  pub class-is : (past : History) (x : Alive) (c : ℕ) → c ≢ no-class → (class-stated past x ≡ c) ↔ Stated x c past
+  pub state-class : (t h c : ℕ) (x : Alive) (past : History) → Means t h x → class-stated (states (O t h c) ∷ past) x ≡ c
+  -- a handle made, or made again, has none, but for function 31's result: copies inherit none
+  pub made-class : (past : History) (e : Line) (x : Alive) → Makes past e x → class-stated (e ∷ past) x ≡ class-by e
+  -- no other line changes it
+  pub class-kept : (past : History) (e : Line) (x : Alive) → ((c : ℕ) → ¬ States e x c) → ((y : Alive) → Makes past e y → same-handle x y ≡ false)
+      → class-stated (e ∷ past) x ≡ class-stated past x
+  -- of what is not alive nothing is stated: the statement ends with the handle
+  pub class-ended : (past : History) (t h : ℕ) → ((x : Alive) → Means t h x → ¬ Lives x past) → seen past .class t h ≡ no-class
+  -- it is what a judgement of the next line sees, of a handle alive
+  pub class-named : (past : History) (t h : ℕ) (x : Alive) → Means t h x → Lives x past → seen past .class t h ≡ class-stated past x
+  -- K states nothing of a handle, and O declares nothing
+  pub declares-alone : (c s : ℕ) (x : Alive) (past : History) → class-stated (states (K c s) ∷ past) x ≡ class-stated past x
+  pub states-alone : (t h c d : ℕ) (past : History) → super-of (states (O t h c) ∷ past) d ≡ super-of past d
+  -- and they change nothing else: no item, frame, capacity, pending, monitor, env, no handle alive and no buffer outstanding
+  pub nothing-else : (s : Statement) (past : History) → ((t : ℕ) → Same-for t past (states s ∷ past)) × (living (states s ∷ past) ≡ living past)
+      × (outstanding (states s ∷ past) ≡ outstanding past) × (closed (states s ∷ past) ≡ closed past)
+
 pub record On-refusals : Type 0 where
-  -- a line after accepted lines is given exactly the number that document 01 says, or none
+  -- a line after accepted lines is given exactly the number that documents 01 and 02 say, or none
   pub refusal-is : (room : Room) (e : Line) (past : History) → Accepted room past → (n : ℕ) → (refusal room e past ≡ n) ↔ Given room past e n
-  -- 7 exactly when 4, 5 and 6 are not given and the history with the line exceeds room: handles that have ended never count
+  -- 7 exactly when 4, 5, 6, 9 and 10 are not given and the history with the line exceeds room: handles that have ended never count
   pub seven-is-room : (room : Room) (e : Line) (past : History) → Accepted room past
-      → (refusal room e past ≡ 7) ↔ ((refusal room e past ≢ 4) × (refusal room e past ≢ 5) × (refusal room e past ≢ 6) × Exceeds room (e ∷ past))
+      → (refusal room e past ≡ 7)
+      ↔ ((refusal room e past ≢ 4) × (refusal room e past ≢ 5) × (refusal room e past ≢ 6) × (refusal room e past ≢ 9) × (refusal room e past ≢ 10) × Exceeds room (e ∷ past))
   pub within-room : (room : Room) (past : History) → Accepted room past → ¬ Exceeds room past
   -- from a start refusal 8 never comes
   pub never-eight : (room : Room) (past : History) → Accepted room past → (t : ℕ) → Bounded t past
@@ -196,7 +234,7 @@ pub record On-input : Type 0 where
   pub lines-cut : (input : List ℕ) → Cut (lines-of input)
 
 pub record On-replies : Type 0 where
-  -- a lent line after accepted lines is what document 01 says, in its order: line 1,000,001 is 1 whatever it holds; 1, 2 and 3 come before 4
+  -- a lent line after accepted lines is what documents 01 and 02 say, in their order: line 1,000,001 is 1 whatever it holds; 1, 2 and 3 come before 4
   pub verdict-is : (room : Room) (past : History) (bs : List ℕ) → Accepted room past → (x : Read) → (verdict room past bs ≡ x) ↔ Weighs room past bs x
   -- after Z everything that reads is 4
   pub after-Z : (room : Room) (past : History) (bs : List ℕ) (e : Line) → Accepted room past → List·Memᴰ Z past → length past < 1000000 → read bs ≡ says e
@@ -206,7 +244,7 @@ pub record On-replies : Type 0 where
   -- a refused line changes nothing
   pub refusal-changes-nothing : (room : Room) (before : List (List ℕ)) (bs : List ℕ) (k : ℕ) → reply room (heard room before) bs ≡ not-accepted k
       → heard room (bs ∷ before) ≡ heard room before
-  pub refused-number : (room : Room) (calls : List (List ℕ)) (bs : List ℕ) (k : ℕ) → reply room (heard room calls) bs ≡ not-accepted k → (1 ≤ k) × (k ≤ 7)
+  pub refused-number : (room : Room) (calls : List (List ℕ)) (bs : List ℕ) (k : ℕ) → reply room (heard room calls) bs ≡ not-accepted k → (1 ≤ k) × (k ≤ 10) × (k ≢ 8)
   -- the findings replied to all calls are those of the lines heard
   pub told-all : (room : Room) (calls : List (List ℕ)) → told room calls ≡ findings (heard room calls)
   -- a whole run is what the replies to its lines make of it
@@ -228,6 +266,8 @@ pub record Shut-out : Type 0 where
   pub not-one-reply : (room : Room) → reply room (heard room (line "Z" ∷ [])) (line "Z") ≡ not-accepted 4
   -- a line of each letter is accepted
   pub each-letter : (room : Room) → Accepted room (Z ∷ X 1 0 ∷ R 1 6 (pos 0) 0 ∷ C 1 100 6 0 0 0 (pos 0) ∷ N 1 100 [] ∷ [])
+  -- K and O too, where there is a row
+  pub statements-accepted : Accepted program-room (states (O 1 5 5) ∷ N 1 100 (5 ∷ []) ∷ states (K 5 1) ∷ [])
   -- one that works on the first line only: after the same first line the reply to the same later bytes differs
   pub not-first-only : (reply program-room (heard program-room (line "R 1 4 0 0" ∷ line "C 1 100 4 0 0 0 0" ∷ line "N 1 100 5" ∷ [])) (line "C 1 100 31 5 0 0 0")
       ≡ accepted [])

@@ -9,7 +9,7 @@ use Rattle.history.specs.Past.{History, is-of}
 
 pub data Whole (t : ℕ) : History → Type 0 where
   nothing-yet : Whole t []
-  -- lines of other threads, and Z, may stand between
+  -- lines of other threads, Z, K and O may stand between
   another : (e : Line) (before : History) → is-of t e ≡ false → Whole t before → Whole t (e ∷ before)
   -- an N and its X, with whole calls inside
   native-call : (env r : ℕ) (hs : List ℕ) (inside before : History) → Whole t inside → Whole t before
