@@ -5,12 +5,13 @@
 
 enum { REFERENCE_ROWS = 2048, PIN_ROWS = 256, WORD = 64, LINE = 129 };
 
-static uint32_t rows[REFERENCE_ROWS * WEIR_ROW], pins[PIN_ROWS * WEIR_ROW];
+static uint32_t rows[REFERENCE_ROWS * WEIR_REFERENCE], pins[PIN_ROWS * WEIR_PIN], classes[WEIR_CLASSES];
 static uint64_t marks[REFERENCE_ROWS / WORD], pin_marks[PIN_ROWS / WORD], book[WEIR_BOOK];
 static uint32_t leaks[(REFERENCE_ROWS + PIN_ROWS) * WEIR_LEAK];
 
 #define COUNT(slice) (sizeof(slice) / sizeof((slice)[0]))
 #define TABLES rows, COUNT(rows), marks, COUNT(marks), pins, COUNT(pins), pin_marks, COUNT(pin_marks), book, COUNT(book)
+#define CLASSES classes, COUNT(classes)
 
 /* The next line with its LF, or all that is left, or so much of it that it is too long: how many bytes. */
 static size_t next(uint8_t line[LINE])
@@ -33,9 +34,9 @@ int main(void)
     size_t length;
     int32_t refusal = 0, count;
 
-    weir_start(TABLES);
+    weir_start(TABLES, CLASSES);
     while (refusal == 0 && (length = next(line)) > 0) {
-        count = weir_step(line, length, TABLES, found, COUNT(found));
+        count = weir_step(line, length, TABLES, CLASSES, found, COUNT(found));
         if (count < 0) {
             refusal = -count;
             continue;

@@ -3,15 +3,18 @@
  * All that the judge knows of a trace stands in tables that the caller lends with each call, the same ones from a start on. It allocates nothing and
  * keeps nothing between calls, so several traces may be judged at once, each with tables of its own. Any contents are safe, and so is any length.
  *
- *   rows       reference rows, WEIR_ROW numbers each: thread (0 for a global or weak), handle, frame (0 likewise), the line that made it
- *   pins       pin rows, WEIR_ROW numbers each: thread (0 unless critical), family 0 to 11, buffer, the line that made it
+ *   rows       reference rows, WEIR_REFERENCE numbers each: thread (0 for a global or weak), handle, frame (0 likewise), the line that made it,
+ *              its stated class (0 where none is)
+ *   pins       pin rows, WEIR_PIN numbers each: thread (0 unless critical), family 0 to 11, buffer, the line that made it
  *   marks      one bit for each reference row, 64 to a word: it is used
  *   pin_marks  one bit for each pin row
  *   book       WEIR_BOOK numbers: the threads, and the count of lines. With fewer weir_step and weir_leaks give -8, and weir_judge 0
+ *   classes    WEIR_CLASSES numbers: that of class c, at classes[c - 1], is its super, 0 where no K declared it; those of the reserved classes 1 to 4
+ *              stay 0. With fewer weir_step gives -8, and weir_judge 0; weir_leaks does not need it
  *
  * There is room for as many handles, and buffers, as the lesser of rows and marks, at most 65,536. `./judge` lends 2,048 rows and 256 pins.
- * Every length is in numbers (rows, pins, found, leaks), words (marks, pin_marks, book) or bytes (line, trace, out). A pointer may be NULL only
- * where its length is 0, and no two of the slices overlap.
+ * Every length is in numbers (rows, pins, classes, found, leaks), words (marks, pin_marks, book) or bytes (line, trace, out). A pointer may be NULL
+ * only where its length is 0, and no two of the slices overlap.
  */
 #ifndef WEIR_JUDGE_H
 #define WEIR_JUDGE_H
@@ -23,9 +26,11 @@
 extern "C" {
 #endif
 
-/* Numbers to a row, and the numbers of a whole book. */
-#define WEIR_ROW 4
+/* Numbers to a reference row and to a pin row, and the numbers of a whole book and of a whole class table. */
+#define WEIR_REFERENCE 5
+#define WEIR_PIN 4
 #define WEIR_BOOK 4488
+#define WEIR_CLASSES 4095
 
 /* Numbers to a finding, and those of the most findings that a line has. */
 #define WEIR_FINDING 4
@@ -37,31 +42,33 @@ extern "C" {
 /* weir_step: `found` holds fewer than WEIR_FOUND numbers. */
 #define WEIR_SHORT_FOUND (-100)
 
-/* Clears all rows, marks and book. */
+/* Clears all rows, marks, book and class table. */
 void weir_start(uint32_t *rows, size_t rows_length, uint64_t *marks, size_t marks_length, uint32_t *pins, size_t pins_length,
-                uint64_t *pin_marks, size_t pin_marks_length, uint64_t *book, size_t book_length);
+                uint64_t *pin_marks, size_t pin_marks_length, uint64_t *book, size_t book_length, uint32_t *classes,
+                size_t classes_length);
 
 /* Judges one line, all its bytes with the LF. Returns how many findings it has, 0 to 6: they are left at the front of `found`, line, rule, place and
- * thing of each. Below 0 it is the refusal, -1 to -8 (docs/RULES.md), or WEIR_SHORT_FOUND, and nothing is changed.
+ * thing of each. Below 0 it is the refusal, -1 to -10 (docs/RULES.md), or WEIR_SHORT_FOUND, and nothing is changed.
  */
 int32_t weir_step(const uint8_t *line, size_t line_length, uint32_t *rows, size_t rows_length, uint64_t *marks, size_t marks_length,
                   uint32_t *pins, size_t pins_length, uint64_t *pin_marks, size_t pin_marks_length, uint64_t *book, size_t book_length,
-                  uint32_t *found, size_t found_length);
+                  uint32_t *classes, size_t classes_length, uint32_t *found, size_t found_length);
 
 /* Lists what is outstanding and alive after Z. Returns how many leaks there are: they are left at the front of `leaks`, rule, thread, value and making
- * line of each, ordered by making line, then rule and row; what is behind them stays. Below 0 nothing is written: -8 the book is not fit, -4 there was no Z yet, -7 there
- * are more leaks than `leaks` holds. WEIR_LEAK numbers for each row that is lent are always enough.
+ * line of each, ordered by making line, then rule and row; what is behind them stays. Below 0 nothing is written: -8 the book is not fit, -4 there
+ * was no Z yet, -7 there are more leaks than `leaks` holds. WEIR_LEAK numbers for each row that is lent are always enough.
  */
 int32_t weir_leaks(const uint32_t *rows, size_t rows_length, const uint64_t *marks, size_t marks_length, const uint32_t *pins,
                    size_t pins_length, const uint64_t *pin_marks, size_t pin_marks_length, const uint64_t *book, size_t book_length,
                    uint32_t *leaks, size_t leaks_length);
 
 /* Judges a whole trace from a start of its own. Returns how many bytes its report has; it stands at the front of `out` where that is no shorter, else
- * nothing is written there. 0: the book is short, and nothing was touched. The tables are left as the run left them, so weir_leaks may follow.
+ * nothing is written there. 0: the book or the class table is short, and nothing was touched. The tables are left as the run left them, so weir_leaks
+ * may follow.
  */
 size_t weir_judge(const uint8_t *trace, size_t trace_length, uint32_t *rows, size_t rows_length, uint64_t *marks, size_t marks_length,
                   uint32_t *pins, size_t pins_length, uint64_t *pin_marks, size_t pin_marks_length, uint64_t *book, size_t book_length,
-                  uint8_t *out, size_t out_length);
+                  uint32_t *classes, size_t classes_length, uint8_t *out, size_t out_length);
 
 #ifdef __cplusplus
 }

@@ -20,7 +20,7 @@ use Rattle.history.specs.Frames.{top-pushed}
 use Rattle.book.specs.Threads.{thread-in}
 use Rattle.book.specs.Moves.{frame-popped, line-counted}
 use Rattle.tables.specs.Tables.{Tables, tables}
-use Rattle.tables.specs.Acting.{first-ended, is-delete, delete-owner, pin-owner, references-after, pins-after, book-after, acted}
+use Rattle.tables.specs.Acting.{first-ended, is-delete, delete-owner, pin-owner, references-after, pins-after, book-after, classes-after, acted}
 use Rattle.act.specs.Books.{popped, called-book}
 use Rattle.act.specs.Calls.{deleted, top-ended, called-references, released, called}
 use Rattle.act.proofs.Choosing.{chosen, passed-over}
@@ -110,10 +110,10 @@ one-of-two true true top T D E h = absurd (false≢true (sym (h refl)))
 one-of-two true false top T D E h = refl
 one-of-two false pop top T D E h = refl
 
-pub tables-called : (rs ms ps ns b rs' ms' ps' ns' b' : List ℕ) (t f a x : ℕ) (p : Place) (y : ℕ) → table rs' ms' ≡ called-references (table rs ms) b t f a x
-    → table ps' ns' ≡ released (table ps ns) p y → b' ≡ called-book b t f → tables rs' ms' ps' ns' b' ≡ called (tables rs ms ps ns b) t f a x p y
+pub tables-called : (rs ms ps ns b cs rs' ms' ps' ns' b' : List ℕ) (t f a x : ℕ) (p : Place) (y : ℕ) → table rs' ms' ≡ called-references (table rs ms) b t f a x
+    → table ps' ns' ≡ released (table ps ns) p y → b' ≡ called-book b t f → tables rs' ms' ps' ns' b' cs ≡ called (tables rs ms ps ns b cs) t f a x p y
 unfolding called
-tables-called rs ms ps ns b rs' ms' ps' ns' b' t f a x p y er ep eb i = record { references = er i; pins = ep i; book = eb i }
+tables-called rs ms ps ns b cs rs' ms' ps' ns' b' t f a x p y er ep eb i = record { references = er i; pins = ep i; book = eb i; classes = cs }
 
 if-same : {A : Type 0} (d : Bool) (x y z : A) → (d ≡ true → x ≡ y) → (if d then x else z) ≡ (if d then y else z)
 if-same true x y z h = h refl
@@ -121,7 +121,7 @@ if-same false x y z h = refl
 
 called-acts : (T : Tables) (t env f a b c : ℕ) (n : ℤ) (line m x y : ℕ) → (is-delete f a ≡ true → x ≡ found references (is-handle (delete-owner f t) a) (T .references))
     → (is-buffer-place (fact-of f .b) ≡ true → y ≡ found pins (is-buffer (pin-owner f t) (family f) b) (T .pins)) → called T t f a x (fact-of f .b) y ≡ acted line (C t env f a b c n) m T
-unfolding called acted references-after pins-after book-after called-references deleted top-ended released called-book popped first-ended
+unfolding called acted references-after pins-after book-after classes-after called-references deleted top-ended released called-book popped first-ended
 called-acts T t env f a b c n line m x y hx hy =
     let rows : (if eqb f PopLocalFrame && top-pushed (thread-in (T .book) t .frames) then
     ended-all references (from-frame t (length (thread-in (T .book) t .frames))) (if is-delete f a then ended references (T .references) x else T .references)
@@ -145,7 +145,7 @@ called-acts T t env f a b c n line m x y hx hy =
     ≡ (if is-buffer-place (fact-of f .b) then ended pins (T .pins) (found pins (is-buffer (pin-owner f t) (family f) b) (T .pins)) else T .pins) =
     if-same (is-buffer-place (fact-of f .b)) _ _ _ (λ h. ap (ended pins (T .pins)) (hy h))
     in
-    λ i. record { references = rows i; pins = buffers i; book = called-book (T .book) t f }
+    λ i. record { references = rows i; pins = buffers i; book = called-book (T .book) t f; classes = T .classes }
 
 -- where the rows and the place told are those that an accepted C looks at
 pub called-is-acted : (T : Tables) (t env f a b c : ℕ) (n : ℤ) (line m x : ℕ) (p : Place) (y : ℕ) → (is-delete f a ≡ true → x ≡ found references (is-handle (delete-owner f t) a) (T .references))

@@ -4,4 +4,5 @@ pub mod Owning
 pub mod Calling
 pub mod Counting
 pub mod Returning
+pub mod Stating
 pub mod Whole

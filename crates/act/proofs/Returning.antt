@@ -13,6 +13,7 @@ use mir.Facts.{toZ-ofZ}
 use Rattle.words.specs.Choice.{if_then_else_}
 use Rattle.facts.specs.Table.{table as fact-table, fact-of, family, is-critical}
 use Rattle.facts.specs.Named.{PushLocalFrame, EnsureLocalCapacity, MonitorEnter, MonitorExit}
+use Rattle.facts.specs.Classes.{class-made}
 use Rattle.facts.specs.declared.Result.{Result}
 use Rattle.facts.specs.Results.{is-buffer-result, is-handle-result, is-local-result}
 use Rattle.facts.specs.declared.Result.the-variants as Result
@@ -28,18 +29,18 @@ use Rattle.history.specs.Acceptance.{made-by}
 use Rattle.book.specs.Threads.{thread-in}
 use Rattle.book.specs.Moves.{frame-pushed, capacity-raised, pending-set, monitor-added, monitor-taken, line-counted}
 use Rattle.tables.specs.Tables.{Tables, tables, reference-of, pin-row-of, seen-in}
-use Rattle.tables.specs.Acting.{all-taken, pin-owner, status-acted, references-after, pins-after, book-after, acted}
+use Rattle.tables.specs.Acting.{all-taken, pin-owner, status-acted, references-after, pins-after, book-after, classes-after, acted}
 use Rattle.act.specs.Returns.{result-row, made, got, held, status-taken, returned-book, returned}
 use Rattle.act.proofs.Choosing.{chosen, passed-over}
 
 -- ---- a handle
 
-module _ (line : ℕ) (k : Result) (t d h : ℕ) (y : Bool) (e : y ≡ is-local-result k) where
-  pub local-row : y ≡ true → record { thread = t; handle = h; frame = d; line = line } ≡ result-row line k t d h
+module _ (line : ℕ) (k : Result) (t d h c : ℕ) (y : Bool) (e : y ≡ is-local-result k) where
+  pub local-row : y ≡ true → record { thread = t; handle = h; frame = d; line = line; class = c } ≡ result-row line k t d h c
   unfolding result-row
   local-row q = rw (sym e ∙ q) refl
 
-  pub shared-row : y ≡ false → record { thread = 0; handle = h; frame = 0; line = line } ≡ result-row line k t d h
+  pub shared-row : y ≡ false → record { thread = 0; handle = h; frame = 0; line = line; class = c } ≡ result-row line k t d h c
   unfolding result-row
   shared-row q = rw (sym e ∙ q) refl
 
@@ -47,12 +48,14 @@ module _ (line : ℕ) (k : Result) (t d h : ℕ) (y : Bool) (e : y ≡ is-local-
 not-null : (x y : Bool) (h : ℕ) (b : Bool) → x ≡ y → (x && not (eqb h 0)) ≡ b → (y && not (eqb h 0)) ≡ b
 not-null x y h b e q = sym (ap (λ (z : Bool). z && not (eqb h 0)) e) ∙ q
 
-module _ (T : Table) (line : ℕ) (k : Result) (t d h row : ℕ) (y : Bool) (e : y ≡ is-handle-result k) where
-  pub handle-stored : (T' : Table) (x : Reference) → (y && not (eqb h 0)) ≡ true → x ≡ result-row line k t d h → T' ≡ stored references T row x → T' ≡ made T line k t d h row
+module _ (T : Table) (line : ℕ) (k : Result) (t d f h row : ℕ) (y : Bool) (e : y ≡ is-handle-result k) where
+  pub handle-stored : (T' : Table) (x : Reference) (c : ℕ) → (y && not (eqb h 0)) ≡ true → c ≡ class-made f → x ≡ result-row line k t d h c → T' ≡ stored references T row x
+      → T' ≡ made T line k t d f h row
   unfolding made
-  handle-stored T' x q ex s = rw (not-null y (is-handle-result k) h true e q) (s ∙ ap (stored references T row) ex)
+  handle-stored T' x c q ec ex s =
+      rw (not-null y (is-handle-result k) h true e q) (s ∙ ap (stored references T row) (ex ∙ ap (result-row line k t d h) ec))
 
-  pub no-handle-stored : (y && not (eqb h 0)) ≡ false → T ≡ made T line k t d h row
+  pub no-handle-stored : (y && not (eqb h 0)) ≡ false → T ≡ made T line k t d f h row
   unfolding made
   no-handle-stored q = rw (not-null y (is-handle-result k) h false e q) refl
 
@@ -123,36 +126,36 @@ module _ (T : Table) (b : List ℕ) (t f n : ℕ) (s : ℤ) where
 
 -- ---- the tables
 
-pub all-returned : (rs ms ps ns b rs' ms' ps' ns' b' : List ℕ) (line : ℕ) (k : Result) (row t f h p n d : ℕ) (s z : ℤ) → d ≡ length (thread-in b t .frames)
-    → z ≡ s → b' ≡ returned-book (table rs ms) b t f z p n → table rs' ms' ≡ made (table rs ms) line k t d h row → table ps' ns' ≡ got (table ps ns) line k t f h row
-    → tables rs' ms' ps' ns' b' ≡ returned (tables rs ms ps ns b) line k row t f h s p n
+pub all-returned : (rs ms ps ns b cs rs' ms' ps' ns' b' : List ℕ) (line : ℕ) (k : Result) (row t f h p n d : ℕ) (s z : ℤ) → d ≡ length (thread-in b t .frames)
+    → z ≡ s → b' ≡ returned-book (table rs ms) b t f z p n → table rs' ms' ≡ made (table rs ms) line k t d f h row → table ps' ns' ≡ got (table ps ns) line k t f h row
+    → tables rs' ms' ps' ns' b' cs ≡ returned (tables rs ms ps ns b cs) line k row t f h s p n
 unfolding returned
-all-returned rs ms ps ns b rs' ms' ps' ns' b' line k row t f h p n d s z ed ez eb er ep =
-    let rows : table rs' ms' ≡ made (table rs ms) line k t (length (thread-in b t .frames)) h row =
-    er ∙ ap (λ (j : ℕ). made (table rs ms) line k t j h row) ed
+all-returned rs ms ps ns b cs rs' ms' ps' ns' b' line k row t f h p n d s z ed ez eb er ep =
+    let rows : table rs' ms' ≡ made (table rs ms) line k t (length (thread-in b t .frames)) f h row =
+    er ∙ ap (λ (j : ℕ). made (table rs ms) line k t j f h row) ed
     in
     let book : b' ≡ returned-book (table rs ms) b t f s p n = eb ∙ ap (λ (y : ℤ). returned-book (table rs ms) b t f y p n) ez
     in
-    λ i. record { references = rows i; pins = ep i; book = book i }
+    λ i. record { references = rows i; pins = ep i; book = book i; classes = cs }
 
 -- ---- it is what an accepted R leaves
 
-module _ (T : Table) (line row : ℕ) where
+module _ (T : Table) (line class row : ℕ) where
   one-made : (null : Bool) (x : Alive) → (not null ≡ true → row ≡ free-row references T)
-      → (if not null then stored references T row (reference-of line x) else T) ≡ all-taken references T (map (reference-of line) (if null then [] else x ∷ []))
+      → (if not null then stored references T row (reference-of line class x) else T) ≡ all-taken references T (map (reference-of line class) (if null then [] else x ∷ []))
   unfolding all-taken taken
   one-made true x e = refl
-  one-made false x e = ap (λ (r : ℕ). stored references T r (reference-of line x)) (e refl)
+  one-made false x e = ap (λ (r : ℕ). stored references T r (reference-of line class x)) (e refl)
 
-  none-made : (null : Bool) → T ≡ all-taken references T (map (reference-of line) (if null then [] else []))
+  none-made : (null : Bool) → T ≡ all-taken references T (map (reference-of line class) (if null then [] else []))
   unfolding all-taken
   none-made true = refl
   none-made false = refl
 
   made-result : (k : Result) (t d h : ℕ) (s : ℤ) → ((is-handle-result k && not (eqb h 0)) ≡ true → row ≡ free-row references T)
-      → (if is-handle-result k && not (eqb h 0) then stored references T row (result-row line k t d h) else T)
+      → (if is-handle-result k && not (eqb h 0) then stored references T row (result-row line k t d h class) else T)
       ≡ all-taken references T
-      (map (reference-of line) (if eqb (above-zero (if is-status k then s else pos h)) 0 then [] else result-made k t d (above-zero (if is-status k then s else pos h))))
+      (map (reference-of line class) (if eqb (above-zero (if is-status k then s else pos h)) 0 then [] else result-made k t d (above-zero (if is-status k then s else pos h))))
   unfolding result-row
   made-result Result.Local t d h s e = one-made (eqb h 0) (local t d h) e
   made-result Result.Global t d h s e = one-made (eqb h 0) (shared h) e
@@ -224,12 +227,12 @@ pub returned-is-acted : (T : Tables) (line row t f h : ℕ) (s : ℤ) (p n : ℕ
     → ((is-handle-result (fact-of f .result) && not (eqb h 0)) ≡ true → row ≡ free-row references (T .references))
     → ((is-buffer-result (fact-of f .result) && not (eqb h 0)) ≡ true → row ≡ free-row pins (T .pins))
     → returned T line (fact-of f .result) row t f h s p n ≡ acted line (R t f (result-in-line f h s) p) n T
-unfolding returned made got returned-book status-taken held acted references-after pins-after book-after made-by makes gets seen-in
+unfolding returned made got returned-book status-taken held acted references-after pins-after book-after classes-after made-by makes gets seen-in
 returned-is-acted T line row t f h s p n er ep =
     let depth : ℕ = length (thread-in (T .book) t .frames)
     in
-    let rows : made (T .references) line (fact-of f .result) t depth h row ≡ references-after line (R t f (result-in-line f h s) p) T =
-    made-result (T .references) line row (fact-of f .result) t depth h s er
+    let rows : made (T .references) line (fact-of f .result) t depth f h row ≡ references-after line (R t f (result-in-line f h s) p) T =
+    made-result (T .references) line (class-made f) row (fact-of f .result) t depth h s er
     in
     let buffers : got (T .pins) line (fact-of f .result) t f h row ≡ pins-after line (R t f (result-in-line f h s) p) T =
     got-result (T .pins) line row t f h (fact-of f .result) s ep
@@ -245,4 +248,4 @@ returned-is-acted T line row t f h s p n er ep =
     (status-acted (T .book) t f (held (T .references) (T .book) t) n)
     (no-status (T .book) t f (held (T .references) (T .book) t) n))
     in
-    λ i. record { references = rows i; pins = buffers i; book = book i }
+    λ i. record { references = rows i; pins = buffers i; book = book i; classes = T .classes }

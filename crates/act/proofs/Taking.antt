@@ -5,6 +5,7 @@ use mathlib.Core.List.{List, [], _∷_, map}
 use native.Mathlib.Numerals.{add-one}
 use lib.ListN.{length, getD, drop, drop-of-length-le}
 use lib.Seq.{drop-cons}
+use Rattle.facts.specs.Classes.{no-class}
 use Rattle.rows.specs.Table.{Table, taken}
 use Rattle.rows.specs.References.{references}
 use Rattle.rows.specs.declared.references.Reference.{Reference}
@@ -22,7 +23,7 @@ module _ (T : Table) (line t d : ℕ) (hs : List ℕ) where
   unfolding Rest
   rest-first = refl
 
-  pub rest-next : (S S' : Table) (i : ℕ) → i < length hs → Rest T S line t d hs i → S' ≡ taken references S (record { thread = t; handle = getD hs i 0; frame = d; line = line })
+  pub rest-next : (S S' : Table) (i : ℕ) → i < length hs → Rest T S line t d hs i → S' ≡ taken references S (record { thread = t; handle = getD hs i 0; frame = d; line = line; class = no-class })
       → Rest T S' line t d hs (i + 1)
   unfolding Rest all-taken
   rest-next S S' i h e k =
@@ -35,6 +36,6 @@ module _ (T : Table) (line t d : ℕ) (hs : List ℕ) where
   rest-last S i h e = sym (ap (λ (l : List ℕ). all-taken references S (locals line t d l)) (drop-of-length-le hs h)) ∙ e
 
 -- the rows of locals
-pub rows-of-locals : (line t d : ℕ) (hs : List ℕ) → locals line t d hs ≡ map (reference-of line) (map (local t d) hs)
+pub rows-of-locals : (line t d : ℕ) (hs : List ℕ) → locals line t d hs ≡ map (reference-of line no-class) (map (local t d) hs)
 rows-of-locals line t d [] = refl
-rows-of-locals line t d (h ∷ hs) = ap (λ (l : List Reference). record { thread = t; handle = h; frame = d; line = line } ∷ l) (rows-of-locals line t d hs)
+rows-of-locals line t d (h ∷ hs) = ap (λ (l : List Reference). record { thread = t; handle = h; frame = d; line = line; class = no-class } ∷ l) (rows-of-locals line t d hs)

@@ -8,16 +8,18 @@ use borrow.Author.Tests.{eq-eqb, ne-eqb}
 use lib.ListN.{length}
 use Rattle.rows.specs.Table.{table, ended-all}
 use Rattle.rows.specs.References.{references, from-frame}
-use Rattle.lines.specs.Line.{N, X, Z}
+use Rattle.facts.specs.Classes.{no-class}
+use Rattle.lines.specs.Line.{N, X, Z, K, states}
 use Rattle.history.specs.Frames.{without-native}
 use Rattle.history.specs.Handles.{local, makes}
 use Rattle.history.specs.Capacities.{native-capacity}
 use Rattle.history.specs.Buffers.{gets}
 use Rattle.history.specs.Acceptance.{made-by}
+use Rattle.classes.specs.Supers.{with-super}
 use Rattle.book.specs.Threads.{thread-in}
 use Rattle.book.specs.Moves.{frame-pushed, native-left, env-set, pending-set, line-counted, closed-set}
 use Rattle.tables.specs.Tables.{tables, reference-of, seen-in}
-use Rattle.tables.specs.Acting.{all-taken, references-after, pins-after, book-after, acted, env-kept}
+use Rattle.tables.specs.Acting.{all-taken, references-after, pins-after, book-after, classes-after, acted, env-kept}
 use Rattle.act.specs.Rows.{locals}
 use Rattle.act.specs.Books.{entered-book, left-book}
 use Rattle.act.proofs.Taking.{rows-of-locals}
@@ -44,27 +46,33 @@ book-left b b1 b2 t e1 e2 = e2 ∙ ap line-counted e1
 
 -- ---- the tables
 
-module _ (rs ms ps ns b rs' ms' b' : List ℕ) (line n : ℕ) where
+module _ (rs ms ps ns b cs rs' ms' b' : List ℕ) (line n : ℕ) where
   pub entered : (t env d : ℕ) (hs : List ℕ) → d ≡ length (thread-in b t .frames) → table rs' ms' ≡ all-taken references (table rs ms) (locals line t (d + 1) hs)
-      → b' ≡ entered-book b t env hs → tables rs' ms' ps ns b' ≡ acted line (N t env hs) n (tables rs ms ps ns b)
-  unfolding acted references-after pins-after book-after made-by makes gets all-taken seen-in entered-book
+      → b' ≡ entered-book b t env hs → tables rs' ms' ps ns b' cs ≡ acted line (N t env hs) n (tables rs ms ps ns b cs)
+  unfolding acted references-after pins-after book-after classes-after made-by makes gets all-taken seen-in entered-book
   entered t env d hs ed er eb =
-      let rows : table rs' ms' ≡ all-taken references (table rs ms) (map (reference-of line) (map (local t (suc (length (thread-in b t .frames)))) hs)) =
+      let rows : table rs' ms' ≡ all-taken references (table rs ms) (map (reference-of line no-class) (map (local t (suc (length (thread-in b t .frames)))) hs)) =
       er
       ∙ ap (λ (k : ℕ). all-taken references (table rs ms) (locals line t k hs)) (add-one d ∙ ap suc ed)
       ∙ ap (all-taken references (table rs ms)) (rows-of-locals line t (suc (length (thread-in b t .frames))) hs)
       in
-      λ i. record { references = rows i; pins = table ps ns; book = eb i }
+      λ i. record { references = rows i; pins = table ps ns; book = eb i; classes = cs }
 
   pub left : (t r d : ℕ) → d ≡ length (without-native (thread-in b t .frames)) → table rs' ms' ≡ ended-all references (from-frame t (d + 1)) (table rs ms)
-      → b' ≡ left-book b t → tables rs' ms' ps ns b' ≡ acted line (X t r) n (tables rs ms ps ns b)
-  unfolding acted references-after pins-after book-after gets all-taken left-book
+      → b' ≡ left-book b t → tables rs' ms' ps ns b' cs ≡ acted line (X t r) n (tables rs ms ps ns b cs)
+  unfolding acted references-after pins-after book-after classes-after gets all-taken left-book
   left t r d ed er eb =
       let rows : table rs' ms' ≡ ended-all references (from-frame t (suc (length (without-native (thread-in b t .frames))))) (table rs ms) =
       er ∙ ap (λ (k : ℕ). ended-all references (from-frame t k) (table rs ms)) (add-one d ∙ ap suc ed)
       in
-      λ i. record { references = rows i; pins = table ps ns; book = eb i }
+      λ i. record { references = rows i; pins = table ps ns; book = eb i; classes = cs }
 
-pub closed : (rs ms ps ns b b1 b2 : List ℕ) (line n : ℕ) → b1 ≡ closed-set b → b2 ≡ line-counted b1 → tables rs ms ps ns b2 ≡ acted line Z n (tables rs ms ps ns b)
-unfolding acted references-after pins-after book-after made-by makes gets all-taken
-closed rs ms ps ns b b1 b2 line n e1 e2 i = record { references = table rs ms; pins = table ps ns; book = (e2 ∙ ap line-counted e1) i }
+pub closed : (rs ms ps ns b cs b1 b2 : List ℕ) (line n : ℕ) → b1 ≡ closed-set b → b2 ≡ line-counted b1 → tables rs ms ps ns b2 cs ≡ acted line Z n (tables rs ms ps ns b cs)
+unfolding acted references-after pins-after book-after classes-after made-by makes gets all-taken
+closed rs ms ps ns b cs b1 b2 line n e1 e2 i =
+    record { references = table rs ms; pins = table ps ns; book = (e2 ∙ ap line-counted e1) i; classes = cs }
+
+pub declared : (rs ms ps ns b cs b' cs' : List ℕ) (line n c s : ℕ) → cs' ≡ with-super cs c s → b' ≡ line-counted b
+    → tables rs ms ps ns b' cs' ≡ acted line (states (K c s)) n (tables rs ms ps ns b cs)
+unfolding acted references-after pins-after book-after classes-after made-by makes gets all-taken
+declared rs ms ps ns b cs b' cs' line n c s ec eb i = record { references = table rs ms; pins = table ps ns; book = eb i; classes = ec i }

@@ -42,4 +42,5 @@ called T t f a x p y =
       references = called-references (T .references) (T .book) t f a x;
       pins = released (T .pins) p y;
       book = called-book (T .book) t f;
+      classes = T .classes;
     }

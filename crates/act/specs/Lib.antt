@@ -1,5 +1,6 @@
--- computed: judge::step, called-is-acted, returned-is-acted, rows-of-locals
+-- computed: judge::step, called-is-acted, returned-is-acted, stated-is-acted, rows-of-locals
 pub mod Rows
 pub mod Books
 pub mod Calls
 pub mod Returns
+pub mod Statements

@@ -7,6 +7,7 @@ use lib.IntN.{ℤ}
 use lib.ListN.{length}
 use Rattle.words.specs.Choice.{if_then_else_}
 use Rattle.facts.specs.Table.{family}
+use Rattle.facts.specs.Classes.{class-made}
 use Rattle.facts.specs.Results.{is-handle-result, is-local-result, is-buffer-result}
 use Rattle.facts.specs.declared.Result.{Result}
 use Rattle.lines.specs.Line.{is-zero}
@@ -22,13 +23,16 @@ use Rattle.tables.specs.Acting.{pin-owner, status-acted}
 
 -- ---- handles
 
--- L in frame d of thread t, G or W in no thread
-unfoldable pub result-row : ℕ → Result → ℕ → ℕ → ℕ → Reference
-result-row line k t d h =
-    if is-local-result k then record { thread = t; handle = h; frame = d; line = line } else record { thread = 0; handle = h; frame = 0; line = line }
+-- L in frame d of thread t, G or W in no thread, of class c
+unfoldable pub result-row : ℕ → Result → ℕ → ℕ → ℕ → ℕ → Reference
+result-row line k t d h c =
+    if is-local-result k then record { thread = t; handle = h; frame = d; line = line; class = c }
+    else record { thread = 0; handle = h; frame = 0; line = line; class = c }
 
-unfoldable pub made : Table → ℕ → Result → ℕ → ℕ → ℕ → ℕ → Table
-made T line k t d h row = if is-handle-result k && not (eqb h 0) then stored references T row (result-row line k t d h) else T
+-- the result of function f
+unfoldable pub made : Table → ℕ → Result → ℕ → ℕ → ℕ → ℕ → ℕ → Table
+made T line k t d f h row =
+    if is-handle-result k && not (eqb h 0) then stored references T row (result-row line k t d h (class-made f)) else T
 
 -- ---- buffers
 
@@ -55,7 +59,8 @@ returned-book T b t f s p n = line-counted (pending-set (status-taken T b t f s 
 unfoldable pub returned : Tables → ℕ → Result → ℕ → ℕ → ℕ → ℕ → ℤ → ℕ → ℕ → Tables
 returned T line k row t f h s p n =
     record {
-      references = made (T .references) line k t (length (thread-in (T .book) t .frames)) h row;
+      references = made (T .references) line k t (length (thread-in (T .book) t .frames)) f h row;
       pins = got (T .pins) line k t f h row;
       book = returned-book (T .references) (T .book) t f s p n;
+      classes = T .classes;
     }

@@ -13,6 +13,8 @@ use rows::Number;
 use words::Handle;
 ghost use mathlib.Core.Path.{_≡_};
 ghost use mathlib.Core.Bool.{_&&_};
+ghost use mathlib.Core.List.{List};
+ghost use Prim.Native.Nat.{ℕ};
 ghost use lib.Dec.{eqb};
 ghost use Rattle.facts.specs.Named.{PopLocalFrame};
 ghost use Rattle.rows.specs.Table.{table};
@@ -111,7 +113,7 @@ pub fn call(
     place: Place,
     pinrow: usize,
 )
-    ensures { λ _. ⌜ tables (now (rows .exit)) (now (marks .exit)) (now (pins .exit)) (now (pinmarks .exit)) (now (book .exit)) ≡ called (tables (now (rows .entry)) (now (marks .entry)) (now (pins .entry)) (now (pinmarks .entry)) (now (book .entry))) t f a row place pinrow ⌝ }
+    ensures { λ _. ⌜ ((cs : List ℕ) → tables (now (rows .exit)) (now (marks .exit)) (now (pins .exit)) (now (pinmarks .exit)) (now (book .exit)) cs ≡ called (tables (now (rows .entry)) (now (marks .entry)) (now (pins .entry)) (now (pinmarks .entry)) (now (book .entry)) cs) t f a row place pinrow) ⌝ }
 {
     end_references(rows, marks, book, t, f, a, row);
     release(pins, pinmarks, place, pinrow);

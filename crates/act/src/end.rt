@@ -7,7 +7,7 @@ ghost use Rattle.tables.specs.Tables.{tables};
 ghost use Rattle.tables.specs.Acting.{acted};
 
 pub fn end(book: &mut [u64])
-    ensures { λ _. ⌜ ((rs ms ps ns : List ℕ) (line n : ℕ) → tables rs ms ps ns (now (book .exit)) ≡ acted line Z n (tables rs ms ps ns (now (book .entry)))) ⌝ }
+    ensures { λ _. ⌜ ((rs ms ps ns cs : List ℕ) (line n : ℕ) → tables rs ms ps ns (now (book .exit)) cs ≡ acted line Z n (tables rs ms ps ns (now (book .entry)) cs)) ⌝ }
 {
     book::set_closed(book);
     book::count_line(book);

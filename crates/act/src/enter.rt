@@ -1,4 +1,5 @@
 // N opens a frame, makes its handles as locals in it, and clears pending.
+use facts::classes::NO_CLASS;
 use rows::Number;
 use rows::references::Reference;
 use words::Handle;
@@ -17,7 +18,7 @@ ghost use Rattle.act.specs.Books.{entered-book};
 // The room for new locals in a native's frame; its handles come on top.
 const NEW_LOCALS: u64 = 16;
 
-// A row for each handle, in their order.
+// A row for each handle, in their order; no class is stated of them.
 fn take_all(rows: &mut [Number], marks: &mut [u64], line: u32, t: u32, d: u32, hs: &[Handle])
     ensures { λ _. ⌜ table (now (rows .exit)) (now (marks .exit)) ≡ all-taken references (table (now (rows .entry)) (now (marks .entry))) (locals line t d (now (hs .entry))) ⌝ }
 {
@@ -31,6 +32,7 @@ fn take_all(rows: &mut [Number], marks: &mut [u64], line: u32, t: u32, d: u32, h
                 handle: hs[i],
                 frame: d,
                 line,
+                class: NO_CLASS,
             },
         );
         i += 1;
@@ -65,7 +67,7 @@ pub fn enter(
     env: Handle,
     hs: &[Handle],
 )
-    ensures { λ _. ⌜ ((ps ns : List ℕ) (n : ℕ) → tables (now (rows .exit)) (now (marks .exit)) ps ns (now (book .exit)) ≡ acted line (N t env (now (hs .entry))) n (tables (now (rows .entry)) (now (marks .entry)) ps ns (now (book .entry)))) ⌝ }
+    ensures { λ _. ⌜ ((ps ns cs : List ℕ) (n : ℕ) → tables (now (rows .exit)) (now (marks .exit)) ps ns (now (book .exit)) cs ≡ acted line (N t env (now (hs .entry))) n (tables (now (rows .entry)) (now (marks .entry)) ps ns (now (book .entry)) cs)) ⌝ }
 {
     let d = book::frames_of(book, t);
     take_all(rows, marks, line, t, d + 1, hs);

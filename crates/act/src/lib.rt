@@ -1,7 +1,9 @@
 // What an accepted line does to the lent tables, all but the open items.
 pub mod call;
+pub mod declare;
 pub mod end;
 pub mod enter;
 pub mod leave;
 mod owner;
 pub mod returns;
+pub mod state;

@@ -1,6 +1,7 @@
 // R makes its result, and with status 0 pushes a frame, raises a capacity, or adds or takes a monitor.
 use super::owner::pin_owner;
 use facts::Result;
+use facts::classes::class_made;
 use facts::functions::ENSURE_LOCAL_CAPACITY;
 use facts::functions::MONITOR_ENTER;
 use facts::functions::MONITOR_EXIT;
@@ -13,7 +14,8 @@ use rows::pins::Pin;
 use rows::references::Reference;
 use words::Handle;
 ghost use mathlib.Core.Path.{_≡_};
-ghost use Prim.Native.Nat.{_+_, _≤_};
+ghost use mathlib.Core.List.{List};
+ghost use Prim.Native.Nat.{ℕ, _+_, _≤_};
 ghost use Rattle.rows.specs.Table.{table, most};
 ghost use Rattle.book.specs.Moves.{capacity-raised};
 ghost use Rattle.tables.specs.Tables.{tables};
@@ -23,8 +25,8 @@ ghost use Rattle.act.specs.Returns.{result-row, made, got, held, status-
 // ---- the result
 
 // The row of handle h, where the thread has d frames.
-fn row_of(line: u32, kind: Result, t: u32, d: u32, h: Handle) -> Reference
-    ensures { λ x. ⌜ x ≡ result-row line kind t d h ⌝ }
+fn row_of(line: u32, kind: Result, t: u32, d: u32, h: Handle, class: u32) -> Reference
+    ensures { λ x. ⌜ x ≡ result-row line kind t d h class ⌝ }
 {
     if is_local_result(kind) {
         Reference {
@@ -32,6 +34,7 @@ fn row_of(line: u32, kind: Result, t: u32, d: u32, h: Handle) -> Reference
             handle: h,
             frame: d,
             line,
+            class,
         }
     } else {
         Reference {
@@ -39,6 +42,7 @@ fn row_of(line: u32, kind: Result, t: u32, d: u32, h: Handle) -> Reference
             handle: h,
             frame: 0,
             line,
+            class,
         }
     }
 }
@@ -50,13 +54,15 @@ fn make(
     kind: Result,
     t: u32,
     d: u32,
+    f: u32,
     h: Handle,
     row: usize,
 )
-    ensures { λ _. ⌜ table (now (rows .exit)) (now (marks .exit)) ≡ made (table (now (rows .entry)) (now (marks .entry))) line kind t d h row ⌝ }
+    ensures { λ _. ⌜ table (now (rows .exit)) (now (marks .exit)) ≡ made (table (now (rows .entry)) (now (marks .entry))) line kind t d f h row ⌝ }
 {
     if is_handle_result(kind) & (h != 0) {
-        rows::references::store(rows, marks, row, row_of(line, kind, t, d, h));
+        let x = row_of(line, kind, t, d, h, class_made(f));
+        rows::references::store(rows, marks, row, x);
     }
 }
 
@@ -175,10 +181,10 @@ pub fn returns(
     pending: u32,
     n: u32,
 )
-    ensures { λ _. ⌜ tables (now (rows .exit)) (now (marks .exit)) (now (pins .exit)) (now (pinmarks .exit)) (now (book .exit)) ≡ returned (tables (now (rows .entry)) (now (marks .entry)) (now (pins .entry)) (now (pinmarks .entry)) (now (book .entry))) line kind row t f result status pending n ⌝ }
+    ensures { λ _. ⌜ ((cs : List ℕ) → tables (now (rows .exit)) (now (marks .exit)) (now (pins .exit)) (now (pinmarks .exit)) (now (book .exit)) cs ≡ returned (tables (now (rows .entry)) (now (marks .entry)) (now (pins .entry)) (now (pinmarks .entry)) (now (book .entry)) cs) line kind row t f result status pending n) ⌝ }
 {
     let d = book::frames_of(book, t);
     write_book(rows, marks, book, t, f, status, pending, n);
-    make(rows, marks, line, kind, t, d, result, row);
+    make(rows, marks, line, kind, t, d, f, result, row);
     get(pins, pinmarks, line, kind, t, f, result, row);
 }

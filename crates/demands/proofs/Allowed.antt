@@ -12,7 +12,7 @@ use Rattle.numbers.specs.Signed.{is-i32, largest-i32}
 use Rattle.facts.specs.Table.{fact-of, family, is-critical, is-function, first-function, last-function}
 use Rattle.facts.specs.Named.{PushLocalFrame, EnsureLocalCapacity}
 use Rattle.facts.specs.Results.{is-buffer-result}
-use Rattle.lines.specs.Line.{Line, N, X, C, R, Z, is-allowed, is-thread, is-env, is-value, threads, place-allows, capacity-allows, is-zero, above-zero}
+use Rattle.lines.specs.Line.{Line, N, X, C, R, Z, states, is-allowed, is-thread, is-env, is-value, threads, place-allows, capacity-allows, is-zero, above-zero}
 use Rattle.history.specs.Past.{History, thread-of, is-of}
 use Rattle.history.specs.Frames.{depth}
 use Rattle.history.specs.Handles.{Alive, makes}
@@ -39,6 +39,7 @@ is-a-thread (X s r) t o h = rw (eqb-true t s o) (and-left (is-thread s) (is-valu
 is-a-thread (C s env f a b c n) t o h = rw (eqb-true t s o) (thread-of-C s env f a b c n h)
 is-a-thread (R s f r p) t o h = rw (eqb-true t s o) (thread-of-R s f r p h)
 is-a-thread Z t o h = absurd (false≢true o)
+is-a-thread (states s) t o h = absurd (false≢true o)
 
 pub thread-within : (t : ℕ) → is-thread t ≡ true → (1 ≤ t) × (t ≤ threads)
 thread-within t h = (leb-true 1 t (and-left (leb 1 t) (leb t threads) h), leb-true t threads (and-right (leb 1 t) (leb t threads) h))
@@ -75,6 +76,7 @@ gets-owned (R t f r p) h x m = go (is-buffer-result (fact-of f .result) && not (
     go true m = ap unowned (List·Memᴰ·eq-of-singleton m) ∙ its-own
     go false m = absurd (List·Memᴰ·not-nil m)
 gets-owned Z h x m = absurd (List·Memᴰ·not-nil m)
+gets-owned (states s) h x m = absurd (List·Memᴰ·not-nil m)
 
 -- ---- what it asks
 

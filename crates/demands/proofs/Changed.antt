@@ -82,19 +82,19 @@ module _ (t env f a b c : ℕ) (n : ℤ) where
       rw (x, y, z)
 
   -- the row of what is deleted
-  pub delete-is : eqb t 0 ≡ false → is-delete f a ≡ true → (line : ℕ) (x : Alive) → unplaced x ≡ false → is-handle (delete-owner f t) a (reference-of line x) ≡ deletes (C t env f a b c n) x
+  pub delete-is : eqb t 0 ≡ false → is-delete f a ≡ true → (line class : ℕ) (x : Alive) → unplaced x ≡ false → is-handle (delete-owner f t) a (reference-of line class x) ≡ deletes (C t env f a b c n) x
   unfolding deletes
-  delete-is z h line x there =
+  delete-is z h line class x there =
       of-three (eqb f DeleteLocalRef && eqb (kind a) 1) (eqb f DeleteGlobalRef && eqb (kind a) 2) (eqb f DeleteWeakGlobalRef && eqb (kind a) 3) h
       (λ k.
       rw (eqb-true f DeleteLocalRef (and-left (eqb f DeleteLocalRef) (eqb (kind a) 1) k), and-right (eqb f DeleteLocalRef) (eqb (kind a) 1) k)
-      (handle-is-local t a z line x ∙ sym (or-false (is-local t a x)) ∙ sym (or-false (is-local t a x || false))))
+      (handle-is-local t a z line class x ∙ sym (or-false (is-local t a x)) ∙ sym (or-false (is-local t a x || false))))
       (λ k.
       rw (eqb-true f DeleteGlobalRef (and-left (eqb f DeleteGlobalRef) (eqb (kind a) 2) k), and-right (eqb f DeleteGlobalRef) (eqb (kind a) 2) k)
-      (handle-is-shared a line x there ∙ sym (or-false (is-shared a x))))
+      (handle-is-shared a line class x there ∙ sym (or-false (is-shared a x))))
       (λ k.
       rw (eqb-true f DeleteWeakGlobalRef (and-left (eqb f DeleteWeakGlobalRef) (eqb (kind a) 3) k), and-right (eqb f DeleteWeakGlobalRef) (eqb (kind a) 3) k)
-      (handle-is-shared a line x there))
+      (handle-is-shared a line class x there))
 
   -- a delete pops nothing
   pub delete-unpopped : is-delete f a ≡ true → eqb f PopLocalFrame ≡ false

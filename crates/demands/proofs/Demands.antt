@@ -4,7 +4,7 @@ use mathlib.Core.Path.{_≡_, refl, sym, ap, ap₂, _∙_}
 use mathlib.Core.Logic.{_↔_}
 use mathlib.Core.List.{List, [], _∷_, _++_}
 use native.Mathlib.Omega.{arith}
-use lib.ListN.{length}
+use lib.ListN.{length, length-replicate}
 use Rattle.lines.specs.Reading.{Read, says, refused, read}
 use Rattle.lines.specs.Line.{Line}
 use Rattle.lines.proofs.Refusals.{refused-by-number}
@@ -14,17 +14,20 @@ use Rattle.history.specs.Acceptance.{Room}
 use Rattle.history.specs.Findings.{of-line}
 use Rattle.history.specs.Replies.{Reply, not-accepted, most-lines, verdict, reply-of, reply, with-line, heard}
 use Rattle.history.specs.Runs.{findings-in, told}
-use Rattle.history.specs.Refusals.{Given, four, five, six, seven, none}
+use Rattle.history.specs.Refusals.{Given, four, five, six, nine, ten, seven, none}
 use Rattle.history.specs.Verdicts.{Weighs, too-many, not-read, refuses, takes}
 use Rattle.history.specs.declared.Finding.{Finding}
 use Rattle.history.proofs.Replies.{verdict-is, heard-accepted, told-all}
 use Rattle.tables.specs.Tables.{Tables}
+use Rattle.tables.specs.Acting.{acted}
 use Rattle.tables.specs.Stepping.{Stepped, step-of, start-of}
+use Rattle.demands.specs.Tied.{past-classes}
 use Rattle.demands.specs.Calls.{room-of, Long, after, from-start, heard-by, all-found}
 use Rattle.demands.specs.Demands.{Out-of-room, From-a-start, Demands}
 use Rattle.demands.proofs.PastRows.{rows-hold, pin-rows-hold}
 use Rattle.demands.proofs.Weighed.{used-rows, used-pin-rows}
 use Rattle.demands.proofs.Started.{fit}
+use Rattle.demands.proofs.Next.{same-length}
 use Rattle.demands.proofs.Stepped.{with-line-in, answered, step-is, follows}
 use Rattle.demands.proofs.Foreign.{numbered, accepted-not, refusal-keeps, eight-is, start-is}
 use Rattle.demands.proofs.Listed.{list-tied, list-keeps, list-is-numbered, list-eight-is, four-is, seven-is-listed, after-listed}
@@ -75,9 +78,11 @@ given-seven : (room : Room) (past : History) (bs : List ℕ) (e : Line) (k : ℕ
 given-seven room past bs e _ said few (four s) is = absurd (omega (arith, is))
 given-seven room past bs e _ said few (five s w) is = absurd (omega (arith, is))
 given-seven room past bs e _ said few (six s w m) is = absurd (omega (arith, is))
-given-seven room past bs e _ said few (seven s w m x) is =
-    record { line = e; said = said; in-time = few; turn = s; its-env = w; anew = m; over = x }
-given-seven room past bs e _ said few (none s w m x) is = absurd (omega (arith, is))
+given-seven room past bs e _ said few (nine s w m c) is = absurd (omega (arith, is))
+given-seven room past bs e _ said few (ten s w m c d) is = absurd (omega (arith, is))
+given-seven room past bs e _ said few (seven s w m c d x) is =
+    record { line = e; said = said; in-time = few; turn = s; its-env = w; anew = m; right-classes = c; alive = d; over = x }
+given-seven room past bs e _ said few (none s w m c d x) is = absurd (omega (arith, is))
 
 number-of : (j k : ℕ) → refused j ≡ refused k → j ≡ k
 number-of j k h = cc
@@ -91,7 +96,7 @@ weighs-seven room past bs _ (takes e l h g) is = let z : _≡_ {A = ℕ} 0 1 = c
 seven-is : (room : Room) (past : History) (bs : List ℕ) → Weighs room past bs (refused 7) ↔ Out-of-room room past bs
 seven-is room past bs = (
   λ w. weighs-seven room past bs (refused 7) w refl,
-  λ x. refuses (x .line) 7 (x .in-time) (x .said) (λ z. omega (arith, z)) (seven (x .turn) (x .its-env) (x .anew) (x .over)),
+  λ x. refuses (x .line) 7 (x .in-time) (x .said) (λ z. omega (arith, z)) (seven (x .turn) (x .its-env) (x .anew) (x .right-classes) (x .alive) (x .over)),
 )
 
 -- ---- what is left
@@ -111,6 +116,18 @@ built-is T long (bs ∷ before) =
         → answered (heard (room-of T) before) v (after (start-of T) before) .left ≡ built (start-of T) (with-line (heard (room-of T) before) v)
     go (refused k) ih = ih
     go (says e) ih = ap (with-line-in e (heard (room-of T) before)) ih
+
+-- no line makes the class table longer or shorter
+built-classes : (T : Tables) (past : History) → length (built T past .classes) ≡ length (T .classes)
+unfolding acted
+built-classes T [] = refl
+built-classes T (e ∷ past) = same-length e (built T past) ∙ built-classes T past
+
+as-many : (T : Tables) → Long T → (calls : List (List ℕ)) → length (after (start-of T) calls .classes) ≡ length (T .classes)
+unfolding start-of
+as-many T long calls =
+    ap (λ (S : Tables). length (S .classes)) (built-is T long calls)
+    ∙ built-classes (start-of T) (heard (room-of T) calls) ∙ length-replicate {A = ℕ} (length (T .classes)) 0
 
 -- ---- all that is demanded
 
@@ -140,6 +157,7 @@ from-a-start-has T long calls =
       pin-rows-used = used-pin-rows (room-of T) S past (k .tables) so-far;
       reference-numbers = references-exact (room-of T) T calls past (k .tables);
       pin-numbers = pins-exact (room-of T) T calls past (k .tables);
+      class-numbers = k .tables .class-table ∙ ap (λ (n : ℕ). past-classes n past) (as-many T long calls);
       fixed-by-history =
           λ R alike others same.
           ap (λ (X : Tables). after X others) (start-is R T alike)

@@ -1,21 +1,22 @@
 -- Rows and what they stand for: a lent table that is encoded slots, after each change of it. Assumes nothing.
-use Prim.Native.Nat.{ℕ, zero, suc}
-use mathlib.Core.Path.{_≡_, refl, sym, ap, _∙_}
+use Prim.Native.Nat.{ℕ, zero, suc, _≤_}
+use mathlib.Core.Path.{_≡_, refl, sym, ap, ap₂, _∙_}
 use mathlib.Core.Bool.{Bool, true, false, _&&_, and-comm, and-assoc, and-true, and-false}
 use mathlib.Core.List.{List, [], _∷_, map}
 use mathlib.Core.Option.{Option, none, some}
+use native.Mathlib.Omega.{arith}
 use lib.Dec.{eqb, leb}
 use lib.ListN.{length, replicate}
 use borrow.Author.Tests.{eqb-true, eqb-false, eq-eqb, ne-eqb}
 use Rattle.words.specs.Choice.{if_then_else_}
-use Rattle.words.specs.Lists.{count}
+use Rattle.words.specs.Lists.{count, of-first}
 use Rattle.facts.specs.Table.{family, is-critical}
-use Rattle.rows.specs.Slots.{held, put, put-all, wipe, wipe-first}
-use Rattle.rows.specs.Table.{Layout, Table, room, alive, counted, taken, ended-all, cleared}
+use Rattle.rows.specs.Slots.{held, put, put-all, wipe, wipe-first, change-first}
+use Rattle.rows.specs.Table.{Layout, Table, room, alive, counted, taken, changed, found, ended-all, cleared}
 use Rattle.rows.specs.View.{view}
-use Rattle.rows.specs.References.{is-handle, from-frame}
+use Rattle.rows.specs.References.{with-class, is-handle, from-frame}
 use Rattle.rows.specs.Pins.{is-buffer}
-use Rattle.rows.proofs.ViewLaws.{length-view, alive-view, counted-view, view-taken, view-ended-found, view-ended-all, view-cleared}
+use Rattle.rows.proofs.ViewLaws.{length-view, alive-view, counted-view, view-taken, view-ended-found, view-changed-found, view-ended-all, view-cleared}
 use Rattle.history.specs.Handles.{Alive, local, shared, is-local, is-shared}
 use Rattle.history.specs.Buffers.{Pin, ordinary, critical, pin, same-pin}
 use Rattle.tables.specs.Tables.{alive-of, reference-of, pin-of, pin-row-of}
@@ -24,6 +25,17 @@ use Rattle.demands.specs.PastRows.{padded}
 use Rattle.demands.specs.Tied.{encoded}
 
 -- ---- slots encoded
+
+-- encoded alike, where none of those that may differ is held
+pub encoded-same : {A B : Type 0} (f g : B → A) (p : B → Bool) → ((x : B) → p x ≡ false → f x ≡ g x) → (s : List (Option B)) → count p (held s) ≡ 0 → encoded f s ≡ encoded g s
+encoded-same f g p same [] none-held = refl
+encoded-same {A} f g p same (none ∷ s) none-held = ap (λ (r : List (Option A)). none ∷ r) (encoded-same f g p same s none-held)
+encoded-same {A} {B} f g p same (some x ∷ s) none-held = go (p x) refl none-held (λ h. encoded-same f g p same s h)
+  where
+    go : (b : Bool) → p x ≡ b → (if b then suc (count p (held s)) else count p (held s)) ≡ 0 → (count p (held s) ≡ 0 → encoded f s ≡ encoded g s)
+        → encoded f (some x ∷ s) ≡ encoded g (some x ∷ s)
+    go true e none-held ih = absurd (omega (arith, none-held))
+    go false e none-held ih = ap₂ (λ (y : A) (r : List (Option A)). some y ∷ r) (same x e) (ih none-held)
 
 module _ {A B : Type 0} (f : B → A) where
   length-encoded : (s : List (Option B)) → length (encoded f s) ≡ length s
@@ -40,6 +52,11 @@ module _ {A B : Type 0} (f : B → A) where
   count-encoded p [] = refl
   count-encoded p (none ∷ s) = count-encoded p s
   count-encoded p (some x ∷ s) = ap (λ (n : ℕ). if p (f x) then suc n else n) (count-encoded p s)
+
+  of-first-encoded : (q : A → Bool) (say : A → ℕ) (s : List (Option B)) → of-first q say (held (encoded f s)) ≡ of-first (λ x. q (f x)) (λ x. say (f x)) (held s)
+  of-first-encoded q say [] = refl
+  of-first-encoded q say (none ∷ s) = of-first-encoded q say s
+  of-first-encoded q say (some x ∷ s) = ap (λ (n : ℕ). if q (f x) then say (f x) else n) (of-first-encoded q say s)
 
   put-encoded : (x : B) (s : List (Option B)) → put (f x) (encoded f s) ≡ encoded f (put x s)
   put-encoded x [] = refl
@@ -65,6 +82,23 @@ module _ {A B : Type 0} (f : B → A) where
           → (if b then none ∷ encoded f s else some (f x) ∷ wipe-first p (encoded f s)) ≡ encoded f (if b then none ∷ s else some x ∷ wipe-first (λ x. p (f x)) s)
       go true ih = refl
       go false ih = ap (λ (r : List (Option A)). some (f x) ∷ r) ih
+
+  -- of the slots held none is such that q and p may differ on it
+  change-first-encoded : (g : B → A) (bad p : B → Bool) (q : A → Bool) (change : A → A) → ((x : B) → bad x ≡ false → q (f x) ≡ p x) → ((x : B) → p x ≡ true → change (f x) ≡ g x)
+      → ((x : B) → p x ≡ false → f x ≡ g x) → (s : List (Option B)) → count bad (held s) ≡ 0 → count p (held s) ≤ 1 → change-first q change (encoded f s) ≡ encoded g s
+  change-first-encoded g bad p q change same this other [] fine few = refl
+  change-first-encoded g bad p q change same this other (none ∷ s) fine few = ap (λ (r : List (Option A)). none ∷ r) (change-first-encoded g bad p q change same this other s fine few)
+  change-first-encoded g bad p q change same this other (some x ∷ s) fine few = good (bad x) refl fine (λ k h. change-first-encoded g bad p q change same this other s k h)
+    where
+      go : (b : Bool) → p x ≡ b → (if b then suc (count p (held s)) else count p (held s)) ≤ 1 → (count p (held s) ≤ 1 → change-first q change (encoded f s) ≡ encoded g s)
+          → (if b then some (change (f x)) ∷ encoded f s else some (f x) ∷ change-first q change (encoded f s)) ≡ encoded g (some x ∷ s)
+      go true e few ih = ap₂ (λ (y : A) (r : List (Option A)). some y ∷ r) (this x e) (encoded-same f g p other s (omega (arith, few)))
+      go false e few ih = ap₂ (λ (y : A) (r : List (Option A)). some y ∷ r) (other x e) (ih few)
+
+      good : (b : Bool) → bad x ≡ b → (if b then suc (count bad (held s)) else count bad (held s)) ≡ 0
+          → (count bad (held s) ≡ 0 → count p (held s) ≤ 1 → change-first q change (encoded f s) ≡ encoded g s) → change-first q change (encoded f (some x ∷ s)) ≡ encoded g (some x ∷ s)
+      good true e k ih = absurd (omega (arith, k))
+      good false e k ih = rw (same x e) (go (p x) refl few (ih k))
 
   free-encoded : (n : ℕ) → replicate n none ≡ encoded f (padded n [])
   free-encoded zero = refl
@@ -96,6 +130,16 @@ module _ {A B : Type 0} (L : Layout A) (f : B → A) where
     pub encoded-room : room L T ≡ length s
     encoded-room = sym (length-view L T) ∙ ap length is ∙ length-encoded f s
 
+    -- the lowest that passes is changed, and no other does
+    pub encoded-changed : (g : B → A) (bad p : B → Bool) (q : A → Bool) (change : A → A) → ((x : B) → bad x ≡ false → q (f x) ≡ p x) → ((x : B) → p x ≡ true → change (f x) ≡ g x)
+        → ((x : B) → p x ≡ false → f x ≡ g x) → count bad (held s) ≡ 0 → count p (held s) ≤ 1 → view L (changed L T (found L q T) change) ≡ encoded g s
+    encoded-changed g bad p q change same this other fine few =
+        view-changed-found L q change T ∙ ap (change-first q change) is ∙ change-first-encoded f g bad p q change same this other s fine few
+
+    -- what is said of the first that passes
+    pub encoded-of-first : (q : A → Bool) (say : A → ℕ) → of-first q say (held (view L T)) ≡ of-first (λ x. q (f x)) (λ x. say (f x)) (held s)
+    encoded-of-first q say = ap (λ (v : List (Option A)). of-first q say (held v)) is ∙ of-first-encoded f q say s
+
   pub encoded-cleared : (T : Table) → view L (cleared T) ≡ encoded f (padded (room L T) [])
   encoded-cleared T = view-cleared L T ∙ free-encoded f (room L T)
 
@@ -106,29 +150,37 @@ abbrev pub unplaced : Alive → Bool
 unplaced (local t d h) = eqb t 0
 unplaced (shared h) = false
 
-pub alive-of-reference : (n : ℕ) (x : Alive) → unplaced x ≡ false → alive-of (reference-of n x) ≡ x
-alive-of-reference n (local t d h) k = rw k
-alive-of-reference n (shared h) k = refl
+pub alive-of-reference : (n class : ℕ) (x : Alive) → unplaced x ≡ false → alive-of (reference-of n class x) ≡ x
+alive-of-reference n class (local t d h) k = rw k
+alive-of-reference n class (shared h) k = refl
+
+pub class-of-reference : (n class : ℕ) (x : Alive) → reference-of n class x .class ≡ class
+class-of-reference n class (local t d h) = refl
+class-of-reference n class (shared h) = refl
+
+pub with-class-reference : (n class c : ℕ) (x : Alive) → with-class c (reference-of n class x) ≡ reference-of n c x
+with-class-reference n class c (local t d h) = refl
+with-class-reference n class c (shared h) = refl
 
 no-thread : (t : ℕ) → eqb t 0 ≡ false → eqb 0 t ≡ false
 no-thread t n = ne-eqb 0 t (λ z. eqb-false t 0 n (sym z))
 
-pub handle-is-local : (t h : ℕ) → eqb t 0 ≡ false → (line : ℕ) (x : Alive) → is-handle t h (reference-of line x) ≡ is-local t h x
-handle-is-local t h n line (local s d g) = and-comm (eqb g h) (eqb s t)
-handle-is-local t h n line (shared g) = rw (no-thread t n, and-false (eqb g h))
+pub handle-is-local : (t h : ℕ) → eqb t 0 ≡ false → (line class : ℕ) (x : Alive) → is-handle t h (reference-of line class x) ≡ is-local t h x
+handle-is-local t h n line class (local s d g) = and-comm (eqb g h) (eqb s t)
+handle-is-local t h n line class (shared g) = rw (no-thread t n, and-false (eqb g h))
 
-pub handle-is-shared : (h line : ℕ) (x : Alive) → unplaced x ≡ false → is-handle 0 h (reference-of line x) ≡ is-shared h x
-handle-is-shared h line (local s d g) k = rw (k, and-false (eqb g h))
-handle-is-shared h line (shared g) k = and-true (eqb g h)
+pub handle-is-shared : (h line class : ℕ) (x : Alive) → unplaced x ≡ false → is-handle 0 h (reference-of line class x) ≡ is-shared h x
+handle-is-shared h line class (local s d g) k = rw (k, and-false (eqb g h))
+handle-is-shared h line class (shared g) k = and-true (eqb g h)
 
 -- a local of thread t in frame d or above
 abbrev pub is-from : ℕ → ℕ → Alive → Bool
 is-from t d (local s c h) = leb d c && eqb s t
 is-from t d (shared h) = false
 
-pub frame-is-from : (t d : ℕ) → eqb t 0 ≡ false → (line : ℕ) (x : Alive) → from-frame t d (reference-of line x) ≡ is-from t d x
-frame-is-from t d n line (local s c h) = refl
-frame-is-from t d n line (shared h) = rw (no-thread t n, and-false (leb d 0))
+pub frame-is-from : (t d : ℕ) → eqb t 0 ≡ false → (line class : ℕ) (x : Alive) → from-frame t d (reference-of line class x) ≡ is-from t d x
+frame-is-from t d n line class (local s c h) = refl
+frame-is-from t d n line class (shared h) = rw (no-thread t n, and-false (leb d 0))
 
 -- ---- pins
 

@@ -8,13 +8,13 @@ use native.Mathlib.Omega.{arith}
 use lib.Dec.{eqb, ltb}
 use lib.ListN.{length, drop, length-append}
 use borrow.Author.Tests.{eqb-true, ltb-true, lt-ltb, le-ltb, not-true}
-use Rattle.words.specs.Choice.{if_then_else_, one}
+use Rattle.words.specs.Choice.{if_then_else_}
 use Rattle.words.specs.Lists.{keep, count}
 use Rattle.facts.specs.Table.{fact-of}
 use Rattle.facts.specs.Results.{is-buffer-result}
 use Rattle.facts.specs.declared.Result.{Result}
 use Rattle.facts.specs.declared.Result.the-variants as Result
-use Rattle.lines.specs.Line.{Line, N, X, C, R, Z, above-zero}
+use Rattle.lines.specs.Line.{Line, N, X, C, R, Z, states, above-zero}
 use Rattle.rows.specs.Slots.{held, wipe, wipe-first}
 use Rattle.history.specs.Past.{History, thread-of}
 use Rattle.history.specs.Frames.{depth}
@@ -236,6 +236,7 @@ one-made (R t f r p) d = go (fact-of f .result) (eqb (above-zero r) 0)
     go Result.Nothing true = omega arith
     go Result.Nothing false = omega arith
 one-made Z d = omega arith
+one-made (states s) d = omega arith
 
 one-a-line : (past : History) (n : ℕ) → count (made-in n everything) (held (pin-rows past)) + count (made-in n global-or-weak) (held (reference-rows past)) ≤ 1
 one-a-line [] n = unfold pin-rows reference-rows in omega arith

@@ -21,6 +21,7 @@ use Rattle.rows.specs.declared.pins.Pin.{Pin as PinRow}
 use Rattle.history.specs.Past.{History, closed}
 use Rattle.history.specs.Handles.{Alive, local, shared, global-or-weak}
 use Rattle.history.specs.Buffers.{Pin, ordinary, critical}
+use Rattle.history.specs.Statements.{class-stated}
 use Rattle.history.specs.Leaks.{Leak, made-at, by-what, leaks-of}
 use Rattle.history.specs.Acceptance.{Room}
 use Rattle.history.specs.Accepted.{Accepted}
@@ -40,7 +41,7 @@ use Rattle.demands.proofs.Encoding.{unplaced, unowned}
 use Rattle.demands.proofs.Placed.{rows-placed, pins-owned}
 use Rattle.demands.proofs.PastRoom.{rows-short, pins-short}
 use Rattle.demands.proofs.Weighed.{references-encoded, pins-encoded, held-references, held-pins}
-use Rattle.demands.proofs.Started.{fit}
+use Rattle.demands.proofs.Started.{fit-book}
 
 -- ---- rows read back
 
@@ -59,9 +60,9 @@ map-back {A} g f h (x ∷ l) z = go (g x) (h x) (count-cons g x l) (map-back g f
     go true k e ih = absurd (omega (arith, e, z))
     go false k e ih = ap₂ (λ (y : A) (m : List A). y ∷ m) (k refl) (ih (omega (arith, e, z)))
 
-handle-back : (n : ℕ) (x : Alive) → unplaced x ≡ false → made-alive (reference-of n x) ≡ made-at n x
-handle-back n (local t d h) k = rw k
-handle-back n (shared h) k = refl
+handle-back : (n class : ℕ) (x : Alive) → unplaced x ≡ false → made-alive (reference-of n class x) ≡ made-at n x
+handle-back n class (local t d h) k = rw k
+handle-back n class (shared h) k = refl
 
 pin-back : (n : ℕ) (x : Pin) → unowned x ≡ false → made-pin (pin-row-of n x) ≡ made-at n x
 pin-back n (ordinary k b) h = refl
@@ -74,9 +75,9 @@ module _ (room : Room) (T : Tables) (past : History) (tied : Tied room T past) (
   handles-back =
       let slots = padded (room .references) (reference-rows past) in
       ap (λ (v : List (Option Reference)). map made-alive (held v)) (references-encoded room T past tied so-far)
-      ∙ ap (map made-alive) (held-encoded-is reference-row slots ∙ ap (map reference-row) (held-references room T past tied so-far))
-      ∙ map-map made-alive reference-row (held (reference-rows past))
-      ∙ map-back (by-what unplaced) (λ x. made-alive (reference-row x)) (λ x k. handle-back (x .line) (x .what) k) (held (reference-rows past)) (rows-placed room past so-far)
+      ∙ ap (map made-alive) (held-encoded-is (reference-row past) slots ∙ ap (map (reference-row past)) (held-references room T past tied so-far))
+      ∙ map-map made-alive (reference-row past) (held (reference-rows past))
+      ∙ map-back (by-what unplaced) (λ x. made-alive (reference-row past x)) (λ x k. handle-back (x .line) (class-stated past (x .what)) (x .what) k) (held (reference-rows past)) (rows-placed room past so-far)
 
   pins-back : map made-pin (held (view pins (T .pins))) ≡ held (pin-rows past)
   pins-back =
@@ -93,7 +94,7 @@ module _ (room : Room) (T : Tables) (past : History) (tied : Tied room T past) (
 pub list-tied : (room : Room) (T : Tables) (past : History) → All-tied room T past → Accepted room past → (ns : List ℕ) → list-of T ns ≡ list-after past ns
 unfolding list-of list-after
 list-tied room T past k so-far ns =
-    rw (fit room T past (k .tables) (k .opened) so-far, k .tables .end-mark, leaks-tied room T past (k .tables) so-far)
+    rw (fit-book room T past (k .tables) (k .opened) so-far, k .tables .end-mark, leaks-tied room T past (k .tables) so-far)
 
 -- ---- how many
 

@@ -1,17 +1,17 @@
 -- Tied tables are tied again after an accepted line: first all but the open items, then the open items. Assumes nothing.
-use Prim.Native.Nat.{ℕ, suc, _≤_, _<_}
+use Prim.Native.Nat.{ℕ, suc, _-_, _≤_, _<_}
 use mathlib.Core.Path.{_≡_, refl, sym, ap, _∙_}
-use mathlib.Core.Bool.{Bool, true, _&&_}
+use mathlib.Core.Bool.{Bool, true, false, _&&_}
 use mathlib.Core.List.{List, _∷_, tail}
 use native.Mathlib.Decide.{ℕ-discrete}
 use native.Mathlib.Omega.{arith}
-use lib.Dec.{eqb, ltb}
-use lib.ListN.{length}
-use borrow.Author.Tests.{ne-eqb, ltb-true}
-use Rattle.words.specs.Choice.{if_then_else_}
+use lib.Dec.{eqb, leb, ltb}
+use lib.ListN.{length, set, length-set}
+use borrow.Author.Tests.{ne-eqb, ltb-true, leb-true, le-leb}
+use Rattle.words.specs.Choice.{if_then_else_, within}
 use Rattle.words.specs.Lists.{count}
 use Rattle.facts.specs.Named.{PushLocalFrame}
-use Rattle.lines.specs.Line.{Line, N, X, C, R, Z, is-allowed, is-zero, threads, above-zero}
+use Rattle.lines.specs.Line.{Line, N, X, C, R, Z, states, K, O, is-allowed, is-zero, threads, classes, is-class, above-zero}
 use Rattle.history.specs.Past.{History, thread-of, is-of, closed}
 use Rattle.history.specs.Items.{Item, items, items-after, top-of, asked}
 use Rattle.history.specs.Frames.{Frame, pushed, frames, frames-after, depth}
@@ -20,7 +20,9 @@ use Rattle.history.specs.Thread.{monitors}
 use Rattle.history.specs.Acceptance.{Room, deepest}
 use Rattle.history.specs.Replies.{most-lines}
 use Rattle.history.specs.Accepted.{Accepted, and-line}
-use Rattle.history.proofs.Tests.{eqb-self}
+use Rattle.rows.proofs.SlotLaws.{each-set}
+use Rattle.history.specs.Classes.{super-of}
+use Rattle.history.proofs.Tests.{and-left, and-right, eqb-self}
 use Rattle.history.proofs.Accepting.{passed}
 use Rattle.history.proofs.Threads.{own-items, other-items}
 use Rattle.history.proofs.Stacks.{monitors-in-lines}
@@ -31,9 +33,10 @@ use Rattle.book.specs.Changes.{pushed-item, stay, Kept, Changes, Traced}
 use Rattle.book.proofs.Changing.{item-pushed-changes, pushed-native, pushed-call, item-popped-changes}
 use Rattle.book.proofs.Tracing.{line-counted-traces, closed-set-traces}
 use Rattle.tables.specs.Tables.{Tables, handles-in}
-use Rattle.tables.specs.Acting.{book-after, acted, items-moved}
+use Rattle.tables.specs.Acting.{book-after, classes-after, acted, items-moved}
+use Rattle.classes.specs.Supers.{with-super}
 use Rattle.tables.specs.Stepping.{with-items}
-use Rattle.demands.specs.Tied.{past-thread, Tied, Items-tied}
+use Rattle.demands.specs.Tied.{past-classes, past-thread, Tied, Items-tied}
 use Rattle.demands.proofs.Weighed.{frames-own, handles-tied, own-frames-tied}
 use Rattle.demands.proofs.PastRoom.{Roomy, roomy}
 use Rattle.demands.proofs.Allowed.{is-a-thread, thread-within, asks}
@@ -148,20 +151,68 @@ module _ (room : Room) (T : Tables) (past : History) (tied : Tied room T past) (
 
       counted : Traced (closed-set (T .book)) (line-counted (closed-set (T .book))) (suc (lines-in (closed-set (T .book)))) (closed-in (closed-set (T .book)))
       counted = line-counted-traces (closed-set (T .book)) (omega (arith, over .as-long, tied .long)) (omega (arith, over .lines, tied .lines))
+  book-acted (states s) fine fits =
+      record {
+        threads-so = λ t. counted .threads t ∙ tied .threads t ∙ sym (past-thread-other t (states s) past refl);
+        items-same = counted .items;
+        lines-so = counted .lines ∙ ap suc (tied .lines);
+        closed-so = counted .end-mark ∙ tied .end-mark;
+        as-long = counted .as-long;
+        counts-kept = counted .kept;
+      }
+    where
+      counted : Traced (T .book) (line-counted (T .book)) (suc (lines-in (T .book))) (closed-in (T .book))
+      counted = line-counted-traces (T .book) (omega (arith, tied .long)) (omega (arith, tied .lines))
 
 -- all but the open items is tied again; n is what was asked of the open call on top
+-- K declares its class, and no other line touches the class table
+classes-acted : (room : Room) (T : Tables) (past : History) → Tied room T past → (e : Line) → is-allowed e ≡ true → classes-after e T ≡ past-classes (length (T .classes)) (e ∷ past)
+unfolding classes-after past-classes super-of with-super
+classes-acted room T past tied (N t env hs) fine = tied .class-table
+classes-acted room T past tied (X t r) fine = tied .class-table
+classes-acted room T past tied (C t env f a b c n) fine = tied .class-table
+classes-acted room T past tied (R t f r p) fine = tied .class-table
+classes-acted room T past tied Z fine = tied .class-table
+classes-acted room T past tied (states (O t h c)) fine = tied .class-table
+classes-acted room T past tied (states (K c s)) fine =
+    let k = and-left (is-class c) (is-class s) fine in
+    let low = leb-true 1 c (and-left (leb 1 c) (leb c classes) k) in
+    let high = leb-true c classes (and-right (leb 1 c) (leb c classes) k) in
+    let is : suc (c - 1) ≡ c = omega arith in
+    rw (le-leb 1 c low, le-leb c (length (T .classes)) (omega (arith, tied .all-classes)))
+    (ap (λ (cs : List ℕ). set cs (c - 1) s) (tied .class-table)
+    ∙ sym (each-set (λ i. super-of past (suc i)) (λ i. if eqb (suc i) c then s else super-of past (suc i)) (length (T .classes)) (c - 1) s (omega (arith, tied .all-classes))
+    (rw (is, eqb-self c))
+    (λ i n. rw (ne-eqb (suc i) c (λ z. n (omega (arith, z, is)))))))
+
+pub same-length : (e : Line) (T : Tables) → length (classes-after e T) ≡ length (T .classes)
+unfolding classes-after with-super
+same-length (N t env hs) T = refl
+same-length (X t r) T = refl
+same-length (C t env f a b c n) T = refl
+same-length (R t f r p) T = refl
+same-length Z T = refl
+same-length (states (O t h c)) T = refl
+same-length (states (K c s)) T = go (within 1 (length (T .classes)) c)
+  where
+    go : (q : Bool) → length (if q then set (T .classes) (c - 1) s else T .classes) ≡ length (T .classes)
+    go true = length-set (T .classes) (c - 1) s
+    go false = refl
+
 pub next : (room : Room) (T : Tables) (e : Line) (past : History) → Tied room T past → Accepted room (e ∷ past)
     → Tied room (acted (suc (length past)) e (asked (top-of (items (thread-of e) past))) T) (e ∷ past)
 unfolding acted
 next room T e past tied (and-line _ _ few fine no-refusal so-far) =
-    let book = book-acted room T past tied so-far few e fine (roomy room e past (passed room e past no-refusal .3)) in
+    let book = book-acted room T past tied so-far few e fine (roomy room e past (passed room e past no-refusal .rooms)) in
     record {
-      reference-table = references-acted room T past tied so-far e fine;
+      reference-table = references-acted room T past tied so-far e fine (passed room e past no-refusal);
       pin-table = pins-acted room T past tied so-far e fine;
       threads = book .threads-so;
       lines = book .lines-so;
       end-mark = book .closed-so;
       long = omega (arith, book .as-long, tied .long);
+      class-table = classes-acted room T past tied e fine ∙ ap (λ (n : ℕ). past-classes n (e ∷ past)) (sym (same-length e T));
+      all-classes = omega (arith, same-length e T, tied .all-classes);
     }
 
 -- and has not touched the open items
@@ -169,7 +220,7 @@ pub items-untouched : (room : Room) (T : Tables) (e : Line) (past : History) →
     → Items-tied (acted (suc (length past)) e (asked (top-of (items (thread-of e) past))) T .book) past
 unfolding acted
 items-untouched room T e past tied opened (and-line _ _ few fine no-refusal so-far) =
-    let book = book-acted room T past tied so-far few e fine (roomy room e past (passed room e past no-refusal .3)) in
+    let book = book-acted room T past tied so-far few e fine (roomy room e past (passed room e past no-refusal .rooms)) in
     record { open-items = λ s. book .items-same s ∙ opened .open-items s; counts = λ s. book .counts-kept s (opened .counts s) }
 
 -- ---- the open items
@@ -234,17 +285,25 @@ module _ (b : List ℕ) (past : History) (long : whole ≤ length b) (opened : I
         closed-same = refl;
         as-long = refl;
       }
+  items-acted room (states s) fine fits =
+      record {
+        items-so = record { open-items = λ t. opened .open-items t ∙ sym (other-items t (states s) past refl); counts = opened .counts };
+        threads-same = λ t. refl;
+        lines-same = refl;
+        closed-same = refl;
+        as-long = refl;
+      }
 
 -- the open items are tied again
 pub next-items : (room : Room) (b : List ℕ) (e : Line) (past : History) → whole ≤ length b → Items-tied b past → Accepted room (e ∷ past) → Items-tied (items-moved e b) (e ∷ past)
 next-items room b e past long opened (and-line _ _ few fine no-refusal so-far) =
-    items-acted b past long opened room e fine (roomy room e past (passed room e past no-refusal .3)) .items-so
+    items-acted b past long opened room e fine (roomy room e past (passed room e past no-refusal .rooms)) .items-so
 
 -- and nothing else is touched
 pub rest-untouched : (room : Room) (T : Tables) (e : Line) (past : History) → Tied room T (e ∷ past) → Items-tied (T .book) past → Accepted room (e ∷ past)
     → Tied room (with-items e T) (e ∷ past)
 rest-untouched room T e past tied opened (and-line _ _ few fine no-refusal so-far) =
-    let m = items-acted (T .book) past (tied .long) opened room e fine (roomy room e past (passed room e past no-refusal .3)) in
+    let m = items-acted (T .book) past (tied .long) opened room e fine (roomy room e past (passed room e past no-refusal .rooms)) in
     record {
       reference-table = tied .reference-table;
       pin-table = tied .pin-table;
@@ -252,4 +311,6 @@ rest-untouched room T e past tied opened (and-line _ _ few fine no-refusal so-fa
       lines = m .lines-same ∙ tied .lines;
       end-mark = m .closed-same ∙ tied .end-mark;
       long = omega (arith, m .as-long, tied .long);
+      class-table = tied .class-table;
+      all-classes = tied .all-classes;
     }

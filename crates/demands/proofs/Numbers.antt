@@ -7,15 +7,16 @@ use lib.Dec.{eqb, leb}
 use lib.ListN.{length}
 use Rattle.words.specs.Choice.{if_then_else_}
 use Rattle.facts.specs.Table.{fact-of, family}
+use Rattle.facts.specs.Classes.{no-class, class-made}
 use Rattle.facts.specs.Named.{PopLocalFrame}
 use Rattle.facts.specs.Results.{is-buffer-place}
-use Rattle.lines.specs.Line.{Line, N, X, C, R, Z}
+use Rattle.lines.specs.Line.{Line, N, X, C, R, Z, states, K, O}
 use Rattle.lines.specs.Reading.{Read, says, refused, read}
 use Rattle.rows.specs.Table.{Layout, Table, row, row-at, found, taken, ended-all}
 use Rattle.rows.specs.Exact.{Exact}
-use Rattle.rows.specs.References.{references, is-handle, from-frame}
+use Rattle.rows.specs.References.{references, with-class, is-handle, from-frame}
 use Rattle.rows.specs.Pins.{pins, is-buffer}
-use Rattle.rows.proofs.ExactLaws.{Clean, clean-cleared, clean-taken, clean-ended, clean-ended-all, exact}
+use Rattle.rows.proofs.ExactLaws.{Clean, clean-cleared, clean-taken, clean-changed, clean-ended, clean-ended-all, exact}
 use Rattle.history.specs.Past.{History, thread-of}
 use Rattle.history.specs.Items.{top-of, asked}
 use Rattle.history.specs.Frames.{without-native, top-pushed}
@@ -23,11 +24,10 @@ use Rattle.history.specs.Buffers.{gets}
 use Rattle.history.specs.Acceptance.{Room, made-by}
 use Rattle.history.specs.Replies.{Reply, accepted, not-accepted, most-lines}
 use Rattle.book.specs.Threads.{thread-in, items-in, lines-in}
-use Rattle.book.specs.Unfit.{unfit}
 use Rattle.tables.specs.Tables.{Tables, seen-in, reference-of, pin-row-of}
 use Rattle.tables.specs.Weighing.{weighed-in}
-use Rattle.tables.specs.Acting.{all-taken, first-ended, is-delete, delete-owner, pin-owner, references-after, pins-after, acted}
-use Rattle.tables.specs.Stepping.{untouched, follow, next-line, on-read, step-of, start-of}
+use Rattle.tables.specs.Acting.{all-taken, first-ended, is-delete, delete-owner, owner-of, pin-owner, references-after, pins-after, acted}
+use Rattle.tables.specs.Stepping.{untouched, follow, next-line, on-read, unfit-tables, step-of, start-of}
 use Rattle.demands.specs.Tied.{past-references, past-pins, Tied}
 use Rattle.demands.specs.Calls.{after}
 
@@ -52,7 +52,7 @@ record Clean-tables (T : Tables) : Type 0 where
 module _ (T : Tables) (k : Clean-tables T) where
   clean-references : (line : ℕ) (e : Line) → Clean references (references-after line e T)
   unfolding references-after
-  clean-references line (N t env hs) = clean-all-taken references (map (reference-of line) (made-by (N t env hs) (seen-in T))) (T .references) (k .reference-table)
+  clean-references line (N t env hs) = clean-all-taken references (map (reference-of line no-class) (made-by (N t env hs) (seen-in T))) (T .references) (k .reference-table)
   clean-references line (X t r) = clean-ended-all references (from-frame t (suc (length (without-native (thread-in (T .book) t .frames))))) (T .references) (k .reference-table)
   clean-references line (C t env f a b c n) = go (is-delete f a) (eqb f PopLocalFrame && top-pushed (thread-in (T .book) t .frames))
     where
@@ -63,8 +63,10 @@ module _ (T : Tables) (k : Clean-tables T) where
       go true q = clean-first-ended references (is-handle (delete-owner f t) a) (T .references) (k .reference-table)
       go false true = clean-ended-all references (from-frame t (length (thread-in (T .book) t .frames))) (T .references) (k .reference-table)
       go false false = k .reference-table
-  clean-references line (R t f r p) = clean-all-taken references (map (reference-of line) (made-by (R t f r p) (seen-in T))) (T .references) (k .reference-table)
-  clean-references line Z = clean-all-taken references (map (reference-of line) (made-by Z (seen-in T))) (T .references) (k .reference-table)
+  clean-references line (R t f r p) = clean-all-taken references (map (reference-of line (class-made f)) (made-by (R t f r p) (seen-in T))) (T .references) (k .reference-table)
+  clean-references line Z = clean-all-taken references (map (reference-of line no-class) (made-by Z (seen-in T))) (T .references) (k .reference-table)
+  clean-references line (states (K c s)) = clean-all-taken references (map (reference-of line no-class) (made-by (states (K c s)) (seen-in T))) (T .references) (k .reference-table)
+  clean-references line (states (O t h c)) = clean-changed references (is-handle (owner-of t h) h) (with-class c) (T .references) (k .reference-table)
 
   got-clean : (line : ℕ) (e : Line) → Clean pins (all-taken pins (T .pins) (map (pin-row-of line) (gets e)))
   got-clean line e = clean-all-taken pins (map (pin-row-of line) (gets e)) (T .pins) (k .pin-table)
@@ -80,6 +82,7 @@ module _ (T : Tables) (k : Clean-tables T) where
       go false = k .pin-table
   clean-pins line (R t f r p) = got-clean line (R t f r p)
   clean-pins line Z = got-clean line Z
+  clean-pins line (states s) = got-clean line (states s)
 
   clean-line : (line : ℕ) (e : Line) (n : ℕ) (r : Reply) → Clean-tables (follow line e n r T .left)
   unfolding acted
@@ -95,7 +98,7 @@ module _ (T : Tables) (k : Clean-tables T) where
   -- whatever the line is
   clean-step : (bs : List ℕ) → Clean-tables (step-of T bs .left)
   unfolding step-of
-  clean-step bs = go (unfit (T .book)) (leb most-lines (lines-in (T .book)))
+  clean-step bs = go (unfit-tables T) (leb most-lines (lines-in (T .book)))
     where
       go : (p q : Bool) → Clean-tables ((if p then untouched 8 T else if q then untouched 1 T else on-read (read bs) T) .left)
       go true q = k

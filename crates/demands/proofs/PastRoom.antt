@@ -9,7 +9,7 @@ use lib.Dec.{leb}
 use lib.ListN.{length, length-map}
 use borrow.Author.Tests.{leb-true, le-leb}
 use Rattle.words.specs.Lists.{count}
-use Rattle.lines.specs.Line.{Line, N, X, C, R, Z}
+use Rattle.lines.specs.Line.{Line, N, X, C, R, Z, states}
 use Rattle.rows.specs.Slots.{held, wipe, wipe-first}
 use Rattle.history.specs.Past.{History, thread-of}
 use Rattle.history.specs.Frames.{frames, depth}
@@ -63,7 +63,7 @@ rows-short room (e ∷ past) (and-line _ _ few fine no-refusal so-far) =
     short-put-all (room .references) new old
     (omega (
       arith,
-      roomy room e past (passed room e past no-refusal .3) .handles,
+      roomy room e past (passed room e past no-refusal .rooms) .handles,
       rows-hold-next room past so-far e everything,
       held-put-or-add-all everything new old,
       count-all new,
@@ -127,6 +127,7 @@ module _ (room : Room) (past : History) (so-far : Accepted room past) where
   references-left (C t env f a b c n) = none-more (C t env f a b c n) (unfold makes in refl)
   references-left (R t f r p) = all-fit (R t f r p) (rows-added room past so-far (R t f r p) (frames-grow-R t f r p (frames t past)) (λ x. refl))
   references-left Z = none-more Z (unfold makes in refl)
+  references-left (states s) = none-more (states s) (unfold makes in refl)
 
 -- ---- pins
 
@@ -143,7 +144,7 @@ pins-short room [] at-start = omega arith
 pins-short room (e ∷ past) (and-line _ _ few fine no-refusal so-far) =
     let number = made-at (suc (length past)) in
     short-put-all (room .pins) (map number (gets e)) (wipe-first (by-what (releases e)) (pin-rows past))
-    (omega (arith, roomy room e past (passed room e past no-refusal .3) .buffers, pin-count e past, length-map (gets e) number))
+    (omega (arith, roomy room e past (passed room e past no-refusal .rooms) .buffers, pin-count e past, length-map (gets e) number))
     (omega (arith, length-wipe-first (by-what (releases e)) (pin-rows past), pins-short room past so-far))
 
 module _ (room : Room) (past : History) (so-far : Accepted room past) where
@@ -179,3 +180,4 @@ module _ (room : Room) (past : History) (so-far : Accepted room past) where
   pins-left (C t env f a b c n) = no-more-pins (C t env f a b c n) (unfold gets in refl)
   pins-left (R t f r p) = all-pins-fit (R t f r p) (λ x. refl)
   pins-left Z = all-pins-fit Z (λ x. refl)
+  pins-left (states s) = all-pins-fit (states s) (λ x. refl)

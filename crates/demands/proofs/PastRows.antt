@@ -13,7 +13,7 @@ use Rattle.words.specs.Lists.{keep, count, but-first}
 use Rattle.facts.specs.Table.{fact-of}
 use Rattle.facts.specs.Named.{DeleteGlobalRef, DeleteLocalRef, DeleteWeakGlobalRef}
 use Rattle.facts.specs.Results.{is-buffer-place}
-use Rattle.lines.specs.Line.{Line, N, X, C, R, Z, kind}
+use Rattle.lines.specs.Line.{Line, N, X, C, R, Z, states, kind}
 use Rattle.rows.specs.Slots.{held, wipe, wipe-first}
 use Rattle.history.specs.Past.{History, thread-of}
 use Rattle.history.specs.Frames.{depth}
@@ -79,6 +79,7 @@ one-deleted (C t env f a b c n) l single = go (eqb f DeleteLocalRef) refl
         )
 one-deleted (R t f r p) l single = omega (arith, count-none l)
 one-deleted Z l single = omega (arith, count-none l)
+one-deleted (states s) l single = omega (arith, count-none l)
 
 -- what is left of a list without those that two tests take
 both-taken : (d g test : Bool) → (not d && (not g && test)) ≡ (not (d || g) && test)
@@ -141,6 +142,7 @@ released (C t env f a b c n) =
     (pin t f b, λ x h. same-pin-is (pin t f b) x (and-right (is-buffer-place (fact-of f .b)) (same-pin (pin t f b) x) h))
 released (R t f r p) = (ordinary 0 0, λ x h. absurd (false≢true h))
 released Z = (ordinary 0 0, λ x h. absurd (false≢true h))
+released (states s) = (ordinary 0 0, λ x h. absurd (false≢true h))
 
 -- the rows hold what is outstanding, whatever it is counted by; of every history
 pub pin-rows-hold : (past : History) (test : Pin → Bool) → count (by-what test) (held (pin-rows past)) ≡ count test (outstanding past)

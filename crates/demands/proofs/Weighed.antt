@@ -1,19 +1,21 @@
 -- Tied tables show what the history shows, and refuse what it refuses. Assumes nothing.
-use Prim.Native.Nat.{ℕ}
+use Prim.Native.Nat.{ℕ, zero, suc, _-_}
 use mathlib.Core.Path.{_≡_, refl, sym, ap, ap₂, _∙_, fun-ext}
-use mathlib.Core.Bool.{Bool, _&&_}
-use mathlib.Core.List.{_∷_}
+use mathlib.Core.Bool.{Bool, true, false, _&&_}
+use mathlib.Core.List.{List, [], _∷_}
 use native.Mathlib.Omega.{arith}
-use lib.Dec.{eqb}
-use lib.ListN.{length}
+use lib.Dec.{eqb, leb}
+use lib.ListN.{length, getD}
+use borrow.Author.Tests.{leb-true}
 use Rattle.words.specs.Choice.{if_then_else_}
-use Rattle.words.specs.Lists.{count, sum}
-use Rattle.lines.specs.Line.{Line, N, X, C, R, Z}
+use Rattle.words.specs.Lists.{count, sum, of-first}
+use Rattle.lines.specs.Line.{Line, N, X, C, R, Z, states, classes, is-class}
 use Rattle.rows.specs.Slots.{held}
 use Rattle.rows.specs.Table.{room as room-of-rows, alive}
 use Rattle.rows.specs.View.{view}
 use Rattle.rows.specs.References.{references}
 use Rattle.rows.specs.Pins.{pins}
+use Rattle.rows.proofs.SlotLaws.{getD-each}
 use Rattle.history.specs.Past.{History, thread-of, through, closed}
 use Rattle.history.specs.Items.{items, top-of}
 use Rattle.history.specs.Frames.{frames, frames-after, depth}
@@ -21,39 +23,54 @@ use Rattle.history.specs.Handles.{Alive, makes, living}
 use Rattle.history.specs.Buffers.{Pin, outstanding}
 use Rattle.history.specs.Thread.{all-threads, monitors}
 use Rattle.history.specs.Leaks.{Made, by-what}
+use Rattle.history.specs.Statements.{names, class-stated}
+use Rattle.history.specs.Classes.{super-of}
 use Rattle.history.specs.Seen.{Seen, seen}
-use Rattle.history.specs.Acceptance.{Room, everything, in-step, env-right, made-by, makes-anew, has-room, has-item-room, first-refusal, refusal}
+use Rattle.history.specs.Acceptance.{Room, everything, in-step, env-right, made-by, makes-anew, classes-right, names-alive, has-room, has-item-room, first-refusal, refusal}
 use Rattle.history.specs.Findings.{of-line}
 use Rattle.history.specs.Replies.{accepted, not-accepted}
 use Rattle.history.specs.Accepted.{Accepted}
-use Rattle.history.proofs.Tests.{eqb-self}
-use Rattle.history.proofs.Counts.{count-all}
+use Rattle.history.proofs.Tests.{and-left, and-right, eqb-self}
+use Rattle.history.proofs.Counts.{count-all, some-member}
 use Rattle.history.proofs.Threads.{own-frames}
+use Rattle.history.proofs.Classes.{super-in-range}
+use Rattle.history.proofs.Stated.{names-means, same-class-stated, of-first-member, of-first-none}
 use Rattle.history.proofs.Stacks.{monitors-in-lines, at-most-a-million}
 use Rattle.book.specs.Threads.{Thread, thread-in, all-monitors}
 use Rattle.book.proofs.Fitness.{all-monitors-are}
-use Rattle.tables.specs.Tables.{Tables, alive-of, pin-of, handles-in, buffers-in, seen-in}
+use Rattle.tables.specs.Tables.{Tables, alive-of, pin-of, handles-in, buffers-in, class-in, seen-in}
+use Rattle.classes.specs.Supers.{super-in}
 use Rattle.tables.specs.Weighing.{rows-left, refusal-in, weighed-in}
 use Rattle.demands.specs.PastRows.{padded, reference-rows, pin-rows}
-use Rattle.demands.specs.Tied.{encoded, reference-row, pin-row, past-references, past-pins, past-thread, Tied}
+use Rattle.demands.specs.Tied.{encoded, reference-row, pin-row, past-references, past-pins, past-classes, past-thread, Tied}
 use Rattle.demands.proofs.Slots.{count-same, length-padded, held-padded}
 use Rattle.demands.proofs.PastRows.{rows-hold, pin-rows-hold}
 use Rattle.demands.proofs.PastRoom.{rows-short, references-left, pins-short, pins-left}
-use Rattle.demands.proofs.Encoding.{encoded-counted, encoded-alive, encoded-room, unplaced, alive-of-reference, unowned, pin-of-row}
+use Rattle.demands.proofs.Encoding.{encoded-counted, encoded-alive, encoded-room, encoded-of-first, unplaced, alive-of-reference, class-of-reference, unowned, pin-of-row}
 use Rattle.demands.proofs.Placed.{rows-placed, pins-owned}
 
--- a line's own thread, and no thread for Z
+-- a line's own thread, and no thread for Z and statements
 pub frames-own : (e : Line) (past : History) → frames (thread-of e) (e ∷ past) ≡ frames-after e (frames (thread-of e) past)
 frames-own (N t env hs) past = own-frames t (N t env hs) past (eqb-self t)
 frames-own (X t r) past = own-frames t (X t r) past (eqb-self t)
 frames-own (C t env f a b c n) past = own-frames t (C t env f a b c n) past (eqb-self t)
 frames-own (R t f r p) past = own-frames t (R t f r p) past (eqb-self t)
 frames-own Z past = unfold frames through in refl
+frames-own (states s) past = unfold frames through in refl
+
+of-first-same : {A : Type 0} (bad p q : A → Bool) (f g : A → ℕ) → ((x : A) → bad x ≡ false → p x ≡ q x) → ((x : A) → f x ≡ g x) → (l : List A) → count bad l ≡ 0 → of-first p f l ≡ of-first q g l
+of-first-same bad p q f g same says [] fine = refl
+of-first-same bad p q f g same says (x ∷ l) fine = go (bad x) refl fine (λ k. of-first-same bad p q f g same says l k)
+  where
+    go : (b : Bool) → bad x ≡ b → (if b then suc (count bad l) else count bad l) ≡ 0 → (count bad l ≡ 0 → of-first p f l ≡ of-first q g l)
+        → of-first p f (x ∷ l) ≡ of-first q g (x ∷ l)
+    go true e k ih = absurd (omega (arith, k))
+    go false e k ih = rw (same x e, says x, ih k)
 
 module _ (room : Room) (T : Tables) (past : History) (tied : Tied room T past) (so-far : Accepted room past) where
   -- ---- what the tables show
 
-  pub references-encoded : view references (T .references) ≡ encoded reference-row (padded (room .references) (reference-rows past))
+  pub references-encoded : view references (T .references) ≡ encoded (reference-row past) (padded (room .references) (reference-rows past))
   references-encoded = unfold past-references in tied .reference-table
 
   pub pins-encoded : view pins (T .pins) ≡ encoded pin-row (padded (room .pins) (pin-rows past))
@@ -68,9 +85,9 @@ module _ (room : Room) (T : Tables) (past : History) (tied : Tied room T past) (
   pub handles-tied : (test : Alive → Bool) → handles-in (T .references) test ≡ count test (living past)
   unfolding handles-in
   handles-tied test =
-      encoded-counted references reference-row (T .references) (padded (room .references) (reference-rows past)) references-encoded (λ x. test (alive-of x))
-      ∙ ap (count (λ (x : Made Alive). test (alive-of (reference-row x)))) held-references
-      ∙ count-same (by-what unplaced) (λ x. test (alive-of (reference-row x))) (by-what test) (λ x k. ap test (alive-of-reference (x .line) (x .what) k)) (held (reference-rows past)) (rows-placed room past so-far)
+      encoded-counted references (reference-row past) (T .references) (padded (room .references) (reference-rows past)) references-encoded (λ x. test (alive-of x))
+      ∙ ap (count (λ (x : Made Alive). test (alive-of (reference-row past x)))) held-references
+      ∙ count-same (by-what unplaced) (λ x. test (alive-of (reference-row past x))) (by-what test) (λ x k. ap test (alive-of-reference (x .line) (class-stated past (x .what)) (x .what) k)) (held (reference-rows past)) (rows-placed room past so-far)
       ∙ rows-hold room past so-far test
 
   buffers-tied : (test : Pin → Bool) → buffers-in (T .pins) test ≡ count test (outstanding past)
@@ -80,6 +97,43 @@ module _ (room : Room) (T : Tables) (past : History) (tied : Tied room T past) (
       ∙ ap (count (λ (x : Made Pin). test (pin-of (pin-row x)))) held-pins
       ∙ count-same (by-what unowned) (λ x. test (pin-of (pin-row x))) (by-what test) (λ x k. ap test (pin-of-row (x .line) (x .what) k)) (held (pin-rows past)) (pins-owned room past so-far)
       ∙ pin-rows-hold past test
+
+  -- a row's class is the one stated of its handle
+  class-tied : (t h : ℕ) → class-in (T .references) t h ≡ of-first (names t h) (class-stated past) (living past)
+  unfolding class-in
+  class-tied t h =
+      encoded-of-first references (reference-row past) (T .references) (padded (room .references) (reference-rows past)) references-encoded (λ x. names t h (alive-of x)) (λ x. x .class)
+      ∙ ap (of-first (λ x. names t h (alive-of (reference-row past x))) (λ x. reference-row past x .class)) held-references
+      ∙ of-first-same (by-what unplaced) (λ x. names t h (alive-of (reference-row past x))) (by-what (names t h)) (λ x. reference-row past x .class) (λ x. class-stated past (x .what))
+      (λ x k. ap (names t h) (alive-of-reference (x .line) (class-stated past (x .what)) (x .what) k))
+      (λ x. class-of-reference (x .line) (class-stated past (x .what)) (x .what)) (held (reference-rows past)) (rows-placed room past so-far)
+      ∙ go (count (names t h) (living past)) refl
+    where
+      go : (n : ℕ) → count (names t h) (living past) ≡ n → of-first (by-what (names t h)) (λ x. class-stated past (x .what)) (held (reference-rows past)) ≡ of-first (names t h) (class-stated past) (living past)
+      go zero none =
+          of-first-none (by-what (names t h)) (λ x. class-stated past (x .what)) (held (reference-rows past)) (rows-hold room past so-far (names t h) ∙ none)
+          ∙ sym (of-first-none (names t h) (class-stated past) (living past) none)
+      go (suc n) some =
+          let (x, i, k) = some-member (names t h) (living past) (omega (arith, some)) in
+          let (y, j, l) = some-member (by-what (names t h)) (held (reference-rows past)) (omega (arith, some, rows-hold room past so-far (names t h))) in
+          of-first-member (by-what (names t h)) (λ z. class-stated past (z .what)) (held (reference-rows past)) y j l
+          (λ z m. same-class-stated past t h (z .what) (y .what) (names-means t h (z .what) m) (names-means t h (y .what) l))
+          ∙ same-class-stated past t h (y .what) x (names-means t h (y .what) l) (names-means t h x k)
+          ∙ sym (of-first-member (names t h) (class-stated past) (living past) x i k (λ z m. same-class-stated past t h z x (names-means t h z m) (names-means t h x k)))
+
+  super-tied : (c : ℕ) → super-in (T .classes) c ≡ super-of past c
+  unfolding super-in past-classes
+  super-tied c = go (is-class c) refl
+    where
+      go : (q : Bool) → is-class c ≡ q → (if q then getD (T .classes) (c - 1) 0 else 0) ≡ super-of past c
+      go true k =
+          let low = leb-true 1 c (and-left (leb 1 c) (leb c classes) k) in
+          let high = leb-true c classes (and-right (leb 1 c) (leb c classes) k) in
+          let is : suc (c - 1) ≡ c = omega arith in
+          ap (λ (cs : List ℕ). getD cs (c - 1) 0) (tied .class-table)
+          ∙ getD-each (λ i. super-of past (suc i)) (length (T .classes)) (c - 1) 0 (omega (arith, tied .all-classes))
+          ∙ ap (super-of past) is
+      go false k = sym (super-in-range room past so-far c k)
 
   monitors-tied : all-monitors (T .book) ≡ sum (λ t. monitors t past) all-threads
   unfolding past-thread
@@ -101,6 +155,8 @@ module _ (room : Room) (T : Tables) (past : History) (tied : Tied room T past) (
         all-monitors = monitors-tied i;
         handles = λ test. handles-tied test i;
         buffers = λ test. buffers-tied test i;
+        class = λ t h. class-tied t h i;
+        super = λ c. super-tied c i;
         closed = tied .end-mark i;
       }
 
@@ -112,7 +168,7 @@ module _ (room : Room) (T : Tables) (past : History) (tied : Tied room T past) (
 
   alive-tied : alive references (T .references) ≡ length (held (reference-rows past))
   alive-tied =
-      encoded-alive references reference-row (T .references) (padded (room .references) (reference-rows past)) references-encoded ∙ ap length held-references
+      encoded-alive references (reference-row past) (T .references) (padded (room .references) (reference-rows past)) references-encoded ∙ ap length held-references
 
   pins-tied : alive pins (T .pins) ≡ length (held (pin-rows past))
   pins-tied = encoded-alive pins pin-row (T .pins) (padded (room .pins) (pin-rows past)) pins-encoded ∙ ap length held-pins
@@ -126,7 +182,7 @@ module _ (room : Room) (T : Tables) (past : History) (tied : Tied room T past) (
 
   room-references : room-of-rows references (T .references) ≡ room .references
   room-references =
-      encoded-room references reference-row (T .references) (padded (room .references) (reference-rows past)) references-encoded
+      encoded-room references (reference-row past) (T .references) (padded (room .references) (reference-rows past)) references-encoded
       ∙ length-padded (room .references) (reference-rows past)
 
   room-pins : room-of-rows pins (T .pins) ≡ room .pins
@@ -153,8 +209,8 @@ module _ (room : Room) (T : Tables) (past : History) (tied : Tied room T past) (
     refusal-tied =
         let top = top-of (items (thread-of e) past) in
         let many = length (items (thread-of e) past) in
-        ap (λ (v : Seen). first-refusal (in-step e top (v .closed)) (env-right e v) (makes-anew e v) (rows-left e T && has-item-room e many)) seen-tied
-        ∙ ap (λ (q : Bool). first-refusal (in-step e top (seen past .closed)) (env-right e (seen past)) (makes-anew e (seen past)) (q && has-item-room e many)) rows-left-tied
+        ap (λ (v : Seen). first-refusal (in-step e top (v .closed)) (env-right e v) (makes-anew e v) (classes-right e v) (names-alive e v) (rows-left e T && has-item-room e many)) seen-tied
+        ∙ ap (λ (q : Bool). first-refusal (in-step e top (seen past .closed)) (env-right e (seen past)) (makes-anew e (seen past)) (classes-right e (seen past)) (names-alive e (seen past)) (q && has-item-room e many)) rows-left-tied
 
     -- the same reply
     pub weighed-tied : (line : ℕ) → weighed-in line e (top-of (items (thread-of e) past)) (length (items (thread-of e) past)) T

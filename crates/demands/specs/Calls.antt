@@ -4,6 +4,7 @@ use mathlib.Core.List.{List, [], _∷_, _++_}
 use mathlib.Core.Path.{_≡_}
 use lib.ListN.{length}
 use Rattle.words.specs.Lists.{joined}
+use Rattle.lines.specs.Line.{classes}
 use Rattle.rows.specs.Table.{room}
 use Rattle.rows.specs.References.{references}
 use Rattle.rows.specs.Pins.{pins}
@@ -22,9 +23,9 @@ use Rattle.tables.specs.Stepping.{step-of, start-of}
 unfoldable pub room-of : Tables → Room
 room-of T = record { references = room references (T .references); pins = room pins (T .pins) }
 
--- the lent thread book is not short
+-- the lent thread book and the class table are not short
 abbrev pub Long : Tables → Type 0
-Long T = whole ≤ length (T .book)
+Long T = (whole ≤ length (T .book)) × (classes ≤ length (T .classes))
 
 -- tables of equal lengths, whatever they hold
 pub record Alike (S T : Tables) : Type 0 where
@@ -33,6 +34,7 @@ pub record Alike (S T : Tables) : Type 0 where
   pub pin-rows : length (S .pins .rows) ≡ length (T .pins .rows)
   pub pin-marks : length (S .pins .marks) ≡ length (T .pins .marks)
   pub books : length (S .book) ≡ length (T .book)
+  pub class-tables : length (S .classes) ≡ length (T .classes)
 
 -- ---- calls stand newest first, refused ones among them
 

@@ -22,15 +22,15 @@ use Rattle.history.specs.Paper.{Broken}
 use Rattle.history.specs.Acceptance.{Room}
 use Rattle.history.specs.Findings.{findings}
 use Rattle.history.specs.Replies.{not-accepted, most-lines, reply, heard}
-use Rattle.history.specs.Refusals.{In-step, Wrong-env, Made-again, Exceeds}
+use Rattle.history.specs.Refusals.{In-step, Wrong-env, Made-again, Wrong-class, Names-dead, Exceeds}
 use Rattle.history.specs.Verdicts.{Weighs}
 use Rattle.history.specs.Report.{report}
 use Rattle.book.specs.Unfit.{unfit}
 use Rattle.tables.specs.Tables.{Tables}
-use Rattle.tables.specs.Stepping.{step-of, start-of}
+use Rattle.tables.specs.Stepping.{unfit-tables, step-of, start-of}
 use Rattle.tables.specs.Listing.{leak-numbers, written, not-written, lists as listing, list-of}
 use Rattle.demands.specs.PastRows.{reference-rows, pin-rows}
-use Rattle.demands.specs.Tied.{past-references, past-pins, Tied, Items-tied}
+use Rattle.demands.specs.Tied.{past-references, past-pins, past-classes, Tied, Items-tied}
 use Rattle.demands.specs.Leaks.{leaks, list-after}
 use Rattle.demands.specs.Leaked.{Leaked, Line-of-R, of-rule, is-leak, is-owned}
 use Rattle.demands.specs.Calls.{room-of, Long, Alike, from-start, heard-by, all-found, report-in}
@@ -43,6 +43,8 @@ pub record Out-of-room (room : Room) (past : History) (bs : List ℕ) : Type 0 w
   pub turn : In-step past line
   pub its-env : ¬ Wrong-env past line
   pub anew : ¬ Made-again past line
+  pub right-classes : ¬ Wrong-class past line
+  pub alive : ¬ Names-dead past line
   pub over : Exceeds room (line ∷ past)
 
 -- of lent tables, whatever they hold
@@ -50,14 +52,14 @@ pub record Of-any-tables (T : Tables) : Type 0 where
   -- "Each leaves rows, marks, book and findings untouched and returns only its number."
   pub refusal-changes-nothing : (bs : List ℕ) (k : ℕ) → step-of T bs .reply ≡ not-accepted k → step-of T bs .left ≡ T
   -- its number is one of the paper's
-  pub refusal-numbered : (bs : List ℕ) (k : ℕ) → step-of T bs .reply ≡ not-accepted k → (1 ≤ k) × (k ≤ 8)
-  -- 8 is "given exactly when" the lent thread book is not fit, whatever the line
-  pub eight-exactly : (bs : List ℕ) → (step-of T bs .reply ≡ not-accepted 8) ↔ (unfit (T .book) ≡ true)
+  pub refusal-numbered : (bs : List ℕ) (k : ℕ) → step-of T bs .reply ≡ not-accepted k → (1 ≤ k) × (k ≤ 10)
+  -- 8 is "given exactly when" the lent thread book is not fit or the class table is short, whatever the line
+  pub eight-exactly : (bs : List ℕ) → (step-of T bs .reply ≡ not-accepted 8) ↔ (unfit-tables T ≡ true)
   -- of the list: 8, then 4 before Z, then 7, "nothing written", and nothing else
   pub list-untouched : (ns : List ℕ) (k : ℕ) → list-of T ns .reply ≡ not-written k → list-of T ns .left ≡ ns
   pub list-numbered : (ns : List ℕ) (k : ℕ) → list-of T ns .reply ≡ not-written k → (k ≡ 8) ⊎ (k ≡ 4) ⊎ (k ≡ 7)
   pub list-eight : (ns : List ℕ) → (list-of T ns .reply ≡ not-written 8) ↔ (unfit (T .book) ≡ true)
-  -- "A start call clears all rows, marks and book": it forgets whatever stood there
+  -- "A start call clears all rows, marks and book", and the class table: it forgets whatever stood there
   pub start-forgets : (S : Tables) → Alike S T → start-of S ≡ start-of T
 
 -- of the rows of the past, after any calls
@@ -87,7 +89,7 @@ pub record From-a-start (T : Tables) (calls : List (List ℕ)) : Type 0 where
   pub replies : (bs : List ℕ) → step-of (from-start T calls) bs .reply ≡ reply (room-of T) (heard-by T calls) bs
   -- all the breaches of the lines heard and nothing besides, in their order
   pub all-breaches : all-found (start-of T) calls ≡ findings (heard-by T calls)
-  -- "Numbers given instead of an event": each of 1 to 7 "given exactly when", "tested in this order"
+  -- "Numbers given instead of an event": each of 1 to 7, 9 and 10 "given exactly when", "tested in this order"
   pub refused-exactly : (bs : List ℕ) (k : ℕ)
       → (step-of (from-start T calls) bs .reply ≡ not-accepted k) ↔ Weighs (room-of T) (heard-by T calls) bs (refused k)
   -- 7: "after it the alive handles, the outstanding buffers, or a thread's items or frames would exceed room"
@@ -106,7 +108,7 @@ pub record From-a-start (T : Tables) (calls : List (List ℕ)) : Type 0 where
       ≡ listing (written (length (leaks (heard-by T calls))))
       (joined (leaks (heard-by T calls)) (λ x. x .rule ∷ x .thread ∷ x .value ∷ x .line ∷ []) ++ drop (length (leaks (heard-by T calls)) * 4) ns)
   -- 8 never comes
-  pub never-eight : unfit (from-start T calls .book) ≡ false
+  pub never-eight : unfit-tables (from-start T calls) ≡ false
   -- "all it leaves in lent rows, marks and book": the rows of the past, and each thread's record by the history
   pub tables-are : Tied (room-of T) (from-start T calls) (heard-by T calls)
   -- and its open items
@@ -119,7 +121,9 @@ pub record From-a-start (T : Tables) (calls : List (List ℕ)) : Type 0 where
   pub reference-numbers : Exact references (from-start T calls .references) (past-references (room-of T .references) (heard-by T calls))
   -- and each pin row
   pub pin-numbers : Exact pins (from-start T calls .pins) (past-pins (room-of T .pins) (heard-by T calls))
-  -- every number of rows, marks and book is fixed by the lines heard, whatever stood there before the start and whatever was refused since
+  -- each number of the class table: the super declared of its class, or 0
+  pub class-numbers : from-start T calls .classes ≡ past-classes (length (T .classes)) (heard-by T calls)
+  -- every number of rows, marks, book and class table is fixed by the lines heard, whatever stood there before the start and whatever was refused since
   pub fixed-by-history : (S : Tables) → Alike S T → (others : List (List ℕ)) → heard-by T others ≡ heard-by T calls → from-start S others ≡ from-start T calls
 
 pub record Demands : Type 0 where

@@ -1,9 +1,11 @@
 -- The lent tables hold what the accepted lines say, and nothing besides. Assumes nothing.
-use Prim.Native.Nat.{ℕ, _≤_}
+use Prim.Native.Nat.{ℕ, suc, _≤_}
 use mathlib.Core.Path.{_≡_}
 use mathlib.Core.List.{List, [], _∷_}
 use mathlib.Core.Option.{Option, none, some}
 use lib.ListN.{length}
+use Rattle.lines.specs.Line.{classes}
+use Rattle.rows.specs.Table.{each}
 use Rattle.rows.specs.View.{view}
 use Rattle.rows.specs.References.{references}
 use Rattle.rows.specs.Pins.{pins}
@@ -17,6 +19,8 @@ use Rattle.history.specs.Items.{items}
 use Rattle.history.specs.Frames.{frames}
 use Rattle.history.specs.Capacities.{capacities}
 use Rattle.history.specs.Thread.{pending, monitors, env-of}
+use Rattle.history.specs.Classes.{super-of}
+use Rattle.history.specs.Statements.{class-stated}
 use Rattle.history.specs.Acceptance.{Room}
 use Rattle.book.specs.Layout.{whole, cell}
 use Rattle.book.specs.Threads.{Thread, thread-in, items-in, lines-in, closed-in}
@@ -31,19 +35,23 @@ module _ {A B : Type 0} where
   encoded f (none ∷ s) = none ∷ encoded f s
   encoded f (some x ∷ s) = some (f x) ∷ encoded f s
 
--- what was made, as a row
-abbrev pub reference-row : Made Alive → Reference
-reference-row x = reference-of (x .line) (x .what)
+-- what was made, as a row, with the class stated of it so far
+abbrev pub reference-row : History → Made Alive → Reference
+reference-row past x = reference-of (x .line) (class-stated past (x .what)) (x .what)
 
 abbrev pub pin-row : Made Pin → PinRow
 pin-row x = pin-row-of (x .line) (x .what)
 
 -- the lent rows that stand for the rows of the past, in a room of n
 unfoldable pub past-references : ℕ → History → List (Option Reference)
-past-references n past = encoded reference-row (padded n (reference-rows past))
+past-references n past = encoded (reference-row past) (padded n (reference-rows past))
 
 unfoldable pub past-pins : ℕ → History → List (Option PinRow)
 past-pins n past = encoded pin-row (padded n (pin-rows past))
+
+-- a class table of n numbers by the history: the super declared of each class, 0 where none is
+unfoldable pub past-classes : ℕ → History → List ℕ
+past-classes n past = each (λ i. super-of past (suc i)) n
 
 -- a thread by the history, but for its open items
 unfoldable pub past-thread : ℕ → History → Thread
@@ -64,6 +72,8 @@ pub record Tied (room : Room) (T : Tables) (past : History) : Type 0 where
   pub lines : lines-in (T .book) ≡ length past
   pub end-mark : closed-in (T .book) ≡ closed past
   pub long : whole ≤ length (T .book)
+  pub class-table : T .classes ≡ past-classes (length (T .classes)) past
+  pub all-classes : classes ≤ length (T .classes)
 
 -- the open items, and the counts that stand with them
 pub record Items-tied (b : List ℕ) (past : History) : Type 0 where

@@ -9,9 +9,12 @@ use borrow.Author.Tests.{not-true, not-false}
 use lib.IntN.{ℤ}
 use Rattle.words.specs.Choice.{if_then_else_}
 use Rattle.facts.specs.declared.Result.{Result}
-use Rattle.lines.specs.Line.{N, X, C, R, Z, is-zero}
+use Rattle.lines.specs.Line.{Statement, N, X, C, R, Z, K, O, states, is-zero}
 use Rattle.lines.specs.Events.{result-in-line}
 use Rattle.history.specs.Items.{Item, asked}
+use Rattle.history.specs.Seen.{Seen}
+use Rattle.history.specs.Breaches.{place-rule, rule-at, line-rule, breach}
+use Rattle.history.specs.Findings.{of-line}
 use Rattle.book.specs.Threads.{closed-in}
 use Rattle.answers.specs.declared.Answer.{Answer}
 use Rattle.answers.specs.Answer.{refused-with, answer-of}
@@ -25,22 +28,28 @@ use Rattle.sight.specs.declared.leave.LeaveSight.{LeaveSight}
 use Rattle.sight.specs.declared.call.CallSight.{CallSight}
 use Rattle.sight.specs.declared.returns.ReturnSight.{ReturnSight}
 use Rattle.sight.specs.declared.end.EndSight.{EndSight}
-use Rattle.sight.specs.Sights.{enter-sight, leave-sight, call-sight, end-sight}
+use Rattle.sight.specs.declared.declare.DeclareSight.{DeclareSight}
+use Rattle.sight.specs.declared.state.StateSight.{StateSight}
+use Rattle.sight.specs.Sights.{enter-sight, leave-sight, call-sight, end-sight, declare-sight, state-sight}
 use Rattle.sight.specs.Returns.{return-sight}
-use Rattle.sight.proofs.RowLaws.{deleted-row, released-row, place-told}
+use Rattle.sight.proofs.RowLaws.{deleted-row, released-row, place-told, stated-row}
 use Rattle.sight.proofs.ReturnLaws.{handle-row, buffer-row, kind-told}
 use Rattle.weigh.specs.Enter.{enter-turn, enter-refusal}
 use Rattle.weigh.specs.Leave.{leave-refusal, judged-leave}
 use Rattle.weigh.specs.Call.{call-refusal, judged-call}
 use Rattle.weigh.specs.Returns.{return-turn, return-refusal, found-return}
 use Rattle.weigh.specs.End.{found-end}
-use Rattle.weigh.proofs.Refused.{enter-told, leave-told, call-told, end-told}
+use Rattle.weigh.specs.Declare.{declare-refusal}
+use Rattle.weigh.specs.State.{state-refusal}
+use Rattle.weigh.proofs.Refused.{enter-told, leave-told, call-told, end-told, declare-told, state-told}
 use Rattle.weigh.proofs.ReturnRefused.{return-told}
 use Rattle.weigh.proofs.Found.{leave-found, call-found, return-found, end-found}
 use Rattle.act.specs.Calls.{called}
 use Rattle.act.specs.Returns.{returned}
+use Rattle.act.specs.Statements.{stated}
 use Rattle.act.proofs.Calling.{called-is-acted}
 use Rattle.act.proofs.Returning.{returned-is-acted}
+use Rattle.act.proofs.Stating.{stated-is-acted}
 use Rattle.events.specs.Outcome.{leaves, line-outcome}
 use Rattle.events.proofs.Outcomes.{stays, goes}
 
@@ -156,3 +165,49 @@ module _ (T : Tables) (line : ℕ) (closed : Bool) (ec : closed ≡ closed-in (T
       → leaves y S ≡ line-outcome line Z top many T
   end-goes v S q ev es ey =
       goes line Z top many T y _ S (end-told T top many ∙ ap (λ (o : Bool). if o then 4 else 0) (sym ec ∙ q)) ey (ap (found-end line) ev ∙ end-found T line) (es (asked top))
+
+-- ---- K and O
+
+-- no rule is of a statement
+nothing-found : (line : ℕ) (s : Statement) (v : Seen) → [] ≡ of-line line (states s) v
+unfolding of-line breach rule-at line-rule place-rule
+nothing-found line s v = refl
+
+module _ (T : Tables) (top : Option Item) (many c s line : ℕ) (closed : Bool) (v : DeclareSight) (k : ℕ) (ec : closed ≡ closed-in (T .book)) (ev : v ≡ declare-sight T c s)
+    (ek : k ≡ declare-refusal closed v) where
+  declare-number : k ≡ refusal-in (states (K c s)) top many T
+  declare-number = ek ∙ ap₂ declare-refusal ec ev ∙ sym (declare-told T top many c s)
+
+  pub declare-stays : (y : Answer) → (k ≡ 0 → ⊥) → y ≡ refused-with k → leaves y T ≡ line-outcome line (states (K c s)) top many T
+  declare-stays y z ey = stays line (states (K c s)) top many T y k declare-number z ey
+
+  pub declare-goes : (y : Answer) (S : Tables) → k ≡ 0 → y ≡ answer-of [] → ((i : ℕ) → S ≡ acted line (states (K c s)) i T)
+      → leaves y S ≡ line-outcome line (states (K c s)) top many T
+  declare-goes y S z ey es =
+      goes line (states (K c s)) top many T y [] S (sym declare-number ∙ z) ey (nothing-found line (K c s) (seen-in T)) (es (asked top))
+
+-- an accepted O names a handle alive
+names-one : (closed : Bool) (v : StateSight) → state-refusal closed v ≡ 0 → v .alive ≡ true
+unfolding state-refusal
+names-one closed v = go closed (v .known) (v .alive)
+  where
+    go : (closed known alive : Bool) → _≡_ {A = ℕ} (if closed then 4 else if not known then 9 else if not alive then 10 else 0) 0 → alive ≡ true
+    go true known alive h = absurd (omega (arith, h))
+    go false false alive h = absurd (omega (arith, h))
+    go false true false h = absurd (omega (arith, h))
+    go false true true h = refl
+
+module _ (T : Tables) (top : Option Item) (many t h c line : ℕ) (closed : Bool) (v : StateSight) (k : ℕ) (ec : closed ≡ closed-in (T .book)) (ev : v ≡ state-sight T t h c)
+    (ek : k ≡ state-refusal closed v) where
+  state-number : k ≡ refusal-in (states (O t h c)) top many T
+  state-number = ek ∙ ap₂ state-refusal ec ev ∙ sym (state-told T top many t h c)
+
+  pub state-stays : (y : Answer) → (k ≡ 0 → ⊥) → y ≡ refused-with k → leaves y T ≡ line-outcome line (states (O t h c)) top many T
+  state-stays y z ey = stays line (states (O t h c)) top many T y k state-number z ey
+
+  pub state-goes : (y : Answer) (S : Tables) → k ≡ 0 → y ≡ answer-of [] → S ≡ stated T (v .row) c → leaves y S ≡ line-outcome line (states (O t h c)) top many T
+  state-goes y S z ey es =
+      goes line (states (O t h c)) top many T y [] S (sym state-number ∙ z) ey (nothing-found line (O t h c) (seen-in T))
+      (es
+      ∙ ap (λ (u : StateSight). stated T (u .row) c) ev
+      ∙ stated-is-acted T t h c line (asked top) (state-sight T t h c .row) (stated-row T t h c (sym (ap (λ (u : StateSight). u .alive) ev) ∙ names-one closed v (sym ek ∙ z))))

@@ -17,6 +17,7 @@ pub fn call(
     pins: &mut [Number],
     pinmarks: &mut [u64],
     book: &mut [u64],
+    classes: &[Number],
     top: Top,
     many: u32,
     line: u32,
@@ -27,13 +28,13 @@ pub fn call(
     b: Handle,
     c: Handle,
 ) -> Answer
-    ensures { λ r. ⌜ ((n : ℤ) → leaves r (tables (now (rows .exit)) (now (marks .exit)) (now (pins .exit)) (now (pinmarks .exit)) (now (book .exit))) ≡ line-outcome line (C t env f a b c n) (top-is top) many (tables (now (rows .entry)) (now (marks .entry)) (now (pins .entry)) (now (pinmarks .entry)) (now (book .entry)))) ⌝ }
+    ensures { λ r. ⌜ ((n : ℤ) → leaves r (tables (now (rows .exit)) (now (marks .exit)) (now (pins .exit)) (now (pinmarks .exit)) (now (book .exit)) (now (classes .entry))) ≡ line-outcome line (C t env f a b c n) (top-is top) many (tables (now (rows .entry)) (now (marks .entry)) (now (pins .entry)) (now (pinmarks .entry)) (now (book .entry)) (now (classes .entry)))) ⌝ }
 {
     let k = weigh::call::refusal(book::is_closed(book), top, many);
     if k != 0 {
         return answers::refused(k);
     }
-    let seen = sight::call::call(rows, marks, pins, pinmarks, book, t, f, a, b, c);
+    let seen = sight::call::call(rows, marks, pins, pinmarks, book, classes, t, f, a, b, c);
     let x = seen.a;
     let y = seen.b;
     let p = seen.pb;

@@ -2,6 +2,7 @@
 use answers::Answer;
 use rows::Number;
 ghost use mathlib.Core.Path.{_≡_};
+ghost use mathlib.Core.List.{List};
 ghost use mathlib.Core.Option.{Option};
 ghost use Prim.Native.Nat.{ℕ};
 ghost use Rattle.lines.specs.Line.{Z};
@@ -18,7 +19,7 @@ pub fn end(
     book: &mut [u64],
     line: u32,
 ) -> Answer
-    ensures { λ r. ⌜ ((top : Option Item) (many : ℕ) → leaves r (tables (now (rows .entry)) (now (marks .entry)) (now (pins .entry)) (now (pinmarks .entry)) (now (book .exit))) ≡ line-outcome line Z top many (tables (now (rows .entry)) (now (marks .entry)) (now (pins .entry)) (now (pinmarks .entry)) (now (book .entry)))) ⌝ }
+    ensures { λ r. ⌜ ((cs : List ℕ) (top : Option Item) (many : ℕ) → leaves r (tables (now (rows .entry)) (now (marks .entry)) (now (pins .entry)) (now (pinmarks .entry)) (now (book .exit)) cs) ≡ line-outcome line Z top many (tables (now (rows .entry)) (now (marks .entry)) (now (pins .entry)) (now (pinmarks .entry)) (now (book .entry)) cs)) ⌝ }
 {
     if book::is_closed(book) {
         return answers::refused(4);

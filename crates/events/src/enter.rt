@@ -23,7 +23,7 @@ pub fn enter(
     env: Handle,
     hs: &[Handle],
 ) -> Answer
-    ensures { λ r. ⌜ ((ps ns : List ℕ) → leaves r (tables (now (rows .exit)) (now (marks .exit)) ps ns (now (book .exit))) ≡ line-outcome line (N t env (now (hs .entry))) (top-is top) many (tables (now (rows .entry)) (now (marks .entry)) ps ns (now (book .entry)))) ⌝ }
+    ensures { λ r. ⌜ ((ps ns cs : List ℕ) → leaves r (tables (now (rows .exit)) (now (marks .exit)) ps ns (now (book .exit)) cs) ≡ line-outcome line (N t env (now (hs .entry))) (top-is top) many (tables (now (rows .entry)) (now (marks .entry)) ps ns (now (book .entry)) cs)) ⌝ }
 {
     if !weigh::enter::in_turn(book::is_closed(book), top) {
         return answers::refused(4);

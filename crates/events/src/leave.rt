@@ -4,6 +4,7 @@ use book::Top;
 use rows::Number;
 use words::Handle;
 ghost use mathlib.Core.Path.{_≡_};
+ghost use mathlib.Core.List.{List};
 ghost use Prim.Native.Nat.{ℕ};
 ghost use Rattle.lines.specs.Line.{X};
 ghost use Rattle.book.specs.Threads.{top-is};
@@ -22,7 +23,7 @@ pub fn leave(
     t: u32,
     result: Handle,
 ) -> Answer
-    ensures { λ r. ⌜ ((many : ℕ) → leaves r (tables (now (rows .exit)) (now (marks .exit)) (now (pins .entry)) (now (pinmarks .entry)) (now (book .exit))) ≡ line-outcome line (X t result) (top-is top) many (tables (now (rows .entry)) (now (marks .entry)) (now (pins .entry)) (now (pinmarks .entry)) (now (book .entry)))) ⌝ }
+    ensures { λ r. ⌜ ((cs : List ℕ) (many : ℕ) → leaves r (tables (now (rows .exit)) (now (marks .exit)) (now (pins .entry)) (now (pinmarks .entry)) (now (book .exit)) cs) ≡ line-outcome line (X t result) (top-is top) many (tables (now (rows .entry)) (now (marks .entry)) (now (pins .entry)) (now (pinmarks .entry)) (now (book .entry)) cs)) ⌝ }
 {
     let k = weigh::leave::refusal(book::is_closed(book), top);
     if k != 0 {

@@ -4,6 +4,7 @@ use book::Top;
 use rows::Number;
 use words::Handle;
 ghost use mathlib.Core.Path.{_≡_};
+ghost use mathlib.Core.List.{List};
 ghost use Prim.Native.Nat.{ℕ};
 ghost use Rattle.lines.specs.Line.{R};
 ghost use Rattle.lines.specs.Events.{result-in-line};
@@ -38,7 +39,7 @@ pub fn returns(
     status: i32,
     pending: u32,
 ) -> Answer
-    ensures { λ r. ⌜ ((many : ℕ) → leaves r (tables (now (rows .exit)) (now (marks .exit)) (now (pins .exit)) (now (pinmarks .exit)) (now (book .exit))) ≡ line-outcome line (R t f (result-in-line f result status) pending) (top-is top) many (tables (now (rows .entry)) (now (marks .entry)) (now (pins .entry)) (now (pinmarks .entry)) (now (book .entry)))) ⌝ }
+    ensures { λ r. ⌜ ((cs : List ℕ) (many : ℕ) → leaves r (tables (now (rows .exit)) (now (marks .exit)) (now (pins .exit)) (now (pinmarks .exit)) (now (book .exit)) cs) ≡ line-outcome line (R t f (result-in-line f result status) pending) (top-is top) many (tables (now (rows .entry)) (now (marks .entry)) (now (pins .entry)) (now (pinmarks .entry)) (now (book .entry)) cs)) ⌝ }
 {
     if !weigh::returns::in_turn(book::is_closed(book), f, top) {
         return answers::refused(4);

@@ -10,9 +10,10 @@ use Rattle.words.specs.Lists.{joined}
 use Rattle.history.specs.Acceptance.{Room}
 use Rattle.history.specs.Findings.{findings}
 use Rattle.history.specs.Report.{run, lines-of, shown-finding, shown-end, shown, report}
+use Rattle.lines.specs.Line.{classes}
 use Rattle.book.specs.Layout.{whole}
 use Rattle.tables.specs.Tables.{Tables}
-use Rattle.demands.specs.Calls.{room-of}
+use Rattle.demands.specs.Calls.{room-of, Long}
 use Rattle.trace.specs.declared.Reported.{Reported}
 use Rattle.trace.specs.Whole.{Outcome, leaves, whole-outcome}
 use Rattle.exported.specs.Judged.{judges, length-told, judged, Apart}
@@ -35,22 +36,28 @@ module _ (T : Tables) (trace out : List ℕ) where
   abbrev Told-apart : Type 0
   Told-apart = Apart (whole-outcome T trace out .reply) (length-told (whole-outcome T trace out .reply)) (length out)
 
-  told-written : whole ≤ length (T .book) → long ≤ length out → Told-apart
+  told-written : Long T → long ≤ length out → Told-apart
   unfolding whole-outcome Apart
-  told-written b h = rw (le-ltb (length (T .book)) whole b, le-leb (0 + long) (length out) (omega (arith, h))) (some-bytes (room-of T) trace, h)
+  told-written (b, k) h =
+      rw (le-ltb (length (T .book)) whole b, le-ltb (length (T .classes)) classes k, le-leb (0 + long) (length out) (omega (arith, h))) (some-bytes (room-of T) trace, h)
 
-  told-needed : whole ≤ length (T .book) → length out < long → Told-apart
+  told-needed : Long T → length out < long → Told-apart
   unfolding whole-outcome Apart
-  told-needed b h = rw (le-ltb (length (T .book)) whole b, lt-leb (0 + long) (length out) (omega (arith, h))) h
+  told-needed (b, k) h = rw (le-ltb (length (T .book)) whole b, le-ltb (length (T .classes)) classes k, lt-leb (0 + long) (length out) (omega (arith, h))) h
 
-  told-short : length (T .book) < whole → Told-apart
+  short-book : length (T .book) < whole → Told-apart
   unfolding whole-outcome Apart
-  told-short h = rw (lt-ltb (length (T .book)) whole h) refl
+  short-book h = rw (lt-ltb (length (T .book)) whole h) refl
+
+  short-classes : whole ≤ length (T .book) → length (T .classes) < classes → Told-apart
+  unfolding whole-outcome Apart
+  short-classes b h = rw (le-ltb (length (T .book)) whole b, lt-ltb (length (T .classes)) classes h) refl
 
   pub told-apart : Told-apart
-  told-apart = go (decLt (length (T .book)) whole) (decLt (length out) long)
+  told-apart = go (decLt (length (T .book)) whole) (decLt (length (T .classes)) classes) (decLt (length out) long)
     where
-      go : Dec (length (T .book) < whole) → Dec (length out < long) → Told-apart
-      go (yes b) o = told-short b
-      go (no b) (yes h) = told-needed (omega (arith, b)) h
-      go (no b) (no h) = told-written (omega (arith, b)) (omega (arith, h))
+      go : Dec (length (T .book) < whole) → Dec (length (T .classes) < classes) → Dec (length out < long) → Told-apart
+      go (yes b) k o = short-book b
+      go (no b) (yes k) o = short-classes (omega (arith, b)) k
+      go (no b) (no k) (yes h) = told-needed (omega (arith, b), omega (arith, k)) h
+      go (no b) (no k) (no h) = told-written (omega (arith, b), omega (arith, k)) (omega (arith, h))

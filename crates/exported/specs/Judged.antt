@@ -15,11 +15,11 @@ pub record Judged : Type 0 where
 abbrev pub judges : ℕ → Tables → List ℕ → Judged
 judges n T bs = record { number = n; left = T; out = bs }
 
--- how long the report is, written or not; 0 over a short book
+-- how long the report is, written or not; 0 over a short book or class table
 abbrev pub length-told : Reported → ℕ
 length-told (Reported.Bytes n) = n
 length-told (Reported.Needs n) = n
-length-told Reported.ShortBook = 0
+length-told Reported.ShortTables = 0
 
 -- of what the judging of a trace answers and leaves
 unfoldable pub judged : Outcome → Judged
@@ -29,4 +29,4 @@ judged o = judges (length-told (o .reply)) (o .tables) (o .out)
 unfoldable pub Apart : Reported → ℕ → ℕ → Type 0
 Apart (Reported.Bytes n) told room = (0 < told) × (told ≤ room)
 Apart (Reported.Needs n) told room = room < told
-Apart Reported.ShortBook told room = told ≡ 0
+Apart Reported.ShortTables told room = told ≡ 0

@@ -33,7 +33,7 @@ numbers = 4
 abbrev pub most-numbers : ℕ
 most-numbers = most-found * numbers
 
--- told where there is no room for them; the numbers of the paper are told as -1 to -8
+-- told where there is no room for them; the numbers of the paper are told as -1 to -10
 abbrev pub short-found : ℤ
 short-found = negℤ (pos 100)
 

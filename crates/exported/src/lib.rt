@@ -6,7 +6,8 @@ use rows::Number;
 use trace::Reported;
 use words::Handle;
 ghost use mathlib.Core.Path.{_≡_};
-ghost use Prim.Native.Nat.{_+_, _*_, _≤_};
+ghost use mathlib.Core.List.{List};
+ghost use Prim.Native.Nat.{ℕ, _+_, _*_, _≤_};
 ghost use lib.ListN.{length, take};
 ghost use Rattle.answers.specs.Answer.{most-found};
 ghost use Rattle.tables.specs.Tables.{tables};
@@ -25,7 +26,7 @@ const MOST_NUMBERS: usize = 24;
 // Told where there is no room for them.
 const SHORT_FOUND: i32 = -100;
 
-// Clears all rows, marks and book.
+// Clears all rows, marks, book and class table.
 #[no_mangle]
 pub extern "C" fn weir_start(
     rows: &mut [Number],
@@ -33,10 +34,11 @@ pub extern "C" fn weir_start(
     pins: &mut [Number],
     pinmarks: &mut [u64],
     book: &mut [u64],
+    classes: &mut [Number],
 )
-    ensures { λ _. ⌜ tables (now (rows .exit)) (now (marks .exit)) (now (pins .exit)) (now (pinmarks .exit)) (now (book .exit)) ≡ start-of (tables (now (rows .entry)) (now (marks .entry)) (now (pins .entry)) (now (pinmarks .entry)) (now (book .entry))) ⌝ }
+    ensures { λ _. ⌜ tables (now (rows .exit)) (now (marks .exit)) (now (pins .exit)) (now (pinmarks .exit)) (now (book .exit)) (now (classes .exit)) ≡ start-of (tables (now (rows .entry)) (now (marks .entry)) (now (pins .entry)) (now (pinmarks .entry)) (now (book .entry)) (now (classes .entry))) ⌝ }
 {
-    judge::start(rows, marks, pins, pinmarks, book)
+    judge::start(rows, marks, pins, pinmarks, book, classes)
 }
 
 // The four numbers of a finding behind `at` others.
@@ -87,14 +89,15 @@ pub extern "C" fn weir_step(
     pins: &mut [Number],
     pinmarks: &mut [u64],
     book: &mut [u64],
+    classes: &mut [Number],
     found: &mut [Handle],
 ) -> i32
-    ensures { λ r. ⌜ tells r (tables (now (rows .exit)) (now (marks .exit)) (now (pins .exit)) (now (pinmarks .exit)) (now (book .exit))) (now (found .exit)) ≡ step-told (tables (now (rows .entry)) (now (marks .entry)) (now (pins .entry)) (now (pinmarks .entry)) (now (book .entry))) (now (line .entry)) (now (found .entry)) ⌝ }
+    ensures { λ r. ⌜ tells r (tables (now (rows .exit)) (now (marks .exit)) (now (pins .exit)) (now (pinmarks .exit)) (now (book .exit)) (now (classes .exit))) (now (found .exit)) ≡ step-told (tables (now (rows .entry)) (now (marks .entry)) (now (pins .entry)) (now (pinmarks .entry)) (now (book .entry)) (now (classes .entry))) (now (line .entry)) (now (found .entry)) ⌝ }
 {
     if found.len() < MOST_NUMBERS {
         return SHORT_FOUND;
     }
-    let answer = judge::step(line, rows, marks, pins, pinmarks, book);
+    let answer = judge::step(line, rows, marks, pins, pinmarks, book, classes);
     list(found, answer);
     number_told(answer.refusal, answer.count)
 }
@@ -121,25 +124,25 @@ pub extern "C" fn weir_leaks(
     book: &[u64],
     leaks: &mut [Number],
 ) -> i32
-    ensures { λ r. ⌜ tells-list r (now (leaks .exit)) ≡ list-told (list-of (tables (now (rows .entry)) (now (marks .entry)) (now (pins .entry)) (now (pinmarks .entry)) (now (book .entry))) (now (leaks .entry))) ⌝ }
+    ensures { λ r. ⌜ ((cs : List ℕ) → tells-list r (now (leaks .exit)) ≡ list-told (list-of (tables (now (rows .entry)) (now (marks .entry)) (now (pins .entry)) (now (pinmarks .entry)) (now (book .entry)) cs) (now (leaks .entry)))) ⌝ }
 {
     let listed = leaks::list(rows, marks, pins, pinmarks, book, leaks);
     number_listed(listed)
 }
 
-// How long the report is, written or not; 0 over a short book.
+// How long the report is, written or not; 0 over a short book or class table.
 fn length_told(reported: Reported) -> usize
     ensures { λ r. ⌜ r ≡ length-told reported ⌝ }
 {
     match reported {
         Reported::Bytes(n) => n,
         Reported::Needs(n) => n,
-        Reported::ShortBook => 0,
+        Reported::ShortTables => 0,
     }
 }
 
 // Judges all lines of a trace from a start: how long the report is. It stands at the start of `out` where that is no shorter, else nothing
-// is written there; the tables are left as the run left them. Over a short book it is 0, which no report is long, and nothing is touched.
+// is written there; the tables are left as the run left them. Over a short book or class table it is 0, which no report is long, and nothing is touched.
 #[no_mangle]
 pub extern "C" fn weir_judge(
     trace: &[u8],
@@ -148,10 +151,11 @@ pub extern "C" fn weir_judge(
     pins: &mut [Number],
     pinmarks: &mut [u64],
     book: &mut [u64],
+    classes: &mut [Number],
     out: &mut [u8],
 ) -> usize
-    ensures { λ r. ⌜ judges r (tables (now (rows .exit)) (now (marks .exit)) (now (pins .exit)) (now (pinmarks .exit)) (now (book .exit))) (now (out .exit)) ≡ judged (whole-outcome (tables (now (rows .entry)) (now (marks .entry)) (now (pins .entry)) (now (pinmarks .entry)) (now (book .entry))) (now (trace .entry)) (now (out .entry))) ⌝ }
+    ensures { λ r. ⌜ judges r (tables (now (rows .exit)) (now (marks .exit)) (now (pins .exit)) (now (pinmarks .exit)) (now (book .exit)) (now (classes .exit))) (now (out .exit)) ≡ judged (whole-outcome (tables (now (rows .entry)) (now (marks .entry)) (now (pins .entry)) (now (pinmarks .entry)) (now (book .entry)) (now (classes .entry))) (now (trace .entry)) (now (out .entry))) ⌝ }
 {
-    let reported = trace::judge_trace(trace, rows, marks, pins, pinmarks, book, out);
+    let reported = trace::judge_trace(trace, rows, marks, pins, pinmarks, book, classes, out);
     length_told(reported)
 }

@@ -5,7 +5,7 @@ use mathlib.Core.List.{List}
 use mathlib.Core.Option.{Option}
 use lib.IntN.{ℤ}
 use lib.ListN.{take}
-use Rattle.lines.specs.Line.{N, X, C, R, Z}
+use Rattle.lines.specs.Line.{N, X, C, R, Z, K, O, states}
 use Rattle.lines.specs.Events.{result-in-line}
 use Rattle.lines.specs.declared.Event.{Event}
 use Rattle.lines.specs.declared.Event.the-variants as Event
@@ -36,6 +36,12 @@ module _ (line : ℕ) (ev : Event) (hs : List ℕ) (top : Option Item) (many : �
   pub of-return : {t f h p : ℕ} {s : ℤ} (m : ℤ) → m ≡ s → ev ≡ Event.Return t f h s p → o ≡ line-outcome line (R t f (result-in-line f h m) p) top many T
       → o ≡ event-outcome line ev hs top many T
   of-return {t} {f} {h} {p} m w e q = of-read e (q ∙ ap (λ (i : ℤ). line-outcome line (R t f (result-in-line f h i) p) top many T) w)
+
+  pub of-declare : {c s : ℕ} → ev ≡ Event.Declare c s → o ≡ line-outcome line (states (K c s)) top many T → o ≡ event-outcome line ev hs top many T
+  of-declare p q = of-read p q
+
+  pub of-state : {t h c : ℕ} → ev ≡ Event.State t h c → o ≡ line-outcome line (states (O t h c)) top many T → o ≡ event-outcome line ev hs top many T
+  of-state p q = of-read p q
 
   pub of-end : ev ≡ Event.End → o ≡ line-outcome line Z top many T → o ≡ event-outcome line ev hs top many T
   of-end p q = of-read p q

@@ -1,4 +1,4 @@
 pub mod Reading
-pub mod ByBook
+pub mod ByTables
 pub mod Dispatch
 pub mod Moving

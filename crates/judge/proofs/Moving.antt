@@ -10,7 +10,7 @@ use lib.Dec.{eqb, leb}
 use lib.IntN.{ℤ}
 use lib.ListN.{length, take}
 use Rattle.words.specs.Choice.{if_then_else_}
-use Rattle.lines.specs.Line.{Line, N, X, C, R, Z, above-zero}
+use Rattle.lines.specs.Line.{Line, N, X, C, R, Z, K, O, states, above-zero}
 use Rattle.lines.specs.Reading.{Read, says, refused, read}
 use Rattle.lines.specs.Events.{result-in-line, event-of, slots-of}
 use Rattle.lines.specs.declared.Event.{Event}
@@ -22,18 +22,17 @@ use Rattle.history.specs.Findings.{of-line}
 use Rattle.history.specs.Replies.{Reply, accepted, not-accepted, most-lines}
 use Rattle.book.specs.Threads.{items-in, lines-in, no-function}
 use Rattle.book.specs.Moves.{item-pushed, item-popped}
-use Rattle.book.specs.Unfit.{unfit}
 use Rattle.answers.specs.declared.Answer.{Answer}
 use Rattle.answers.specs.Answer.{answer-of}
 use Rattle.tables.specs.Tables.{Tables, seen-in}
 use Rattle.tables.specs.Weighing.{refusal-in, weighed-in}
 use Rattle.tables.specs.Acting.{items-moved}
-use Rattle.tables.specs.Stepping.{follow, next-line, on-line, on-read, with-items, step-of}
+use Rattle.tables.specs.Stepping.{follow, next-line, on-line, on-read, with-items, unfit-tables, step-of}
 use Rattle.events.specs.Outcome.{Outcome, leaves, outcome-of, line-outcome}
 use Rattle.judge.specs.Event.{read-as, thread-named, items-after}
-use Rattle.judge.specs.Outcome.{outcome, step-outcome, read-outcome, event-outcome, by-book}
+use Rattle.judge.specs.Outcome.{outcome, step-outcome, read-outcome, event-outcome, by-tables}
 use Rattle.judge.proofs.Reading.{read-is}
-use Rattle.judge.proofs.ByBook.{neither-told}
+use Rattle.judge.proofs.ByTables.{neither-told}
 
 -- ---- how each event moves them
 
@@ -59,6 +58,14 @@ module _ (b b' : List ℕ) (ev : Event) where
   unfolding items-moved
   call-closed p q = moved-as p (λ hs. q)
 
+  pub none-declared : {c s : ℕ} → ev ≡ Event.Declare c s → b' ≡ b → (hs : List ℕ) → b' ≡ items-after (read-as ev hs) b
+  unfolding items-moved
+  none-declared p q = moved-as p (λ hs. q)
+
+  pub none-stated : {t h c : ℕ} → ev ≡ Event.State t h c → b' ≡ b → (hs : List ℕ) → b' ≡ items-after (read-as ev hs) b
+  unfolding items-moved
+  none-stated p q = moved-as p (λ hs. q)
+
   pub none-at-end : ev ≡ Event.End → b' ≡ b → (hs : List ℕ) → b' ≡ items-after (read-as ev hs) b
   unfolding items-moved
   none-at-end p q = moved-as p (λ hs. q)
@@ -69,7 +76,7 @@ module _ (b b' : List ℕ) (ev : Event) where
 -- ---- of an accepted line
 
 abbrev with-book : Tables → List ℕ → Tables
-with-book T b = record { references = T .references; pins = T .pins; book = b }
+with-book T b = record { references = T .references; pins = T .pins; book = b; classes = T .classes }
 
 -- the step over what was read, where the answer and the tables but for the open items are known
 module _ (T : Tables) (y : Answer) (S : Tables) where
@@ -127,13 +134,15 @@ thread-is (Event.Enter t env n) hs e h = let same : N t env (take n hs) ≡ e = 
 thread-is (Event.Leave t r) hs e h = let same : X t r ≡ e = cc in ap thread-of same
 thread-is (Event.Call t env f a b c n) hs e h = let same : C t env f a b c n ≡ e = cc in ap thread-of same
 thread-is (Event.Return t f r s p) hs e h = let same : R t f (result-in-line f r s) p ≡ e = cc in ap thread-of same
+thread-is (Event.Declare c s) hs e h = let same : states (K c s) ≡ e = cc in ap thread-of same
+thread-is (Event.State t v c) hs e h = let same : states (O t v c) ≡ e = cc in ap thread-of same
 thread-is Event.End hs e h = let same : Z ≡ e = cc in ap thread-of same
 thread-is (Event.Refused k) hs e h = absurd (never h)
 
 -- ---- the step
 
 module _ (T : Tables) (bs : List ℕ) (k : ℕ) (ev : Event) (hs : List ℕ) (t many line : ℕ) (top : Option Item) (y : Answer) (S : Tables)
-    (ek : k ≡ by-book (T .book)) (z : k ≡ 0) (el : line ≡ next-line T) (er : ev ≡ event-of (read bs)) (es : hs ≡ slots-of (read bs)) (et : t ≡ thread-named ev)
+    (ek : k ≡ by-tables T) (z : k ≡ 0) (el : line ≡ next-line T) (er : ev ≡ event-of (read bs)) (es : hs ≡ slots-of (read bs)) (et : t ≡ thread-named ev)
     (ei : top ≡ top-of (items-in (T .book) t)) (em : many ≡ length (items-in (T .book) t)) (q : leaves y S ≡ event-outcome line ev hs top many T) where
   at : (e : Line) → read-as ev hs ≡ says e → (top ≡ top-of (items-in (T .book) (thread-of e))) × (many ≡ length (items-in (T .book) (thread-of e)))
   at e h =
@@ -145,9 +154,9 @@ module _ (T : Tables) (bs : List ℕ) (k : ℕ) (ev : Event) (hs : List ℕ) (t 
   told = q ∙ ap (λ (n : ℕ). read-outcome n (read-as ev hs) top many T) el
 
   by-reading : (o : Outcome) → o ≡ outcome (on-read (read-as ev hs) T) → o ≡ step-outcome T bs
-  unfolding step-outcome step-of by-book
+  unfolding step-outcome step-of by-tables
   by-reading o p =
-      let h = neither-told (unfit (T .book)) (leb most-lines (lines-in (T .book))) (sym ek ∙ z) in
+      let h = neither-told (unfit-tables T) (leb most-lines (lines-in (T .book))) (sym ek ∙ z) in
       rw (h .0, h .1) (p ∙ sym (ap (λ (x : Read). outcome (on-read x T)) (read-is bs ev hs er es)))
 
   pub step-accepted : (b' : List ℕ) → y .refusal ≡ 0 → ((gs : List ℕ) → b' ≡ items-after (read-as ev gs) (S .book)) → leaves y (with-book S b') ≡ step-outcome T bs

@@ -9,10 +9,9 @@ use Rattle.lines.specs.declared.Event.{Event}
 use Rattle.history.specs.Items.{Item}
 use Rattle.history.specs.Replies.{most-lines}
 use Rattle.book.specs.Threads.{lines-in}
-use Rattle.book.specs.Unfit.{unfit}
 use Rattle.answers.specs.Answer.{refused-with, answered}
 use Rattle.tables.specs.Tables.{Tables}
-use Rattle.tables.specs.Stepping.{Stepped, step-of}
+use Rattle.tables.specs.Stepping.{Stepped, unfit-tables, step-of}
 use Rattle.events.specs.Outcome.{Outcome, leaves, line-outcome}
 use Rattle.judge.specs.Event.{read-as}
 
@@ -31,6 +30,6 @@ read-outcome line (says e) top many T = line-outcome line e top many T
 unfoldable pub event-outcome : ℕ → Event → List ℕ → Option Item → ℕ → Tables → Outcome
 event-outcome line ev hs top many T = read-outcome line (read-as ev hs) top many T
 
--- 8 and line 1,000,001 are told from the book alone; 0 for neither
-unfoldable pub by-book : List ℕ → ℕ
-by-book b = if unfit b then 8 else if leb most-lines (lines-in b) then 1 else 0
+-- 8 and line 1,000,001 are told from book and classes alone; 0 for neither
+unfoldable pub by-tables : Tables → ℕ
+by-tables T = if unfit-tables T then 8 else if leb most-lines (lines-in (T .book)) then 1 else 0

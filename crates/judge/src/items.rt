@@ -7,7 +7,7 @@ ghost use Prim.Native.Nat.{ℕ};
 ghost use Rattle.lines.specs.Line.{above-zero};
 ghost use Rattle.judge.specs.Event.{read-as, thread-named, items-after};
 
-// The thread that an event names; 0 for none.
+// The thread whose open items an event is of; 0 for none.
 pub(crate) fn thread_of(event: Event) -> u32
     ensures { λ r. ⌜ r ≡ thread-named event ⌝ }
 {
@@ -16,6 +16,8 @@ pub(crate) fn thread_of(event: Event) -> u32
         Event::Leave { thread, .. } => thread,
         Event::Call { thread, .. } => thread,
         Event::Return { thread, .. } => thread,
+        Event::Declare { .. } => 0,
+        Event::State { .. } => 0,
         Event::End => 0,
         Event::Refused(_) => 0,
     }
@@ -42,6 +44,8 @@ pub(crate) fn move_item(book: &mut [u64], event: Event)
             ..
         } => book::push_item(book, thread, function, above_zero(n)),
         Event::Return { thread, .. } => book::pop_item(book, thread),
+        Event::Declare { .. } => {}
+        Event::State { .. } => {}
         Event::End => {}
         Event::Refused(_) => {}
     }

@@ -7,35 +7,39 @@ use lines::Event;
 use rows::Number;
 use words::Handle;
 ghost use mathlib.Core.Path.{_≡_};
-ghost use Prim.Native.Nat.{suc, _≤_};
+ghost use mathlib.Core.List.{List};
+ghost use Prim.Native.Nat.{ℕ, suc, _<_, _≤_};
 ghost use Rattle.lines.specs.Line.{most-handles};
+ghost use Rattle.history.specs.Replies.{most-lines};
 ghost use Rattle.book.specs.Threads.{lines-in, top-is};
 ghost use Rattle.tables.specs.Tables.{tables};
 ghost use Rattle.tables.specs.Stepping.{start-of};
 ghost use Rattle.events.specs.Outcome.{leaves};
 ghost use Rattle.judge.specs.Event.{slots-named};
-ghost use Rattle.judge.specs.Outcome.{event-outcome, step-outcome, by-book};
+ghost use Rattle.judge.specs.Outcome.{event-outcome, step-outcome, by-tables};
 
-// Clears all rows, marks and book.
+// Clears all rows, marks, book and classes.
 pub fn start(
     rows: &mut [Number],
     marks: &mut [u64],
     pins: &mut [Number],
     pinmarks: &mut [u64],
     book: &mut [u64],
+    classes: &mut [Number],
 )
-    ensures { λ _. ⌜ tables (now (rows .exit)) (now (marks .exit)) (now (pins .exit)) (now (pinmarks .exit)) (now (book .exit)) ≡ start-of (tables (now (rows .entry)) (now (marks .entry)) (now (pins .entry)) (now (pinmarks .entry)) (now (book .entry))) ⌝ }
+    ensures { λ _. ⌜ tables (now (rows .exit)) (now (marks .exit)) (now (pins .exit)) (now (pinmarks .exit)) (now (book .exit)) (now (classes .exit)) ≡ start-of (tables (now (rows .entry)) (now (marks .entry)) (now (pins .entry)) (now (pinmarks .entry)) (now (book .entry)) (now (classes .entry))) ⌝ }
 {
     rows::clear(rows, marks);
     rows::clear(pins, pinmarks);
     book::clear(book);
+    classes::clear(classes);
 }
 
-// 8 where the book is not fit, then 1 for line 1,000,001; else 0.
-fn refused_by_book(book: &[u64]) -> u8
-    ensures { λ r. ⌜ r ≡ by-book (now (book .entry)) ⌝ }
+// 8 where the book is not fit or the class table is short, then 1 for line 1,000,001; else 0.
+fn refused_by_tables(book: &[u64], classes: &[Number]) -> u8
+    ensures { λ r. ⌜ ((rs ms ps ns : List ℕ) → r ≡ by-tables (tables rs ms ps ns (now (book .entry)) (now (classes .entry)))) ⌝ }
 {
-    if book::unfit(book) {
+    if book::unfit(book) | classes::is_short(classes) {
         return 8;
     }
     if book::MOST_LINES <= book::lines_of(book) {
@@ -46,7 +50,7 @@ fn refused_by_book(book: &[u64]) -> u8
 
 // The number of the next accepted line.
 fn next_number(book: &[u64]) -> u32
-    requires { ⌜ by-book (now book) ≡ 0 ⌝ }
+    requires { ⌜ lines-in (now book) < most-lines ⌝ }
     ensures { λ r. ⌜ r ≡ suc (lines-in (now (book .entry))) ⌝ }
 {
     book::lines_of(book) as u32 + 1
@@ -61,12 +65,13 @@ fn on_event(
     pins: &mut [Number],
     pinmarks: &mut [u64],
     book: &mut [u64],
+    classes: &mut [Number],
     top: Top,
     many: u32,
     line: u32,
 ) -> Answer
     requires { ⌜ slots-named event ≤ most-handles ⌝ }
-    ensures { λ r. ⌜ leaves r (tables (now (rows .exit)) (now (marks .exit)) (now (pins .exit)) (now (pinmarks .exit)) (now (book .exit))) ≡ event-outcome line event handles (top-is top) many (tables (now (rows .entry)) (now (marks .entry)) (now (pins .entry)) (now (pinmarks .entry)) (now (book .entry))) ⌝ }
+    ensures { λ r. ⌜ leaves r (tables (now (rows .exit)) (now (marks .exit)) (now (pins .exit)) (now (pinmarks .exit)) (now (book .exit)) (now (classes .exit))) ≡ event-outcome line event handles (top-is top) many (tables (now (rows .entry)) (now (marks .entry)) (now (pins .entry)) (now (pinmarks .entry)) (now (book .entry)) (now (classes .entry))) ⌝ }
 {
     match event {
         Event::Enter { thread, env, count } => events::enter::enter(
@@ -105,6 +110,7 @@ fn on_event(
             pins,
             pinmarks,
             book,
+            classes,
             top,
             many,
             line,
@@ -135,6 +141,14 @@ fn on_event(
             status,
             pending,
         ),
+        Event::Declare { class, superclass } => {
+            events::declare::declare(book, classes, class, superclass)
+        }
+        Event::State {
+            thread,
+            handle,
+            class,
+        } => events::state::state(rows, marks, book, classes, thread, handle, class),
         Event::End => events::end::end(rows, marks, pins, pinmarks, book, line),
         Event::Refused(k) => answers::refused(k),
     }
@@ -148,10 +162,11 @@ pub fn step(
     pins: &mut [Number],
     pinmarks: &mut [u64],
     book: &mut [u64],
+    classes: &mut [Number],
 ) -> Answer
-    ensures { λ r. ⌜ leaves r (tables (now (rows .exit)) (now (marks .exit)) (now (pins .exit)) (now (pinmarks .exit)) (now (book .exit))) ≡ step-outcome (tables (now (rows .entry)) (now (marks .entry)) (now (pins .entry)) (now (pinmarks .entry)) (now (book .entry))) (now (line .entry)) ⌝ }
+    ensures { λ r. ⌜ leaves r (tables (now (rows .exit)) (now (marks .exit)) (now (pins .exit)) (now (pinmarks .exit)) (now (book .exit)) (now (classes .exit))) ≡ step-outcome (tables (now (rows .entry)) (now (marks .entry)) (now (pins .entry)) (now (pinmarks .entry)) (now (book .entry)) (now (classes .entry))) (now (line .entry)) ⌝ }
 {
-    let k = refused_by_book(book);
+    let k = refused_by_tables(book, classes);
     if k != 0 {
         return answers::refused(k);
     }
@@ -169,6 +184,7 @@ pub fn step(
         pins,
         pinmarks,
         book,
+        classes,
         top,
         many,
         number,

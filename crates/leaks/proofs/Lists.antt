@@ -1,7 +1,7 @@
 -- The slice that the leaks fill, and the four answers. Assumes nothing.
 use Prim.Native.Nat.{ℕ, _+_, _-_, _*_, _/_, _≤_, _<_}
 use mathlib.Core.Path.{_≡_, refl, sym, ap, ap₂, _∙_}
-use mathlib.Core.Bool.{Bool, true, false, not}
+use mathlib.Core.Bool.{Bool, true, false}
 use mathlib.Core.List.{List, [], _∷_, _++_, map}
 use native.Mathlib.Omega.{arith}
 use borrow.Author.Tests.{lt-ltb, le-ltb}
@@ -153,7 +153,8 @@ module _ (T : Tables) (ns : List ℕ) where
               rw (le-ltb (length ns / leak-numbers) (length (leaks-in T)) (omega (arith, many)))
               (ap₂ lists (ap written (sym many)) left)
 
--- the book is not looked at for the leaks
-pub any-book : (R P : Table) (b c : List ℕ) → leaks-in (record { references = R; pins = P; book = b }) ≡ leaks-in (record { references = R; pins = P; book = c })
+-- neither book nor classes are looked at for the leaks
+pub by-rows : (R P : Table) (b b' cs cs' : List ℕ)
+    → leaks-in (record { references = R; pins = P; book = b; classes = cs }) ≡ leaks-in (record { references = R; pins = P; book = b'; classes = cs' })
 unfolding leaks-in
-any-book R P b c = refl
+by-rows R P b b' cs cs' = refl

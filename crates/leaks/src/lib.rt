@@ -9,8 +9,8 @@ use found::collect;
 use rows::Number;
 use sorting::sort;
 ghost use mathlib.Core.Path.{_≡_};
-ghost use mathlib.Core.List.{[]};
-ghost use Prim.Native.Nat.{_*_};
+ghost use mathlib.Core.List.{List, []};
+ghost use Prim.Native.Nat.{ℕ, _*_};
 ghost use lib.ListN.{length};
 ghost use Rattle.words.specs.Lists.{joined};
 ghost use Rattle.rows.specs.Table.{table};
@@ -35,7 +35,7 @@ const NO_ROOM: u8 = 7;
 // All leaks, in a slice that they fill.
 fn fill(rows: &[Number], marks: &[u64], pins: &[Number], pinmarks: &[u64], leaks: &mut [Number])
     requires { ⌜ length (now leaks) ≡ length (found-in (table (now rows) (now marks)) (table (now pins) (now pinmarks))) * leak-numbers ⌝ }
-    ensures { λ _. ⌜ now (leaks .exit) ≡ joined (leaks-in (tables (now (rows .entry)) (now (marks .entry)) (now (pins .entry)) (now (pinmarks .entry)) [])) numbers-of ⌝ }
+    ensures { λ _. ⌜ now (leaks .exit) ≡ joined (leaks-in (tables (now (rows .entry)) (now (marks .entry)) (now (pins .entry)) (now (pinmarks .entry)) [] [])) numbers-of ⌝ }
 {
     let outstanding = rows::pins::room(pins, pinmarks);
     let at = collect(rows, marks, pins, pinmarks, leaks, 0, 0, outstanding);
@@ -63,7 +63,7 @@ pub fn list(
     book: &[u64],
     leaks: &mut [Number],
 ) -> Listed
-    ensures { λ r. ⌜ lists (reply-of r) (now (leaks .exit)) ≡ list-of (tables (now (rows .entry)) (now (marks .entry)) (now (pins .entry)) (now (pinmarks .entry)) (now (book .entry))) (now (leaks .entry)) ⌝ }
+    ensures { λ r. ⌜ ((cs : List ℕ) → lists (reply-of r) (now (leaks .exit)) ≡ list-of (tables (now (rows .entry)) (now (marks .entry)) (now (pins .entry)) (now (pinmarks .entry)) (now (book .entry)) cs) (now (leaks .entry))) ⌝ }
 {
     if book::unfit(book) {
         return Listed::Refused(SHORT_BOOK);

@@ -15,9 +15,8 @@ use Rattle.history.specs.Replies.{most-lines}
 use Rattle.history.specs.Report.{lines-of}
 use Rattle.history.specs.declared.Finding.{Finding}
 use Rattle.book.specs.Threads.{lines-in}
-use Rattle.book.specs.Unfit.{unfit}
 use Rattle.tables.specs.Tables.{Tables}
-use Rattle.tables.specs.Stepping.{Stepped, untouched, step-of}
+use Rattle.tables.specs.Stepping.{Stepped, untouched, unfit-tables, step-of}
 use Rattle.demands.specs.Calls.{Ran, ran, go-on-in, run-in}
 use Rattle.pieces.specs.declared.Next.the-variants as Next
 use Rattle.pieces.specs.Pieces.{piece-length, next-of, Behind}
@@ -30,7 +29,7 @@ module _ (T : Tables) (fs : List Finding) where
   refused-alike : (k : ℕ) (line piece : List ℕ) → read line ≡ refused k → read piece ≡ refused k → (lines others : List (List ℕ))
       → run-in T fs (line ∷ lines) ≡ run-in T fs (piece ∷ others)
   unfolding run-in step-of
-  refused-alike k line piece p q lines others = rw (p, q) (go (unfit (T .book)) (leb most-lines (lines-in (T .book))))
+  refused-alike k line piece p q lines others = rw (p, q) (go (unfit-tables T) (leb most-lines (lines-in (T .book))))
     where
       stepped-by : Bool → Bool → Stepped
       stepped-by t u = if t then untouched 8 T else if u then untouched 1 T else untouched k T

@@ -9,8 +9,8 @@ use lib.Seq.{take-at, drop-at, drop-drop}
 use Rattle.numbers.specs.Writing.{put}
 use Rattle.report.specs.Shown.{longest-leak}
 use Rattle.program.specs.declared.streams.Streams.{Streams}
-use Rattle.tables.specs.Tables.{Tables}
-use Rattle.tables.specs.Listing.{leak-numbers}
+use Rattle.tables.specs.Tables.{Tables, tables}
+use Rattle.tables.specs.Listing.{leak-numbers, leaks-in, list-of}
 use Rattle.program.specs.Progress.{buffer-size, most-leaks, Few}
 use Rattle.program.specs.Printing.{output, Newest, Due, Whole, Reported, Has-printed}
 use Rattle.program.specs.Listing.{listing-of, records-in, Lists, shown-from}
@@ -67,6 +67,11 @@ none-left s left =
     }
 
 -- ---- the records, a piece after the other
+
+-- the list looks at no classes
+pub whatever-classes : (s : Streams) (rs ms ps ns b cs ds : List ℕ) → Leaks-left s (tables rs ms ps ns b cs) → Leaks-left s (tables rs ms ps ns b ds)
+unfolding Leaks-left listing-of list-of leaks-in
+whatever-classes s rs ms ps ns b cs ds h = h
 
 pub listed-left : {asked : Bool} {ns' : List ℕ} {n : ℕ} (s : Streams) (T : Tables) (ns : List ℕ) → asked ≡ s .leaks → Lists asked T ns n ns' → length ns ≡ most-leaks * leak-numbers
     → Leaks-left s T → Good s → Records-left s ns' 0 n

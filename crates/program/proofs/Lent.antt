@@ -5,6 +5,7 @@ use mathlib.Core.Bool.{Bool, true, false}
 use mathlib.Core.List.{List, [], _++_, append-nil}
 use native.Mathlib.Omega.{arith}
 use lib.ListN.{length, replicate, length-replicate}
+use Rattle.lines.specs.Line.{classes}
 use Rattle.rows.specs.Marks.{word}
 use Rattle.rows.specs.Table.{room, most}
 use Rattle.rows.specs.References.{references}
@@ -29,24 +30,25 @@ marks-for rows = rows / word
 unfoldable pub lent : Tables
 lent =
     tables (replicate (program-room .references * references .stride) 0) (replicate (marks-for (program-room .references)) 0) (replicate (program-room .pins * pins .stride) 0)
-    (replicate (marks-for (program-room .pins)) 0) (replicate whole 0)
+    (replicate (marks-for (program-room .pins)) 0) (replicate whole 0) (replicate classes 0)
 
 -- ---- the start, which clears whatever the lent tables hold
 
 long-as : (n : ℕ) → length (replicate {A = ℕ} n 0) ≡ n
 long-as n = length-replicate {A = ℕ} n 0
 
-pub start-lent : (rs ms ps ns b : List ℕ) → length rs ≡ program-room .references * references .stride → length ms ≡ marks-for (program-room .references)
-    → length ps ≡ program-room .pins * pins .stride → length ns ≡ marks-for (program-room .pins) → length b ≡ whole → start-of (tables rs ms ps ns b) ≡ start-of lent
+pub start-lent : (rs ms ps ns b cs : List ℕ) → length rs ≡ program-room .references * references .stride → length ms ≡ marks-for (program-room .references)
+    → length ps ≡ program-room .pins * pins .stride → length ns ≡ marks-for (program-room .pins) → length b ≡ whole → length cs ≡ classes → start-of (tables rs ms ps ns b cs) ≡ start-of lent
 unfolding lent
-start-lent rs ms ps ns b r m p n w =
-    start-is (tables rs ms ps ns b) lent
+start-lent rs ms ps ns b cs r m p n w c =
+    start-is (tables rs ms ps ns b cs) lent
     (record {
       reference-rows = r ∙ sym (long-as (program-room .references * references .stride));
       reference-marks = m ∙ sym (long-as (marks-for (program-room .references)));
       pin-rows = p ∙ sym (long-as (program-room .pins * pins .stride));
       pin-marks = n ∙ sym (long-as (marks-for (program-room .pins)));
       books = w ∙ sym (long-as whole);
+      class-tables = c ∙ sym (long-as classes);
     })
 
 -- ---- its room is the program's
@@ -65,7 +67,7 @@ room-lent =
 
 long-lent : Long lent
 unfolding lent
-long-lent = omega (arith, long-as whole)
+long-lent = (omega (arith, long-as whole), omega (arith, long-as classes))
 
 report-is : (input : List ℕ) → report program-room input ≡ printed (run-in (start-of lent) [] (lines-of input))
 unfolding report-in

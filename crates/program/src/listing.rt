@@ -2,6 +2,7 @@
 use leaks::Listed;
 use leaks::NUMBERS;
 use rows::Number;
+ghost use mathlib.Core.List.{[]};
 ghost use Prim.Native.Nat.{_+_, _*_, _-_, _<_, _≤_};
 ghost use lib.ListN.{length};
 ghost use Rattle.history.specs.Leaks.{shown-leak};
@@ -20,7 +21,7 @@ pub(crate) fn list(
     book: &[u64],
     records: &mut [Number],
 ) -> usize
-    ensures { λ n. ⌜ Lists asked (tables (now (rows .entry)) (now (marks .entry)) (now (pins .entry)) (now (pinmarks .entry)) (now (book .entry))) (now (records .entry)) n (now (records .exit)) ⌝ }
+    ensures { λ n. ⌜ Lists asked (tables (now (rows .entry)) (now (marks .entry)) (now (pins .entry)) (now (pinmarks .entry)) (now (book .entry)) []) (now (records .entry)) n (now (records .exit)) ⌝ }
 {
     if !asked {
         return 0;

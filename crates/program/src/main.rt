@@ -12,6 +12,7 @@ use run::Passed;
 use run::Stop;
 use streams::Streams;
 ghost use mathlib.Core.Path.{_≡_};
+ghost use mathlib.Core.List.{[]};
 ghost use Prim.Native.Nat.{_*_, _-_, _≤_, _<_};
 ghost use lib.ListN.{length, take};
 ghost use Rattle.numbers.specs.Writing.{put};
@@ -37,6 +38,8 @@ const PIN_NUMBERS: usize = PIN_ROWS * rows::pins::STRIDE;
 const PIN_MARKS: usize = PIN_ROWS / rows::WORD;
 
 const BOOK_NUMBERS: usize = book::WHOLE;
+
+const CLASS_NUMBERS: usize = lines::ranges::CLASSES as usize;
 
 // So many numbers of records are lent to the list of the leaks, a record for each row.
 const LEAK_NUMBERS: usize = (REFERENCE_ROWS + PIN_ROWS) * leaks::NUMBERS;
@@ -210,7 +213,7 @@ fn add_leaks(
     book: &[u64; BOOK_NUMBERS],
     out: &mut [u8; BUFFER],
 ) -> Streams
-    requires { ⌜ Newest streams (now moved) × Leaks-left streams (tables (now rows) (now marks) (now pins) (now pinmarks) (now book)) ⌝ }
+    requires { ⌜ Newest streams (now moved) × Leaks-left streams (tables (now rows) (now marks) (now pins) (now pinmarks) (now book) []) ⌝ }
     ensures { λ q. ⌜ (q .leaks ≡ streams .leaks) × Reported q ⌝ }
 {
     let mut records = [0; LEAK_NUMBERS];
@@ -229,12 +232,13 @@ fn judge_all(
     pins: &mut [u32; PIN_NUMBERS],
     pinmarks: &mut [u64; PIN_MARKS],
     book: &mut [u64; BOOK_NUMBERS],
+    classes: &mut [u32; CLASS_NUMBERS],
     out: &mut [u8; BUFFER],
 ) -> Streams
     requires { ⌜ length (now buf) ≡ buffer-size ⌝ }
     ensures { λ q. ⌜ (q .leaks ≡ leaks) × Reported q ⌝ }
 {
-    judge::start(rows, marks, pins, pinmarks, book);
+    judge::start(rows, marks, pins, pinmarks, book, classes);
     let mut moved = 0;
     let mut so_far = Run {
         from: 0,
@@ -256,6 +260,7 @@ fn judge_all(
             pins,
             pinmarks,
             book,
+            classes,
             out,
         );
         so_far = turned(so_far, passed, &mut moved, buf, out);
@@ -284,6 +289,7 @@ fn judge_input(leaks: bool) -> Streams
     let mut pins = [0; PIN_NUMBERS];
     let mut pinmarks = [0; PIN_MARKS];
     let mut book = [0; BOOK_NUMBERS];
+    let mut classes = [0; CLASS_NUMBERS];
     let ended = judge_all(
         leaks,
         &mut buf,
@@ -292,6 +298,7 @@ fn judge_input(leaks: bool) -> Streams
         &mut pins,
         &mut pinmarks,
         &mut book,
+        &mut classes,
         &mut out,
     );
     if streams::is_unreadable(ended) {

@@ -14,7 +14,7 @@ use Rattle.promises.specs.Promises.{Leaks-listed, Unlisted-changes-nothi
 use Rattle.promises.proofs.Steps.{tables-are}
 
 list-is : (T : Tables) (ns ns' : List ℕ) (r : Listed) → Lists T ns r ns' → lists (reply-of r) ns' ≡ list-of T ns
-list-is T ns ns' r c = ap (lists (reply-of r)) (sym (c .given-back)) ∙ c .promised ∙ ap₂ list-of (c .read) (c .slice)
+list-is T ns ns' r c = ap (lists (reply-of r)) (sym (c .given-back)) ∙ c .promised (T .classes) ∙ ap₂ list-of (c .read) (c .slice)
 
 pub leaks-listed : Leaks-listed
 leaks-listed T S calls ns ns' r long before c =

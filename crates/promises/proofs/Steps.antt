@@ -48,7 +48,7 @@ pub refusal-number : Refusal-number
 unfolding answer-of
 refusal-number T S bs r c = let k = go (step-of T bs .reply) refl (step-is c .0) in omega arith
   where
-    go : (x : Reply) → step-of T bs .reply ≡ x → r ≡ answered x → r .refusal ≤ 8
+    go : (x : Reply) → step-of T bs .reply ≡ x → r ≡ answered x → r .refusal ≤ 10
     go (accepted fs) e h = let k : r .refusal ≡ 0 = ap (λ (a : Answer). a .refusal) h in omega arith
     go (not-accepted k) e h = let j : r .refusal ≡ k = ap (λ (a : Answer). a .refusal) h in omega (arith, demands .of-any-tables T .refusal-numbered bs k e .1)
 

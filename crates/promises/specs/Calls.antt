@@ -42,8 +42,8 @@ pub record Starts (T S : Tables) : Type 0 where
   pub κs : Lfts (judge.start.ended .signature .lifetimes)
   pub args : Args (judge.start.ended .signature) κs
   pub left : Lasts judge.start.ended κs args
-  pub lent : tables (now (args .0)) (now (args .1 .0)) (now (args .1 .1 .0)) (now (args .1 .1 .1 .0)) (now (args .1 .1 .1 .1 .0)) ≡ T
-  pub given-back : tables (left .0) (left .1 .0) (left .1 .1 .0) (left .1 .1 .1 .0) (left .1 .1 .1 .1 .0) ≡ S
+  pub lent : tables (now (args .0)) (now (args .1 .0)) (now (args .1 .1 .0)) (now (args .1 .1 .1 .0)) (now (args .1 .1 .1 .1 .0)) (now (args .1 .1 .1 .1 .1 .0)) ≡ T
+  pub given-back : tables (left .0) (left .1 .0) (left .1 .1 .0) (left .1 .1 .1 .0) (left .1 .1 .1 .1 .0) (left .1 .1 .1 .1 .1 .0) ≡ S
   pub promised : judge.start.Reads.Learnt κs args tt (atExit judge.start.ended κs args left)
 
 -- a call of `judge::step` on tables T and a line answers r and leaves S
@@ -52,16 +52,16 @@ pub record Steps (T : Tables) (bs : List ℕ) (r : Answer) (S : Tables) : Type 0
   pub args : Args (judge.step.ended .signature) κs
   pub left : Lasts judge.step.ended κs args
   pub line : now (args .0) ≡ bs
-  pub lent : tables (now (args .1 .0)) (now (args .1 .1 .0)) (now (args .1 .1 .1 .0)) (now (args .1 .1 .1 .1 .0)) (now (args .1 .1 .1 .1 .1 .0)) ≡ T
-  pub given-back : tables (left .1 .0) (left .1 .1 .0) (left .1 .1 .1 .0) (left .1 .1 .1 .1 .0) (left .1 .1 .1 .1 .1 .0) ≡ S
+  pub lent : tables (now (args .1 .0)) (now (args .1 .1 .0)) (now (args .1 .1 .1 .0)) (now (args .1 .1 .1 .1 .0)) (now (args .1 .1 .1 .1 .1 .0)) (now (args .1 .1 .1 .1 .1 .1 .0)) ≡ T
+  pub given-back : tables (left .1 .0) (left .1 .1 .0) (left .1 .1 .1 .0) (left .1 .1 .1 .1 .0) (left .1 .1 .1 .1 .1 .0) (left .1 .1 .1 .1 .1 .1 .0) ≡ S
   pub promised : judge.step.Reads.Learnt κs args r (atExit judge.step.ended κs args left)
 
--- a call of `leaks::list` on tables T and a slice ns answers r and leaves ns'
+-- a call of `leaks::list` on tables T, whose classes it is not lent, and a slice ns answers r and leaves ns'
 pub record Lists (T : Tables) (ns : List ℕ) (r : Listed) (ns' : List ℕ) : Type 0 where
   pub κs : Lfts (leaks.list.ended .signature .lifetimes)
   pub args : Args (leaks.list.ended .signature) κs
   pub left : Lasts leaks.list.ended κs args
-  pub read : tables (now (args .0)) (now (args .1 .0)) (now (args .1 .1 .0)) (now (args .1 .1 .1 .0)) (now (args .1 .1 .1 .1 .0)) ≡ T
+  pub read : tables (now (args .0)) (now (args .1 .0)) (now (args .1 .1 .0)) (now (args .1 .1 .1 .0)) (now (args .1 .1 .1 .1 .0)) (T .classes) ≡ T
   pub slice : now (args .1 .1 .1 .1 .1 .0) ≡ ns
   pub given-back : left .1 .1 .1 .1 .1 .0 ≡ ns'
   pub promised : leaks.list.Reads.Learnt κs args r (atExit leaks.list.ended κs args left)

@@ -26,7 +26,7 @@ abbrev pub Refusal-changes-nothing : Type 0
 Refusal-changes-nothing = (T S : Tables) (bs : List ℕ) (r : Answer) → Steps T bs r S → r .refusal ≢ 0 → (S ≡ T) × (r ≡ refused-with (r .refusal))
 
 abbrev pub Refusal-number : Type 0
-Refusal-number = (T S : Tables) (bs : List ℕ) (r : Answer) → Steps T bs r S → r .refusal ≤ 8
+Refusal-number = (T S : Tables) (bs : List ℕ) (r : Answer) → Steps T bs r S → r .refusal ≤ 10
 
 -- demand 2: "Writing an event and reading it gives that event"
 abbrev pub Written-is-read : Type 0

@@ -6,18 +6,18 @@ use mathlib.Core.Option.{none, some}
 use Prim.Native.Nat.{ℕ, zero, suc, _+_, _*_, _/_, _%_, _≤_, _<_}
 use native.Mathlib.Decide.{ℕ-discrete, decLt}
 use native.Mathlib.Omega.{arith}
-use lib.ListN.{length, getD, replicate, length-replicate, List·getD-eq-default}
+use lib.ListN.{length, getD, replicate, length-replicate}
 use Rattle.words.specs.Choice.{if_then_else_}
 use Rattle.rows.specs.Slots.{empty}
 use Rattle.rows.specs.Marks.{word, used, marked, unmarked}
-use Rattle.rows.specs.Table.{Layout, Table, table, cell, row, put-row, room, row-at, passes, free-row, stored, taken, ended, ended-if, ended-from, ended-all, cleared}
+use Rattle.rows.specs.Table.{Layout, Table, table, cell, row, put-row, room, row-at, passes, free-row, found, stored, taken, changed, ended, ended-if, ended-from, ended-all, cleared}
 use Rattle.rows.specs.View.{slot, view}
 use Rattle.rows.specs.Exact.{spelled, Exact}
 use Rattle.rows.proofs.BitLaws.{bit-of-zero}
-use Rattle.rows.proofs.SlotLaws.{getD-each, each-ext, each-same}
+use Rattle.rows.proofs.SlotLaws.{each-ext, each-same}
 use Rattle.rows.proofs.MarkLaws.{used-marked-same, used-marked-other, used-unmarked-other}
-use Rattle.rows.proofs.RowLaws.{row-same, row-other, in-table, in-words, stored-in, stored-out, ended-in, ended-out}
-use Rattle.rows.proofs.ViewLaws.{room-same, stored-lengths, ended-lengths, length-view, getD-zero}
+use Rattle.rows.proofs.RowLaws.{row-same, row-other, in-table, in-words, stored-in, stored-out, changed-in, changed-out, ended-in, ended-out}
+use Rattle.rows.proofs.ViewLaws.{room-same, stored-lengths, changed-lengths, ended-lengths, view-at, view-past, found-used, getD-zero}
 
 module _ {A : Type 0} (L : Layout A) where
   pub record Clean (T : Table) : Type 0 where
@@ -38,10 +38,10 @@ module _ {A : Type 0} (L : Layout A) where
       no-mark r = unfold used cleared in rw (getD-zero L (length (T .marks)) (r / word), bit-of-zero (r % word))
 
   -- one row with other numbers, and its mark: it is zeros, or marked
-  changed : (T : Table) (r : ℕ) (vs ms : List ℕ) → length vs ≡ L .stride → r < room L T → room L (table (put-row (L .stride) (T .rows) r vs) ms) ≡ room L T
+  clean-row : (T : Table) (r : ℕ) (vs ms : List ℕ) → length vs ≡ L .stride → r < room L T → room L (table (put-row (L .stride) (T .rows) r vs) ms) ≡ room L T
       → ((q : ℕ) → (q ≡ r → ⊥) → used ms q ≡ used (T .marks) q) → (used ms r ≡ false → vs ≡ replicate (L .stride) 0) → Clean T
       → Clean (table (put-row (L .stride) (T .rows) r vs) ms)
-  changed T r vs ms long h same others here k =
+  clean-row T r vs ms long h same others here k =
       record { zeroed = λ q u. at q (ℕ-discrete q r) u; within = λ q l. past q (ℕ-discrete q r) l }
     where
       at : (q : ℕ) → Dec (q ≡ r) → used ms q ≡ false → row (L .stride) (put-row (L .stride) (T .rows) r vs) q ≡ replicate (L .stride) 0
@@ -58,7 +58,7 @@ module _ {A : Type 0} (L : Layout A) where
       go : Dec (r < room L T) → Clean (stored L T r x)
       go (yes h) =
           rw (stored-in L T r x h)
-          (changed T r (L .numbers x) (marked (T .marks) r) (L .whole x) h
+          (clean-row T r (L .numbers x) (marked (T .marks) r) (L .whole x) h
           (ap (room L) (sym (stored-in L T r x h)) ∙ room-same L (stored L T r x) T (stored-lengths L T r x))
           (λ q n. used-marked-other (T .marks) r q (in-words L T r h) n)
           (λ u. absurd (false≢true (sym u ∙ used-marked-same (T .marks) r (in-words L T r h)))) k)
@@ -68,13 +68,31 @@ module _ {A : Type 0} (L : Layout A) where
   unfolding taken
   clean-taken T x k = clean-stored T (free-row L T) x k
 
+  pub clean-changed : (q : A → Bool) (g : A → A) (T : Table) → Clean T → Clean (changed L T (found L q T) g)
+  clean-changed q g T k = go (decLt (found L q T) (room L T))
+    where
+      r : ℕ
+      r = found L q T
+
+      x : A
+      x = g (row-at L (T .rows) r)
+
+      go : Dec (r < room L T) → Clean (changed L T r g)
+      go (yes h) =
+          rw (changed-in L T r g h)
+          (clean-row T r (L .numbers x) (T .marks) (L .whole x) h
+          (ap (room L) (sym (changed-in L T r g h)) ∙ room-same L (changed L T r g) T (changed-lengths L T r g))
+          (λ q n. refl)
+          (λ u. absurd (false≢true (sym u ∙ found-used L q T h))) k)
+      go (no h) = rw (changed-out L T r g (omega arith)) k
+
   pub clean-ended : (T : Table) (r : ℕ) → Clean T → Clean (ended L T r)
   clean-ended T r k = go (decLt r (room L T))
     where
       go : Dec (r < room L T) → Clean (ended L T r)
       go (yes h) =
           rw (ended-in L T r h)
-          (changed T r (replicate (L .stride) 0) (unmarked (T .marks) r) (length-replicate {A = ℕ} (L .stride) 0) h
+          (clean-row T r (replicate (L .stride) 0) (unmarked (T .marks) r) (length-replicate {A = ℕ} (L .stride) 0) h
           (ap (room L) (sym (ended-in L T r h)) ∙ room-same L (ended L T r) T (ended-lengths L T r))
           (λ q n. used-unmarked-other (T .marks) r q (in-words L T r h) n)
           (λ u. refl) k)
@@ -105,8 +123,8 @@ module _ {A : Type 0} (L : Layout A) where
       at r = go (decLt r (room L T))
         where
           go : Dec (r < room L T) → getD (view L T) r none ≡ (if used (T .marks) r then some (row-at L (T .rows) r) else none)
-          go (yes h) = unfold view slot in getD-each (slot L T) (room L T) r none h
-          go (no h) = List·getD-eq-default (view L T) none (omega (arith, length-view L T)) ∙ rw (k .within r (omega arith))
+          go (yes h) = unfold slot in view-at L T r h
+          go (no h) = view-past L T r (omega arith) ∙ rw (k .within r (omega arith))
 
       rows : (r : ℕ) (b : Bool) → used (T .marks) r ≡ b → row (L .stride) (T .rows) r ≡ spelled L (if b then some (row-at L (T .rows) r) else none)
       rows r true u = sym (spells (T .rows) r)

@@ -5,6 +5,7 @@ pub mod BitLaws
 pub mod MarkLaws
 mod CellLaws
 mod TableLaws
+mod ClassLaws
 pub mod SlotLaws
 pub mod RowLaws
 mod SoughtLaws

@@ -1,15 +1,17 @@
--- A row stored or ended: what each row and each slot then is. Assumes nothing.
-use mathlib.Core.Path.{_≡_, sym, ap, _∙_}
+-- A row stored, changed or ended: what each row and each slot then is. Assumes nothing.
+use mathlib.Core.Path.{_≡_, refl, sym, ap, _∙_}
+use mathlib.Core.Bool.{Bool, true, false}
 use mathlib.Core.List.{List}
-use mathlib.Core.Option.{none, some}
+use mathlib.Core.Option.{Option·map, none, some}
 use Prim.Native.Nat.{ℕ, suc, _+_, _*_, _/_, _≤_, _<_}
 use native.Mathlib.Nat.{mul-le-mul-right, suc-mul, div-mul-le-self}
 use native.Mathlib.Omega.{arith}
 use lib.ListN.{length, replicate, length-replicate}
 use lib.Seq.{ext-getD}
 use borrow.Author.Tests.{lt-ltb, le-ltb}
-use Rattle.rows.specs.Marks.{word, marked, unmarked}
-use Rattle.rows.specs.Table.{Layout, Table, table, each, cell, row, put-row, room, row-at, stored, ended}
+use Rattle.words.specs.Choice.{if_then_else_}
+use Rattle.rows.specs.Marks.{word, used, marked, unmarked}
+use Rattle.rows.specs.Table.{Layout, Table, table, each, cell, row, put-row, room, row-at, stored, changed, ended}
 use Rattle.rows.specs.View.{slot}
 use Rattle.rows.proofs.SlotLaws.{length-each, getD-each, each-ext}
 use Rattle.rows.proofs.CellLaws.{cell-in, cell-out}
@@ -49,6 +51,15 @@ module _ {A : Type 0} (L : Layout A) where
   unfolding stored
   stored-out T r x h = rw (le-ltb r (room L T) h)
 
+  pub changed-in : (T : Table) (r : ℕ) (g : A → A) → r < room L T
+      → changed L T r g ≡ table (put-row (L .stride) (T .rows) r (L .numbers (g (row-at L (T .rows) r)))) (T .marks)
+  unfolding changed
+  changed-in T r g h = rw (lt-ltb r (room L T) h)
+
+  pub changed-out : (T : Table) (r : ℕ) (g : A → A) → room L T ≤ r → changed L T r g ≡ T
+  unfolding changed
+  changed-out T r g h = rw (le-ltb r (room L T) h)
+
   pub ended-in : (T : Table) (r : ℕ) → r < room L T → ended L T r ≡ table (put-row (L .stride) (T .rows) r (replicate (L .stride) 0)) (unmarked (T .marks) r)
   unfolding ended
   ended-in T r h = rw (lt-ltb r (room L T) h)
@@ -76,6 +87,19 @@ module _ {A : Type 0} (L : Layout A) where
   unfolding slot
   slot-stored-other T r k x h n =
       rw (stored-in T r x h, used-marked-other (T .marks) r k (in-words T r h) n, at-other (T .rows) (L .numbers x) r k (L .whole x) n)
+
+  pub slot-changed-same : (T : Table) (r : ℕ) (g : A → A) → r < room L T → slot L (changed L T r g) r ≡ Option·map g (slot L T r)
+  unfolding slot
+  slot-changed-same T r g h = rw (changed-in T r g h, at-same (T .rows) r (g (row-at L (T .rows) r)) (in-table T r h)) (go (used (T .marks) r))
+    where
+      go : (b : Bool) → (if b then some (g (row-at L (T .rows) r)) else none) ≡ Option·map g (if b then some (row-at L (T .rows) r) else none)
+      go true = refl
+      go false = refl
+
+  pub slot-changed-other : (T : Table) (r k : ℕ) (g : A → A) → r < room L T → (k ≡ r → ⊥) → slot L (changed L T r g) k ≡ slot L T k
+  unfolding slot
+  slot-changed-other T r k g h n =
+      rw (changed-in T r g h, at-other (T .rows) (L .numbers (g (row-at L (T .rows) r))) r k (L .whole (g (row-at L (T .rows) r))) n)
 
   pub slot-ended-same : (T : Table) (r : ℕ) → r < room L T → slot L (ended L T r) r ≡ none
   unfolding slot

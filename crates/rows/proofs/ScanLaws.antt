@@ -88,7 +88,7 @@ lowest-below p (suc n) k h = go (λ k l. lowest-below (λ k. p (suc k)) n k l) k
     go ih zero false e l = e
     go ih (suc k) false e l = ih k (le-of-suc-le-suc l)
 
-lowest-at : (p : ℕ → Bool) (n : ℕ) → lowest p n < n → p (lowest p n) ≡ true
+pub lowest-at : (p : ℕ → Bool) (n : ℕ) → lowest p n < n → p (lowest p n) ≡ true
 unfolding lowest
 lowest-at p zero h = absurd (not-suc-le-zero h)
 lowest-at p (suc n) h = go (λ l. lowest-at (λ k. p (suc k)) n l) (p zero) refl h

@@ -2,7 +2,7 @@
 use mathlib.Core.Path.{_≡_, refl, ap, ap₂, _∙_}
 use mathlib.Core.Bool.{Bool, true, false, _||_}
 use mathlib.Core.List.{List, [], _∷_}
-use mathlib.Core.Option.{Option, none, some}
+use mathlib.Core.Option.{Option, Option·map, none, some}
 use Prim.Native.Nat.{ℕ, zero, suc, _+_, _<_, suc-le-suc}
 use native.Mathlib.Nat.{zero-lt-suc, not-suc-le-zero, le-of-suc-le-suc, suc-inj}
 use native.Mathlib.Omega.{arith}
@@ -10,9 +10,9 @@ use lib.ListN.{length, getD, set, replicate}
 use lib.Dec.{ltb, leb·suc-suc}
 use borrow.Author.Tests.{lt-ltb, le-ltb}
 use Rattle.words.specs.Choice.{if_then_else_, one}
-use Rattle.words.specs.Lists.{any, count, place-of}
+use Rattle.words.specs.Lists.{any, count, place-of, of-first}
 use Rattle.rows.specs.Scan.{how-many, lowest}
-use Rattle.rows.specs.Slots.{held, holding, empty, put, wipe, wipe-first}
+use Rattle.rows.specs.Slots.{held, holding, empty, put, wipe, wipe-first, change-first}
 use Rattle.rows.specs.Table.{each}
 
 one-more : (b : Bool) (m : ℕ) → one b + m ≡ (if b then suc m else m)
@@ -58,7 +58,7 @@ module _ {A : Type 0} where
   place-each q f zero = refl
   place-each q f (suc n) = ap (λ (m : ℕ). if q (f zero) then zero else suc m) (place-each q (λ k. f (suc k)) n)
 
--- ---- what is put into the lowest free slot, or taken from the lowest that passes
+-- ---- what is put into the lowest free slot, or taken from the lowest that passes, or made of it, or said of it
 module _ {A : Type 0} where
   pub put-is-set : (x : A) (s : List (Option A)) → put x s ≡ set s (place-of empty s) (some x)
   put-is-set x [] = refl
@@ -74,6 +74,33 @@ module _ {A : Type 0} where
           → _≡_ {A = List (Option A)} (if b then none ∷ s else some x ∷ wipe-first q s) (set (some x ∷ s) (if b then 0 else suc (place-of (holding q) s)) none)
       go true ih = refl
       go false ih = ap {B = List (Option A)} (λ l. some x ∷ l) ih
+
+  pub change-first-is-set : (q : A → Bool) (g : A → A) (s : List (Option A))
+      → change-first q g s ≡ set s (place-of (holding q) s) (Option·map g (getD s (place-of (holding q) s) none))
+  change-first-is-set q g [] = refl
+  change-first-is-set q g (none ∷ s) = ap {B = List (Option A)} (λ l. none ∷ l) (change-first-is-set q g s)
+  change-first-is-set q g (some x ∷ s) = go (q x) (change-first-is-set q g s)
+    where
+      go : (b : Bool) → change-first q g s ≡ set s (place-of (holding q) s) (Option·map g (getD s (place-of (holding q) s) none))
+          → (let r : ℕ = if b then 0 else suc (place-of (holding q) s) in
+          _≡_ {A = List (Option A)} (if b then some (g x) ∷ s else some x ∷ change-first q g s) (set (some x ∷ s) r (Option·map g (getD (some x ∷ s) r none))))
+      go true ih = refl
+      go false ih = ap {B = List (Option A)} (λ l. some x ∷ l) ih
+
+  -- what f says of a slot, 0 of a free one
+  abbrev pub said : (A → ℕ) → Option A → ℕ
+  said f none = 0
+  said f (some x) = f x
+
+  pub of-first-is-said : (q : A → Bool) (f : A → ℕ) (s : List (Option A)) → of-first q f (held s) ≡ said f (getD s (place-of (holding q) s) none)
+  of-first-is-said q f [] = refl
+  of-first-is-said q f (none ∷ s) = of-first-is-said q f s
+  of-first-is-said q f (some x ∷ s) = go (q x) (of-first-is-said q f s)
+    where
+      go : (b : Bool) → of-first q f (held s) ≡ said f (getD s (place-of (holding q) s) none)
+          → (if b then f x else of-first q f (held s)) ≡ said f (getD (some x ∷ s) (if b then 0 else suc (place-of (holding q) s)) none)
+      go true ih = refl
+      go false ih = ih
 
   -- a slot freed where it passes
   abbrev pub freed : (A → Bool) → Option A → Option A

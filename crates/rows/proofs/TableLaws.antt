@@ -10,16 +10,15 @@ use native.Mathlib.Decide.{decLt}
 use native.Mathlib.Omega.{arith}
 use borrow.Author.Fill.{fill-none, fill-more}
 use borrow.Author.Tests.{lt-ltb, le-ltb}
-use lib.ListN.{length, getD, set, replicate, drop, List·getD-eq-default}
+use lib.ListN.{length, getD, set, replicate, drop}
 use lib.Seq.{drop-length}
 use lib.Dec.{ltb}
 use Rattle.words.specs.Choice.{one}
 use Rattle.rows.specs.Scan.{how-many, lowest, some-below}
 use Rattle.rows.specs.Marks.{word, in-word, used, free, marked, unmarked}
-use Rattle.rows.specs.Table.{Layout, Table, table, put-row, room, row-at, matches, passes, free-row, alive, counted, some-row, stored, taken, ended, ended-if, ended-from, ended-all, cleared}
+use Rattle.rows.specs.Table.{Layout, Table, table, put-row, room, row-at, matches, passes, free-row, alive, counted, some-row, stored, taken, changed, ended, ended-if, ended-from, ended-all, cleared}
 use Rattle.rows.specs.View.{slot, view}
-use Rattle.rows.proofs.SlotLaws.{getD-each}
-use Rattle.rows.proofs.ViewLaws.{length-view}
+use Rattle.rows.proofs.ViewLaws.{view-at, view-past}
 use Rattle.rows.proofs.ScanLaws.{how-many-ext, each-fails, none-passes, lowest-none}
 use Rattle.rows.proofs.MarkLaws.{word-unused, word-used, sum-next, search-hit, search-last}
 
@@ -35,23 +34,19 @@ module _ {A : Type 0} (L : Layout A) where
 
   -- ---- a slot: past the room, used, or not
   pub slot-past : (T : Table) (n r : ℕ) → n ≡ room L T → n ≤ r → none ≡ getD (view L T) r none
-  slot-past T n r a l = sym (List·getD-eq-default (view L T) none (omega (arith, length-view L T)))
-
-  within : (T : Table) (n r : ℕ) → n ≡ room L T → r < n → getD (view L T) r none ≡ slot L T r
-  unfolding view
-  within T n r a l = getD-each (slot L T) (room L T) r none (omega arith)
+  slot-past T n r a l = sym (view-past L T r (omega arith))
 
   pub slot-used : (rs ms : List ℕ) (n r : ℕ) (b : Bool) (x : A) → n ≡ room L (table rs ms) → r < n → b ≡ used ms r → b ≡ true → x ≡ row-at L rs r
       → some x ≡ getD (view L (table rs ms)) r none
   unfolding slot
-  slot-used rs ms n r b x a l e y f = ap some f ∙ rw (within (table rs ms) n r a l, ← e, y)
+  slot-used rs ms n r b x a l e y f = ap some f ∙ rw (view-at L (table rs ms) r (omega arith), ← e, y)
 
   pub slot-free : (rs ms : List ℕ) (n r : ℕ) (b : Bool) → n ≡ room L (table rs ms) → r < n → b ≡ used ms r → b ≡ false
       → none ≡ getD (view L (table rs ms)) r none
   unfolding slot
-  slot-free rs ms n r b a l e y = rw (within (table rs ms) n r a l, ← e, y)
+  slot-free rs ms n r b a l e y = rw (view-at L (table rs ms) r (omega arith), ← e, y)
 
-  -- ---- a row stored, or ended
+  -- ---- a row stored, changed, or ended
   pub store-some : (rs ms rs' ms' : List ℕ) (x : A) (n r : ℕ) → n ≡ room L (table rs ms) → r < n
       → rs' ≡ put-row (L .stride) rs r (L .numbers x) → ms' ≡ marked ms r → table rs' ms' ≡ stored L (table rs ms) r x
   unfolding stored
@@ -64,6 +59,15 @@ module _ {A : Type 0} (L : Layout A) where
   pub take-left : (T S : Table) (x : A) (r : ℕ) → r ≡ free-row L T → S ≡ stored L T r x → S ≡ taken L T x
   unfolding taken
   take-left T S x r a b = b ∙ ap (λ (k : ℕ). stored L T k x) a
+
+  pub change-some : (rs ms rs' : List ℕ) (g : A → A) (n r : ℕ) → n ≡ room L (table rs ms) → r < n
+      → rs' ≡ put-row (L .stride) rs r (L .numbers (g (row-at L rs r))) → table rs' ms ≡ changed L (table rs ms) r g
+  unfolding changed
+  change-some rs ms rs' g n r a l p = ap (λ (x : List ℕ). table x ms) p ∙ rw (lt-ltb r (room L (table rs ms)) (omega arith))
+
+  pub change-none : (rs ms : List ℕ) (g : A → A) (n r : ℕ) → n ≡ room L (table rs ms) → n ≤ r → table rs ms ≡ changed L (table rs ms) r g
+  unfolding changed
+  change-none rs ms g n r a l = rw (le-ltb r (room L (table rs ms)) (omega arith))
 
   pub end-some : (rs ms rs' ms' : List ℕ) (n r : ℕ) → n ≡ room L (table rs ms) → r < n
       → rs' ≡ put-row (L .stride) rs r (replicate (L .stride) 0) → ms' ≡ unmarked ms r → table rs' ms' ≡ ended L (table rs ms) r

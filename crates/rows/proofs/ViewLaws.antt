@@ -1,8 +1,8 @@
 -- What each function does, said of the list of slots, for rows of any layout: what a caller cites. Assumes nothing.
 use mathlib.Core.Path.{_≡_, refl, sym, ap, ap₂, _∙_}
-use mathlib.Core.Bool.{Bool, true, false, not, _&&_}
+use mathlib.Core.Bool.{Bool, true, false, not, _&&_, false≢true}
 use mathlib.Core.List.{List}
-use mathlib.Core.Option.{Option, none, some}
+use mathlib.Core.Option.{Option, Option·map, none, some}
 use Prim.Native.Nat.{ℕ, zero, suc, _+_, _/_, _%_, _≤_, _<_}
 use native.Mathlib.Nat.{le-refl}
 use native.Mathlib.Decide.{ℕ-discrete, decLt}
@@ -10,17 +10,18 @@ use native.Mathlib.Omega.{arith}
 use lib.ListN.{length, getD, set, length-set, replicate, getD-replicate, length-replicate, List·getD-eq-default}
 use lib.Seq.{length-sets, set-out}
 use lib.Dec.{ltb}
+use borrow.Author.Tests.{lt-ltb, le-ltb}
 use Rattle.words.specs.Choice.{if_then_else_}
-use Rattle.words.specs.Lists.{any, count, place-of}
+use Rattle.words.specs.Lists.{any, count, place-of, of-first}
 use Rattle.rows.specs.Scan.{some-below}
-use Rattle.rows.specs.Slots.{held, holding, empty, put, wipe, wipe-first}
+use Rattle.rows.specs.Slots.{held, holding, empty, put, wipe, wipe-first, change-first}
 use Rattle.rows.specs.Marks.{word, used, free, marked, unmarked}
-use Rattle.rows.specs.Table.{Layout, Table, table, each, put-row, room, row-at, matches, passes, free-row, alive, found, counted, some-row, stored, taken, ended, ended-if, ended-from, ended-all, cleared}
+use Rattle.rows.specs.Table.{Layout, Table, table, each, put-row, room, row-at, matches, passes, free-row, alive, found, counted, some-row, stored, taken, changed, ended, ended-if, ended-from, ended-all, cleared}
 use Rattle.rows.specs.View.{slot, view}
-use Rattle.rows.proofs.ScanLaws.{how-many-ext, lowest-ext, one-fails, not-all-pass}
+use Rattle.rows.proofs.ScanLaws.{how-many-ext, lowest-at, lowest-ext, one-fails, not-all-pass}
 use Rattle.rows.proofs.BitLaws.{bit-of-zero}
-use Rattle.rows.proofs.SlotLaws.{length-each, each-ext, each-set, each-same, count-each, place-each, put-is-set, wipe-first-is-set, freed, wipe-each, count-held, length-held, any-held, held-put}
-use Rattle.rows.proofs.RowLaws.{stored-out, ended-out, slot-stored-same, slot-stored-other, slot-ended-same, slot-ended-other}
+use Rattle.rows.proofs.SlotLaws.{length-each, getD-each, each-ext, each-set, each-same, count-each, place-each, put-is-set, wipe-first-is-set, change-first-is-set, said, of-first-is-said, freed, wipe-each, count-held, length-held, any-held, held-put}
+use Rattle.rows.proofs.RowLaws.{stored-out, changed-out, ended-out, slot-stored-same, slot-stored-other, slot-changed-same, slot-changed-other, slot-ended-same, slot-ended-other}
 
 -- ---- no function changes a length
 pub record Same-lengths (S T : Table) : Type 0 where
@@ -51,6 +52,14 @@ module _ {A : Type 0} (L : Layout A) where
   unfolding taken
   taken-lengths T x = stored-lengths T (free-row L T) x
 
+  pub changed-lengths : (T : Table) (r : ℕ) (g : A → A) → Same-lengths (changed L T r g) T
+  unfolding changed
+  changed-lengths T r g = go (ltb r (room L T)) (L .numbers (g (row-at L (T .rows) r)))
+    where
+      go : (b : Bool) (vs : List ℕ) → Same-lengths (if b then table (put-row (L .stride) (T .rows) r vs) (T .marks) else T) T
+      go true vs = unfold put-row in record { rows = length-sets (T .rows) _ vs; marks = refl }
+      go false vs = record { rows = refl; marks = refl }
+
   pub ended-lengths : (T : Table) (r : ℕ) → Same-lengths (ended L T r) T
   unfolding ended
   ended-lengths T r = go (ltb r (room L T))
@@ -80,6 +89,13 @@ module _ {A : Type 0} (L : Layout A) where
   pub length-view : (T : Table) → length (view L T) ≡ room L T
   unfolding view
   length-view T = length-each (slot L T) (room L T)
+
+  pub view-at : (T : Table) (r : ℕ) → r < room L T → getD (view L T) r none ≡ slot L T r
+  unfolding view
+  view-at T r h = getD-each (slot L T) (room L T) r none h
+
+  pub view-past : (T : Table) (r : ℕ) → room L T ≤ r → getD (view L T) r none ≡ none
+  view-past T r h = List·getD-eq-default (view L T) none (omega (arith, length-view T))
 
   used-slot : (T : Table) (k : ℕ) → used (T .marks) k ≡ holding (λ x. true) (slot L T k)
   unfolding slot
@@ -138,6 +154,24 @@ module _ {A : Type 0} (L : Layout A) where
       by-found : some-row L q T ≡ ltb (found L q T) (room L T)
       by-found = unfold some-row some-below found in refl
 
+  -- the row found is used
+  pub found-used : (q : A → Bool) (T : Table) → found L q T < room L T → used (T .marks) (found L q T) ≡ true
+  unfolding found
+  found-used q T h = go (matches L q (T .rows) (found L q T)) (used (T .marks) (found L q T)) (unfold passes in lowest-at (passes L q T) (room L T) h)
+    where
+      go : (a b : Bool) → (a && b) ≡ true → b ≡ true
+      go true b e = e
+      go false b e = absurd (false≢true e)
+
+  pub of-first-view : (q : A → Bool) (f : A → ℕ) (T : Table)
+      → (if ltb (found L q T) (room L T) then f (row-at L (T .rows) (found L q T)) else 0) ≡ of-first q f (held (view L T))
+  of-first-view q f T = go (decLt (found L q T) (room L T)) ∙ ap (λ (r : ℕ). said f (getD (view L T) r none)) (found-view q T) ∙ sym (of-first-is-said q f (view L T))
+    where
+      go : Dec (found L q T < room L T)
+          → (if ltb (found L q T) (room L T) then f (row-at L (T .rows) (found L q T)) else 0) ≡ said f (getD (view L T) (found L q T) none)
+      go (yes h) = rw (lt-ltb (found L q T) (room L T) h, view-at T (found L q T) h) (unfold slot in rw (found-used q T h))
+      go (no h) = let l : room L T ≤ found L q T = omega arith in rw (le-ltb (found L q T) (room L T) l, view-past T (found L q T) l)
+
   -- ---- there is a free row exactly when fewer than the room are alive
   pub free-below-room : (T : Table) → alive L T < room L T → free-row L T < room L T
   unfolding alive free-row free
@@ -170,6 +204,24 @@ module _ {A : Type 0} (L : Layout A) where
   alive-taken T x h =
       alive-view (taken L T x) ∙ ap (λ (s : List (Option A)). length (held s)) (view-taken T x)
       ∙ held-put x (view L T) (omega (arith, free-row-view T, length-view T)) ∙ ap suc (sym (alive-view T))
+
+  pub view-changed : (T : Table) (r : ℕ) (g : A → A) → view L (changed L T r g) ≡ set (view L T) r (Option·map g (getD (view L T) r none))
+  view-changed T r g = go (decLt r (room L T))
+    where
+      inside : r < room L T → view L (changed L T r g) ≡ set (view L T) r (Option·map g (slot L T r))
+      inside h =
+          unfold view in
+          ap (each (slot L (changed L T r g))) (room-same (changed L T r g) T (changed-lengths T r g))
+          ∙ each-set (slot L T) (slot L (changed L T r g)) (room L T) r (Option·map g (slot L T r)) h (slot-changed-same L T r g h) (λ k n. slot-changed-other L T r k g h n)
+
+      go : Dec (r < room L T) → view L (changed L T r g) ≡ set (view L T) r (Option·map g (getD (view L T) r none))
+      go (yes h) = inside h ∙ ap (λ (s : Option A). set (view L T) r (Option·map g s)) (sym (view-at T r h))
+      go (no h) = ap (view L) (changed-out L T r g (omega arith)) ∙ sym (set-out (view L T) r _ (omega (arith, length-view T)))
+
+  pub view-changed-found : (q : A → Bool) (g : A → A) (T : Table) → view L (changed L T (found L q T) g) ≡ change-first q g (view L T)
+  view-changed-found q g T =
+      view-changed T (found L q T) g ∙ ap (λ (r : ℕ). set (view L T) r (Option·map g (getD (view L T) r none))) (found-view q T)
+      ∙ sym (change-first-is-set q g (view L T))
 
   pub view-ended : (T : Table) (r : ℕ) → view L (ended L T r) ≡ set (view L T) r none
   view-ended T r = go (decLt r (room L T))

@@ -43,3 +43,9 @@ module _ {ℓ} {A : Type ℓ} where
   wipe-first q [] = []
   wipe-first q (none ∷ s) = none ∷ wipe-first q s
   wipe-first q (some x ∷ s) = if q x then none ∷ s else some x ∷ wipe-first q s
+
+  -- the lowest slot that passes the test holds what g makes of it
+  abbrev pub change-first : (A → Bool) → (A → A) → List (Option A) → List (Option A)
+  change-first q g [] = []
+  change-first q g (none ∷ s) = none ∷ change-first q g s
+  change-first q g (some x ∷ s) = if q x then some (g x) ∷ s else some x ∷ change-first q g s

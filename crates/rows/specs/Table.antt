@@ -94,6 +94,10 @@ module _ {A : Type 0} (L : Layout A) where
   unfoldable pub taken : Table → A → Table
   taken T x = stored T (free-row T) x
 
+  -- row r holds what g makes of it, its mark stays, if there is such a row
+  unfoldable pub changed : Table → ℕ → (A → A) → Table
+  changed T r g = if ltb r (room T) then table (put-row (L .stride) (T .rows) r (L .numbers (g (row-at (T .rows) r)))) (T .marks) else T
+
   -- row r is zeroed and unmarked, if there is such a row
   unfoldable pub ended : Table → ℕ → Table
   ended T r = if ltb r (room T) then table (put-row (L .stride) (T .rows) r (replicate (L .stride) 0)) (unmarked (T .marks) r) else T

@@ -1,4 +1,4 @@
-// Reference rows: thread, handle and frame of each handle that is alive, and the line that made it.
+// Reference rows: thread, handle and frame of each handle that is alive, the line that made it, and its stated class or 0.
 use super::Number;
 use super::WORD;
 use super::clear_row;
@@ -20,19 +20,20 @@ ghost use mathlib.Core.Option.{none};
 ghost use lib.ListN.{length, getD};
 ghost use Rattle.rows.specs.Scan.{how-many, lowest};
 ghost use Rattle.rows.specs.Marks.{word, in-word};
-ghost use Rattle.rows.specs.Table.{table, put-row, room, row-at, matches, passes, free-row, alive, found, counted, stored, taken, ended, ended-if, ended-from, ended-all};
+ghost use Rattle.rows.specs.Table.{table, put-row, room, row-at, matches, passes, free-row, alive, found, counted, stored, taken, changed, ended, ended-if, ended-from, ended-all};
 ghost use Rattle.rows.specs.View.{view};
-ghost use Rattle.rows.specs.References.{references, told, of-thread, has-handle, is-handle, in-frame, from-frame};
+ghost use Rattle.rows.specs.References.{references, told, of-thread, has-handle, is-handle, in-frame, from-frame, with-class, class-at};
 
 // Numbers to a row: what a caller lends for so many rows.
-pub const STRIDE: usize = 4;
+pub const STRIDE: usize = 5;
 
-// A row: thread and frame are 0 for global and weak handles, else from 1.
+// A row: thread and frame are 0 for global and weak handles, else from 1; class is 0 where none is stated.
 pub struct Reference {
     pub thread: Number,
     pub handle: Number,
     pub frame: Number,
     pub line: Number,
+    pub class: Number,
 }
 
 // What stands in a row of the room, where it is used.
@@ -73,6 +74,7 @@ pub(crate) fn read(rows: &[Number], r: usize) -> Reference
         handle: rows[at + 1],
         frame: rows[at + 2],
         line: rows[at + 3],
+        class: rows[at + 4],
     }
 }
 
@@ -90,6 +92,18 @@ pub fn slot(rows: &[Number], marks: &[u64], r: usize) -> Held
     }
 }
 
+// The stated class of row r, used or not; 0 where there is no row r.
+pub fn class_at(rows: &[Number], marks: &[u64], r: usize) -> Number
+    ensures { λ c. ⌜ c ≡ class-at (table (now (rows .entry)) (now (marks .entry))) r ⌝ }
+{
+    if r < room(rows, marks) {
+        let row = read(rows, r);
+        row.class
+    } else {
+        0
+    }
+}
+
 // Puts a row's numbers into row r.
 fn write(rows: &mut [Number], r: usize, row: Reference)
     requires { ⌜ r < length (now rows) / references .stride ⌝ }
@@ -100,6 +114,15 @@ fn write(rows: &mut [Number], r: usize, row: Reference)
     rows[at + 1] = row.handle;
     rows[at + 2] = row.frame;
     rows[at + 3] = row.line;
+    rows[at + 4] = row.class;
+}
+
+// Puts a class into row r: one number, the row's others stay.
+fn write_class(rows: &mut [Number], r: usize, class: Number)
+    requires { ⌜ r < length (now rows) / references .stride ⌝ }
+    ensures { λ _. ⌜ now (rows .exit) ≡ put-row (references .stride) (now (rows .entry)) r (references .numbers (with-class class (row-at references (now (rows .entry)) r))) ⌝ }
+{
+    rows[r * STRIDE + 4] = class;
 }
 
 // Row r holds this and is marked; nothing where there is no row r.
@@ -109,6 +132,15 @@ pub fn store(rows: &mut [Number], marks: &mut [u64], r: usize, row: Reference)
     if r < room(rows, marks) {
         write(rows, r, row);
         set_mark(marks, r);
+    }
+}
+
+// Row r has this stated class, and its mark stays; nothing where there is no row r.
+pub fn state(rows: &mut [Number], marks: &[u64], r: usize, class: Number)
+    ensures { λ _. ⌜ table (now (rows .exit)) (now (marks .entry)) ≡ changed references (table (now (rows .entry)) (now (marks .entry))) r (with-class class) ⌝ }
+{
+    if r < room(rows, marks) {
+        write_class(rows, r, class);
     }
 }
 

@@ -9,7 +9,7 @@ use borrow.Author.Tests.{eq-eqb}
 use lib.Dec.{eqb, leb}
 use lib.ListN.{length}
 use Rattle.words.specs.Choice.{if_then_else_}
-use Rattle.lines.specs.Line.{Line, N, X, C, R, Z}
+use Rattle.lines.specs.Line.{Line, N, X, C, R, Z, states}
 use Rattle.lines.specs.Reading.{Read, says, refused, read}
 use Rattle.lines.proofs.Refusals.{refused-by-number}
 use Rattle.history.specs.Past.{thread-of}
@@ -20,12 +20,11 @@ use Rattle.history.specs.Replies.{Reply, accepted, not-accepted, most-lines}
 use Rattle.history.specs.declared.Finding.{Finding}
 use Rattle.history.proofs.Most.{at-most}
 use Rattle.book.specs.Threads.{items-in, lines-in}
-use Rattle.book.specs.Unfit.{unfit}
 use Rattle.answers.specs.declared.Answer.{Answer}
 use Rattle.answers.specs.Answer.{most-found, answer-of, answered}
 use Rattle.tables.specs.Tables.{Tables, seen-in}
 use Rattle.tables.specs.Weighing.{refusal-in, weighed-in}
-use Rattle.tables.specs.Stepping.{untouched, follow, on-read, step-of}
+use Rattle.tables.specs.Stepping.{untouched, follow, on-read, unfit-tables, step-of}
 use Rattle.demands.proofs.Foreign.{refusal-keeps}
 use Rattle.events.specs.Outcome.{Outcome, leaves}
 use Rattle.judge.specs.Outcome.{step-outcome}
@@ -38,6 +37,7 @@ few-findings (X t r) = omega arith
 few-findings (C t env f a b c n) = omega arith
 few-findings (R t f r p) = omega arith
 few-findings Z = omega arith
+few-findings (states s) = omega arith
 
 module _ (T : Tables) (bs : List ℕ) where
   abbrev Proper : Reply → Type 0
@@ -65,7 +65,7 @@ module _ (T : Tables) (bs : List ℕ) where
 
   proper : Proper (step-of T bs .reply)
   unfolding step-of
-  proper = go (unfit (T .book)) (leb most-lines (lines-in (T .book)))
+  proper = go (unfit-tables T) (leb most-lines (lines-in (T .book)))
     where
       go : (u o : Bool) → Proper ((if u then untouched 8 T else if o then untouched 1 T else on-read (read bs) T) .reply)
       go true o = λ z. absurd (omega (arith, z))

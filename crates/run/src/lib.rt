@@ -113,9 +113,10 @@ pub fn run_lines(
     pins: &mut [u32],
     pinmarks: &mut [u64],
     book: &mut [u64],
+    classes: &mut [u32],
     out: &mut [u8],
 ) -> Passed
-    ensures { λ r. ⌜ leaves r (tables (now (rows .exit)) (now (marks .exit)) (now (pins .exit)) (now (pinmarks .exit)) (now (book .exit))) (now (out .exit)) ≡ piece-outcome ended (tables (now (rows .entry)) (now (marks .entry)) (now (pins .entry)) (now (pinmarks .entry)) (now (book .entry))) (now (input .entry)) (now (out .entry)) ⌝ }
+    ensures { λ r. ⌜ leaves r (tables (now (rows .exit)) (now (marks .exit)) (now (pins .exit)) (now (pinmarks .exit)) (now (book .exit)) (now (classes .exit))) (now (out .exit)) ≡ piece-outcome ended (tables (now (rows .entry)) (now (marks .entry)) (now (pins .entry)) (now (pinmarks .entry)) (now (book .entry)) (now (classes .entry))) (now (input .entry)) (now (out .entry)) ⌝ }
 {
     let start = Way {
         at: 0,
@@ -128,7 +129,7 @@ pub fn run_lines(
     while way.at < way.to {
         let at = way.at;
         let to = way.to;
-        let answer = judge::step(&input[at..to], rows, marks, pins, pinmarks, book);
+        let answer = judge::step(&input[at..to], rows, marks, pins, pinmarks, book, classes);
         way = heard(way, answer, input, ended, out);
     }
     let stop = way.stop;

@@ -76,11 +76,11 @@ module _ (R : Table) (b : List ℕ) (k : Result) (t h : ℕ) (l : Bool) (e : l �
 
 -- ---- all of it
 
-pub return-seen : (rs ms ps ns d : List ℕ) (t f h : ℕ) (k : Result) (m : Made) (n : ℕ) (o : Bool) → k ≡ fact-of f .result
+pub return-seen : (rs ms ps ns d cs : List ℕ) (t f h : ℕ) (k : Result) (m : Made) (n : ℕ) (o : Bool) → k ≡ fact-of f .result
     → m ≡ made-sight (table rs ms) (table ps ns) k t h → n ≡ length (thread-in d t .frames) → o ≡ overflows-in (table rs ms) d k t h
-    → record { kind = k; made = m; frames = n; over = o } ≡ return-sight (tables rs ms ps ns d) t f h
+    → record { kind = k; made = m; frames = n; over = o } ≡ return-sight (tables rs ms ps ns d cs) t f h
 unfolding return-sight
-return-seen rs ms ps ns d t f h k m n o ek em en eo i =
+return-seen rs ms ps ns d cs t f h k m n o ek em en eo i =
     record {
       kind = ek i;
       made = (em ∙ ap (λ (x : Result). made-sight (table rs ms) (table ps ns) x t h) ek) i;

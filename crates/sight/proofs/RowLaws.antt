@@ -1,10 +1,11 @@
--- The rows told for C are those that an accepted C ends. Assumes nothing.
+-- The rows told for C and O are those that an accepted C ends, and that an accepted O writes into. Assumes nothing.
 use Prim.Native.Nat.{ℕ, _%_}
 use mathlib.Core.Path.{_≡_, refl, sym, subst, _∙_}
 use mathlib.Core.Bool.{Bool, true, false, _&&_, _||_, false≢true}
 use native.Mathlib.Decide.{ℕ-discrete}
 use borrow.Author.Tests.{eqb-true, ne-eqb}
 use lib.Dec.{eqb}
+use Rattle.words.specs.Choice.{if_then_else_}
 use Rattle.facts.specs.Table.{fact-of, family, table}
 use Rattle.facts.specs.Named.{DeleteGlobalRef, DeleteLocalRef, DeleteWeakGlobalRef}
 use Rattle.facts.specs.Results.{is-buffer-place}
@@ -13,10 +14,13 @@ use Rattle.facts.specs.declared.Place.the-variants as Place
 use Rattle.rows.specs.Table.{found}
 use Rattle.rows.specs.References.{references, is-handle}
 use Rattle.rows.specs.Pins.{pins, is-buffer}
-use Rattle.tables.specs.Tables.{Tables}
-use Rattle.tables.specs.Acting.{is-delete, delete-owner, pin-owner}
+use Rattle.lines.specs.Line.{kind}
+use Rattle.history.specs.Handles.{is-local, is-shared}
+use Rattle.history.specs.Seen.{is-alive, handle-alive}
+use Rattle.tables.specs.Tables.{Tables, seen-in}
+use Rattle.tables.specs.Acting.{is-delete, delete-owner, pin-owner, owner-of}
 use Rattle.sight.specs.Spots.{handle-row, place-row, place-spot}
-use Rattle.sight.specs.Sights.{call-sight}
+use Rattle.sight.specs.Sights.{call-sight, state-sight}
 
 -- one of three deletes
 first : (p q r : Bool) → ((true && p) || (false && q) || (false && r)) ≡ true → p ≡ true
@@ -83,3 +87,14 @@ module _ (T : Tables) (t f a b c : ℕ) where
   pub place-told : call-sight T t f a b c .pb ≡ fact-of f .b
   unfolding call-sight
   place-told = refl
+
+pub stated-row : (T : Tables) (t h c : ℕ) → state-sight T t h c .alive ≡ true → state-sight T t h c .row ≡ found references (is-handle (owner-of t h) h) (T .references)
+unfolding state-sight handle-alive handle-row
+stated-row T t h c = go (eqb (kind h) 0) (eqb (kind h) 1) (is-alive (is-local t h) (seen-in T)) (is-alive (is-shared h) (seen-in T))
+  where
+    go : (null own x y : Bool) → (if null then false else if own then x else y) ≡ true
+        → (if null then 0 else if own then found references (is-handle t h) (T .references) else found references (is-handle 0 h) (T .references))
+        ≡ found references (is-handle (if own then t else 0) h) (T .references)
+    go true own x y e = absurd (false≢true e)
+    go false true x y e = refl
+    go false false x y e = refl

@@ -1,4 +1,4 @@
--- What the code looked up for N, X, C and Z is what the tables show. Assumes nothing.
+-- What the code looked up for N, X, C, Z, K and O is what the tables show. Assumes nothing.
 use Prim.Native.Nat.{ℕ, _≤_, _*_, _-_, min}
 use mathlib.Core.Path.{_≡_, ap, ap₂, _∙_}
 use mathlib.Core.Bool.{Bool, true}
@@ -8,6 +8,7 @@ use lib.Dec.{ltb}
 use lib.ListN.{length}
 use Rattle.words.specs.Lists.{sum}
 use Rattle.facts.specs.Table.{fact-of}
+use Rattle.facts.specs.Classes.{no-class, class-a, class-b}
 use Rattle.facts.specs.declared.Place.{Place}
 use Rattle.rows.specs.Table.{Table, table, room, alive, most}
 use Rattle.rows.specs.References.{references}
@@ -18,49 +19,52 @@ use Rattle.history.specs.Handles.{global-or-weak}
 use Rattle.history.specs.Buffers.{critical-of}
 use Rattle.history.specs.Acceptance.{everything}
 use Rattle.history.specs.Replies.{most-lines}
+use Rattle.history.specs.Classes.{is-known}
 use Rattle.history.specs.Breaches.{in-critical}
+use Rattle.classes.specs.Supers.{super-in}
 use Rattle.book.specs.Threads.{thread-in, env-elsewhere, all-monitors}
 use Rattle.tables.specs.Tables.{tables, alive-of, handles-in, buffers-in, seen-in}
 use Rattle.tables.proofs.RowCounts.{alive-most, counted-all, counted-most}
 use Rattle.sight.specs.declared.spot.Spot.{Spot}
 use Rattle.sight.specs.Spots.{handle-spot, place-spot}
-use Rattle.sight.specs.Sights.{call-sight, leave-sight, some-alive, enter-sight, end-sight}
+use Rattle.sight.specs.Sights.{call-sight, leave-sight, some-alive, enter-sight, end-sight, declare-sight, state-sight}
 
 -- ---- C and X
 
-module _ (rs ms ps ns d : List ℕ) (t : ℕ) where
-  pub call-seen : (f a b c own thrown held : ℕ) (pushed region : Bool) (p q r : Place) (x y z : Spot)
+module _ (rs ms ps ns d cs : List ℕ) (t : ℕ) where
+  pub call-seen : (f a b c own thrown held u v : ℕ) (pushed region : Bool) (p q r : Place) (x y z : Spot)
       → own ≡ thread-in d t .env → thrown ≡ thread-in d t .pending → held ≡ thread-in d t .monitors → pushed ≡ top-pushed (thread-in d t .frames)
       → region ≡ ltb 0 (buffers-in (table ps ns) (critical-of t)) → p ≡ fact-of f .a → q ≡ fact-of f .b → r ≡ fact-of f .c
-      → ((e : List ℕ) → x ≡ place-spot p (tables rs ms ps ns e) t f a) → ((e : List ℕ) → y ≡ place-spot q (tables rs ms ps ns e) t f b)
-      → ((e : List ℕ) → z ≡ place-spot r (tables rs ms ps ns e) t f c)
-      → record { env = own; pending = thrown; monitors = held; pushed = pushed; critical = region; pa = p; pb = q; pc = r; a = x; b = y; c = z } ≡ call-sight (tables rs ms ps ns d) t f a b c
+      → u ≡ class-a f → v ≡ class-b f
+      → ((e : List ℕ) → x ≡ place-spot u p (tables rs ms ps ns e cs) t f a) → ((e : List ℕ) → y ≡ place-spot v q (tables rs ms ps ns e cs) t f b)
+      → ((e : List ℕ) → z ≡ place-spot no-class r (tables rs ms ps ns e cs) t f c)
+      → record { env = own; pending = thrown; monitors = held; pushed = pushed; critical = region; pa = p; pb = q; pc = r; a = x; b = y; c = z } ≡ call-sight (tables rs ms ps ns d cs) t f a b c
   unfolding call-sight seen-in in-critical
-  call-seen f a b c own thrown held pushed region p q r x y z eo et eh eu er ep eq es ex ey ez i =
+  call-seen f a b c own thrown held u v pushed region p q r x y z eo et eh ed er ep eq es eu ev ex ey ez i =
       record {
         env = eo i;
         pending = et i;
         monitors = eh i;
-        pushed = eu i;
+        pushed = ed i;
         critical = er i;
         pa = ep i;
         pb = eq i;
         pc = es i;
-        a = (ex d ∙ ap (λ (k : Place). place-spot k (tables rs ms ps ns d) t f a) ep) i;
-        b = (ey d ∙ ap (λ (k : Place). place-spot k (tables rs ms ps ns d) t f b) eq) i;
-        c = (ez d ∙ ap (λ (k : Place). place-spot k (tables rs ms ps ns d) t f c) es) i;
+        a = (ex d ∙ ap₂ (λ (w : ℕ) (k : Place). place-spot w k (tables rs ms ps ns d cs) t f a) eu ep) i;
+        b = (ey d ∙ ap₂ (λ (w : ℕ) (k : Place). place-spot w k (tables rs ms ps ns d cs) t f b) ev eq) i;
+        c = (ez d ∙ ap (λ (k : Place). place-spot no-class k (tables rs ms ps ns d cs) t f c) es) i;
       }
 
-  pub leave-seen : (r : ℕ) (region : Bool) (x : Spot) → region ≡ ltb 0 (buffers-in (table ps ns) (critical-of t)) → ((qs os e : List ℕ) → x ≡ handle-spot (tables rs ms qs os e) t r)
-      → record { critical = region; result = x } ≡ leave-sight (tables rs ms ps ns d) t r
+  pub leave-seen : (r : ℕ) (region : Bool) (x : Spot) → region ≡ ltb 0 (buffers-in (table ps ns) (critical-of t)) → ((qs os e ks : List ℕ) → x ≡ handle-spot no-class (tables rs ms qs os e ks) t r)
+      → record { critical = region; result = x } ≡ leave-sight (tables rs ms ps ns d cs) t r
   unfolding leave-sight seen-in in-critical
-  leave-seen r region x er ex i = record { critical = er i; result = ex ps ns d i }
+  leave-seen r region x er ex i = record { critical = er i; result = ex ps ns d cs i }
 
   -- ---- N
 
   pub enter-seen : (env : ℕ) (hs : List ℕ) (own : ℕ) (other live : Bool) (n k f : ℕ) → own ≡ thread-in d t .env → other ≡ env-elsewhere d t env
       → live ≡ some-alive (table rs ms) t hs → n ≡ room references (table rs ms) → k ≡ alive references (table rs ms) → f ≡ length (thread-in d t .frames)
-      → record { env = own; elsewhere = other; alive = live; free = n - k; frames = f } ≡ enter-sight (tables rs ms ps ns d) t env hs
+      → record { env = own; elsewhere = other; alive = live; free = n - k; frames = f } ≡ enter-sight (tables rs ms ps ns d cs) t env hs
   unfolding enter-sight seen-in
   enter-seen env hs own other live n k f eo ee el en ek ef i =
       record { env = eo i; elsewhere = ee i; alive = el i; free = ap₂ _-_ en ek i; frames = ef i }
@@ -90,7 +94,20 @@ pub monitors-le : (b : List ℕ) (k : ℕ) → k ≡ all-monitors b → k ≤ mo
 unfolding all-monitors
 monitors-le b k e = omega (arith, e, sum-most (λ (t : ℕ). min (thread-in b t .monitors) most-lines) all-threads (λ t. omega arith))
 
-pub end-seen : (rs ms ps ns d : List ℕ) (x y z : ℕ) → x ≡ buffers-in (table ps ns) everything → y ≡ all-monitors d → z ≡ handles-in (table rs ms) global-or-weak
-    → record { buffers = x; monitors = y; handles = z } ≡ end-sight (tables rs ms ps ns d)
+pub end-seen : (rs ms ps ns d cs : List ℕ) (x y z : ℕ) → x ≡ buffers-in (table ps ns) everything → y ≡ all-monitors d → z ≡ handles-in (table rs ms) global-or-weak
+    → record { buffers = x; monitors = y; handles = z } ≡ end-sight (tables rs ms ps ns d cs)
 unfolding end-sight seen-in
-end-seen rs ms ps ns d x y z ex ey ez i = record { buffers = ex i; monitors = ey i; handles = ez i }
+end-seen rs ms ps ns d cs x y z ex ey ez i = record { buffers = ex i; monitors = ey i; handles = ez i }
+
+-- ---- K and O
+
+module _ (rs ms ps ns d cs : List ℕ) where
+  pub declare-seen : (c s : ℕ) (x y : Bool) → x ≡ is-known (super-in cs) c → y ≡ is-known (super-in cs) s
+      → record { known = x; under = y } ≡ declare-sight (tables rs ms ps ns d cs) c s
+  unfolding declare-sight seen-in
+  declare-seen c s x y ex ey i = record { known = ex i; under = ey i }
+
+  pub state-seen : (t h c : ℕ) (x : Bool) (y : Spot) → x ≡ is-known (super-in cs) c → ((qs os e ks : List ℕ) → y ≡ handle-spot no-class (tables rs ms qs os e ks) t h)
+      → record { known = x; alive = y .there; row = y .row } ≡ state-sight (tables rs ms ps ns d cs) t h c
+  unfolding state-sight handle-spot seen-in
+  state-seen t h c x y ex ey i = record { known = ex i; alive = ey ps ns d cs i .there; row = ey ps ns d cs i .row }

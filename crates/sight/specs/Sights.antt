@@ -6,10 +6,13 @@ use lib.Dec.{ltb}
 use lib.ListN.{length}
 use Rattle.words.specs.Lists.{any}
 use Rattle.facts.specs.Table.{fact-of}
+use Rattle.facts.specs.Classes.{no-class, class-a, class-b}
 use Rattle.rows.specs.Table.{Table, room, alive}
 use Rattle.rows.specs.References.{references}
 use Rattle.history.specs.Frames.{top-pushed}
 use Rattle.history.specs.Handles.{is-local, global-or-weak}
+use Rattle.history.specs.Classes.{is-known}
+use Rattle.history.specs.Seen.{handle-alive}
 use Rattle.history.specs.Acceptance.{everything}
 use Rattle.history.specs.Breaches.{in-critical}
 use Rattle.book.specs.Threads.{env-elsewhere}
@@ -18,7 +21,9 @@ use Rattle.sight.specs.declared.call.CallSight.{CallSight}
 use Rattle.sight.specs.declared.leave.LeaveSight.{LeaveSight}
 use Rattle.sight.specs.declared.enter.EnterSight.{EnterSight}
 use Rattle.sight.specs.declared.end.EndSight.{EndSight}
-use Rattle.sight.specs.Spots.{handle-spot, place-spot}
+use Rattle.sight.specs.declared.declare.DeclareSight.{DeclareSight}
+use Rattle.sight.specs.declared.state.StateSight.{StateSight}
+use Rattle.sight.specs.Spots.{handle-row, handle-spot, place-spot}
 
 -- C of function f by thread t with a b c
 unfoldable pub call-sight : Tables → ℕ → ℕ → ℕ → ℕ → ℕ → CallSight
@@ -32,14 +37,14 @@ call-sight T t f a b c =
       pa = fact-of f .a;
       pb = fact-of f .b;
       pc = fact-of f .c;
-      a = place-spot (fact-of f .a) T t f a;
-      b = place-spot (fact-of f .b) T t f b;
-      c = place-spot (fact-of f .c) T t f c;
+      a = place-spot (class-a f) (fact-of f .a) T t f a;
+      b = place-spot (class-b f) (fact-of f .b) T t f b;
+      c = place-spot no-class (fact-of f .c) T t f c;
     }
 
 -- X by thread t, with its result
 unfoldable pub leave-sight : Tables → ℕ → ℕ → LeaveSight
-leave-sight T t r = record { critical = in-critical t (seen-in T); result = handle-spot T t r }
+leave-sight T t r = record { critical = in-critical t (seen-in T); result = handle-spot no-class T t r }
 
 -- one of these is alive in the thread
 unfoldable pub some-alive : Table → ℕ → List ℕ → Bool
@@ -63,4 +68,17 @@ end-sight T =
       buffers = seen-in T .buffers everything;
       monitors = seen-in T .all-monitors;
       handles = seen-in T .handles global-or-weak;
+    }
+
+-- K of class c with super s
+unfoldable pub declare-sight : Tables → ℕ → ℕ → DeclareSight
+declare-sight T c s = record { known = is-known (seen-in T .super) c; under = is-known (seen-in T .super) s }
+
+-- O by thread t of handle h, with class c
+unfoldable pub state-sight : Tables → ℕ → ℕ → ℕ → StateSight
+state-sight T t h c =
+    record {
+      known = is-known (seen-in T .super) c;
+      alive = handle-alive t h (seen-in T);
+      row = handle-row (T .references) t h;
     }

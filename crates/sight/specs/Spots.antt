@@ -1,6 +1,6 @@
--- What stands at a place of C or X, as it is told: whether it is there, and its row. Assumes nothing.
+-- What stands at a place of C or X, as it is told: whether it is there, its row, and whether its stated class is right there. Assumes nothing.
 use Prim.Native.Nat.{ℕ}
-use mathlib.Core.Bool.{Bool, false}
+use mathlib.Core.Bool.{Bool, true, false}
 use lib.Dec.{eqb}
 use Rattle.words.specs.Choice.{if_then_else_}
 use Rattle.facts.specs.Table.{family}
@@ -12,18 +12,18 @@ use Rattle.rows.specs.References.{references, is-handle}
 use Rattle.rows.specs.Pins.{pins, is-buffer}
 use Rattle.history.specs.Handles.{is-local, is-shared}
 use Rattle.history.specs.Buffers.{pin, same-pin}
-use Rattle.history.specs.Seen.{is-alive, is-outstanding}
-use Rattle.history.specs.Breaches.{handle-alive, is-there}
+use Rattle.history.specs.Seen.{is-alive, is-outstanding, handle-alive}
+use Rattle.history.specs.Breaches.{is-there, fits-here}
 use Rattle.tables.specs.Tables.{Tables, seen-in}
 use Rattle.tables.specs.Acting.{pin-owner}
 use Rattle.sight.specs.declared.spot.Spot.{Spot}
 
-abbrev pub spot : Bool → ℕ → Spot
-spot there row = record { there = there; row = row }
+abbrev pub spot : Bool → ℕ → Bool → Spot
+spot there row fits = record { there = there; row = row; fits = fits }
 
 -- not looked up
 abbrev pub nowhere : Spot
-nowhere = spot false 0
+nowhere = spot false 0 true
 
 -- ---- a handle
 
@@ -31,10 +31,10 @@ abbrev pub row-of-handle : Table → ℕ → ℕ → ℕ
 row-of-handle R t h = found references (is-handle t h) R
 
 unfoldable pub local-spot : Tables → ℕ → ℕ → Spot
-local-spot T t h = spot (is-alive (is-local t h) (seen-in T)) (row-of-handle (T .references) t h)
+local-spot T t h = spot (is-alive (is-local t h) (seen-in T)) (row-of-handle (T .references) t h) true
 
 unfoldable pub shared-spot : Tables → ℕ → Spot
-shared-spot T h = spot (is-alive (is-shared h) (seen-in T)) (row-of-handle (T .references) 0 h)
+shared-spot T h = spot (is-alive (is-shared h) (seen-in T)) (row-of-handle (T .references) 0 h) true
 
 unfoldable pub handle-row : Table → ℕ → ℕ → ℕ
 handle-row R t h =
@@ -42,8 +42,9 @@ handle-row R t h =
     else if eqb (kind h) 1 then row-of-handle R t h
     else row-of-handle R 0 h
 
-unfoldable pub handle-spot : Tables → ℕ → ℕ → Spot
-handle-spot T t h = spot (handle-alive t h (seen-in T)) (handle-row (T .references) t h)
+-- where class `fixed` is fixed, or none
+unfoldable pub handle-spot : ℕ → Tables → ℕ → ℕ → Spot
+handle-spot fixed T t h = spot (handle-alive t h (seen-in T)) (handle-row (T .references) t h) (fits-here fixed t h (seen-in T))
 
 -- ---- a buffer
 
@@ -51,7 +52,7 @@ abbrev pub buffer-row : Table → ℕ → ℕ → ℕ → ℕ
 buffer-row P t f b = found pins (is-buffer (pin-owner f t) (family f) b) P
 
 unfoldable pub buffer-spot : Tables → ℕ → ℕ → ℕ → Spot
-buffer-spot T t f b = spot (is-outstanding (same-pin (pin t f b)) (seen-in T)) (buffer-row (T .pins) t f b)
+buffer-spot T t f b = spot (is-outstanding (same-pin (pin t f b)) (seen-in T)) (buffer-row (T .pins) t f b) true
 
 -- ---- the value h at a place of function f, called by thread t
 
@@ -61,5 +62,6 @@ place-row p T t f h =
     else if is-buffer-place p then buffer-row (T .pins) t f h
     else 0
 
-unfoldable pub place-spot : Place → Tables → ℕ → ℕ → ℕ → Spot
-place-spot p T t f h = spot (is-there p t f h (seen-in T)) (place-row p T t f h)
+unfoldable pub place-spot : ℕ → Place → Tables → ℕ → ℕ → ℕ → Spot
+place-spot fixed p T t f h =
+    spot (is-there p t f h (seen-in T)) (place-row p T t f h) (if is-handle-place p then fits-here fixed t h (seen-in T) else true)

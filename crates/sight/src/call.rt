@@ -3,6 +3,7 @@ use crate::seen::in_critical;
 use crate::spot::Spot;
 use crate::spot::place;
 use facts::Place;
+use facts::classes::NO_CLASS;
 use rows::Number;
 use words::Handle;
 ghost use mathlib.Core.Path.{_≡_};
@@ -29,13 +30,14 @@ pub fn call(
     pins: &[Number],
     pinmarks: &[u64],
     book: &[u64],
+    classes: &[Number],
     t: u32,
     f: u32,
     a: Handle,
     b: Handle,
     c: Handle,
 ) -> CallSight
-    ensures { λ r. ⌜ r ≡ call-sight (tables (now (rows .entry)) (now (marks .entry)) (now (pins .entry)) (now (pinmarks .entry)) (now (book .entry))) t f a b c ⌝ }
+    ensures { λ r. ⌜ r ≡ call-sight (tables (now (rows .entry)) (now (marks .entry)) (now (pins .entry)) (now (pinmarks .entry)) (now (book .entry)) (now (classes .entry))) t f a b c ⌝ }
 {
     let env = book::env_of(book, t);
     let pending = book::pending_of(book, t);
@@ -45,9 +47,11 @@ pub fn call(
     let pa = facts::place_a(f);
     let pb = facts::place_b(f);
     let pc = facts::place_c(f);
-    let at_a = place(rows, marks, pins, pinmarks, pa, t, f, a);
-    let at_b = place(rows, marks, pins, pinmarks, pb, t, f, b);
-    let at_c = place(rows, marks, pins, pinmarks, pc, t, f, c);
+    let class_a = facts::classes::class_a(f);
+    let class_b = facts::classes::class_b(f);
+    let at_a = place(rows, marks, pins, pinmarks, classes, pa, class_a, t, f, a);
+    let at_b = place(rows, marks, pins, pinmarks, classes, pb, class_b, t, f, b);
+    let at_c = place(rows, marks, pins, pinmarks, classes, pc, NO_CLASS, t, f, c);
     CallSight {
         env,
         pending,

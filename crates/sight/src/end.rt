@@ -1,6 +1,8 @@
 // Z: the counts that its findings give.
 use rows::Number;
 ghost use mathlib.Core.Path.{_≡_};
+ghost use mathlib.Core.List.{List};
+ghost use Prim.Native.Nat.{ℕ};
 ghost use Rattle.rows.specs.Table.{table};
 ghost use Rattle.history.specs.Handles.{global-or-weak};
 ghost use Rattle.history.specs.Acceptance.{everything};
@@ -42,7 +44,7 @@ pub fn end(
     pinmarks: &[u64],
     book: &[u64],
 ) -> EndSight
-    ensures { λ r. ⌜ r ≡ end-sight (tables (now (rows .entry)) (now (marks .entry)) (now (pins .entry)) (now (pinmarks .entry)) (now (book .entry))) ⌝ }
+    ensures { λ r. ⌜ ((cs : List ℕ) → r ≡ end-sight (tables (now (rows .entry)) (now (marks .entry)) (now (pins .entry)) (now (pinmarks .entry)) (now (book .entry)) cs)) ⌝ }
 {
     let out = buffers(pins, pinmarks);
     let held = monitors(book);

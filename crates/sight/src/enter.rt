@@ -39,7 +39,7 @@ pub fn enter(
     env: Handle,
     hs: &[Handle],
 ) -> EnterSight
-    ensures { λ r. ⌜ ((ps ns : List ℕ) → r ≡ enter-sight (tables (now (rows .entry)) (now (marks .entry)) ps ns (now (book .entry))) t env (now (hs .entry))) ⌝ }
+    ensures { λ r. ⌜ ((ps ns cs : List ℕ) → r ≡ enter-sight (tables (now (rows .entry)) (now (marks .entry)) ps ns (now (book .entry)) cs) t env (now (hs .entry))) ⌝ }
 {
     let own = book::env_of(book, t);
     let elsewhere = book::env_elsewhere(book, t, env as u64);

@@ -23,7 +23,7 @@ pub fn leave(
     t: u32,
     result: Handle,
 ) -> LeaveSight
-    ensures { λ r. ⌜ ((b : List ℕ) → r ≡ leave-sight (tables (now (rows .entry)) (now (marks .entry)) (now (pins .entry)) (now (pinmarks .entry)) b) t result) ⌝ }
+    ensures { λ r. ⌜ ((b cs : List ℕ) → r ≡ leave-sight (tables (now (rows .entry)) (now (marks .entry)) (now (pins .entry)) (now (pinmarks .entry)) b cs) t result) ⌝ }
 {
     let critical = in_critical(pins, pinmarks, t);
     let at = handle(rows, marks, t, result);

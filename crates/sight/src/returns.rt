@@ -9,6 +9,8 @@ use facts::results::is_local_result;
 use rows::Number;
 use words::Handle;
 ghost use mathlib.Core.Path.{_≡_};
+ghost use mathlib.Core.List.{List};
+ghost use Prim.Native.Nat.{ℕ};
 ghost use Rattle.rows.specs.Table.{table};
 ghost use Rattle.tables.specs.Tables.{tables};
 ghost use Rattle.sight.specs.Returns.{is-alive-as, nothing-made, handle-made, buffer-made, made-sight, over-capacity, overflows-in, return-sight};
@@ -123,7 +125,7 @@ pub fn returns(
     f: u32,
     h: Handle,
 ) -> ReturnSight
-    ensures { λ r. ⌜ r ≡ return-sight (tables (now (rows .entry)) (now (marks .entry)) (now (pins .entry)) (now (pinmarks .entry)) (now (book .entry))) t f h ⌝ }
+    ensures { λ r. ⌜ ((cs : List ℕ) → r ≡ return-sight (tables (now (rows .entry)) (now (marks .entry)) (now (pins .entry)) (now (pinmarks .entry)) (now (book .entry)) cs) t f h) ⌝ }
 {
     let kind = facts::result_of(f);
     let new = what_is_made(rows, marks, pins, pinmarks, kind, t, h);

@@ -1,5 +1,6 @@
-// What stands at a place: whether it is alive or outstanding, and the row that was found for it.
+// What stands at a place: whether it is alive or outstanding, the row that was found for it, and whether its stated class is right there.
 use facts::Place;
+use facts::classes::NO_CLASS;
 use facts::handles::IDENTITY;
 use facts::handles::KINDS;
 use facts::handles::LOCAL;
@@ -9,12 +10,14 @@ ghost use mathlib.Core.Path.{_≡_};
 ghost use mathlib.Core.Bool.{false};
 ghost use mathlib.Core.List.{List};
 ghost use Prim.Native.Nat.{ℕ};
+ghost use Rattle.facts.specs.Classes.{no-class};
 ghost use Rattle.tables.specs.Tables.{tables};
 ghost use Rattle.sight.specs.Spots.{nowhere, local-spot, shared-spot, handle-spot, buffer-spot, place-spot};
 
 pub struct Spot {
     pub there: bool,
     pub row: usize,
+    pub fits: bool,
 }
 
 // Nothing was looked up.
@@ -24,34 +27,37 @@ fn nowhere() -> Spot
     Spot {
         there: false,
         row: 0,
+        fits: true,
     }
 }
 
 fn local(rows: &[Number], marks: &[u64], t: u32, h: Handle) -> Spot
-    ensures { λ r. ⌜ ((ps ns b : List ℕ) → r ≡ local-spot (tables (now (rows .entry)) (now (marks .entry)) ps ns b) t h) ⌝ }
+    ensures { λ r. ⌜ ((ps ns b cs : List ℕ) → r ≡ local-spot (tables (now (rows .entry)) (now (marks .entry)) ps ns b cs) t h) ⌝ }
 {
     let row = rows::references::find(rows, marks, t, h);
     let room = rows::references::room(rows, marks);
     Spot {
         there: (t != 0) & (row < room),
         row,
+        fits: true,
     }
 }
 
 fn shared(rows: &[Number], marks: &[u64], h: Handle) -> Spot
-    ensures { λ r. ⌜ ((ps ns b : List ℕ) → r ≡ shared-spot (tables (now (rows .entry)) (now (marks .entry)) ps ns b) h) ⌝ }
+    ensures { λ r. ⌜ ((ps ns b cs : List ℕ) → r ≡ shared-spot (tables (now (rows .entry)) (now (marks .entry)) ps ns b cs) h) ⌝ }
 {
     let row = rows::references::find(rows, marks, 0, h);
     let room = rows::references::room(rows, marks);
     Spot {
         there: row < room,
         row,
+        fits: true,
     }
 }
 
-// A handle of any kind; null and identities are not looked up.
+// A handle of any kind where no class is fixed; null and identities are not looked up.
 pub(crate) fn handle(rows: &[Number], marks: &[u64], t: u32, h: Handle) -> Spot
-    ensures { λ r. ⌜ ((ps ns b : List ℕ) → r ≡ handle-spot (tables (now (rows .entry)) (now (marks .entry)) ps ns b) t h) ⌝ }
+    ensures { λ r. ⌜ ((ps ns b cs : List ℕ) → r ≡ handle-spot no-class (tables (now (rows .entry)) (now (marks .entry)) ps ns b cs) t h) ⌝ }
 {
     let kind = h % KINDS;
     if kind == IDENTITY {
@@ -63,9 +69,26 @@ pub(crate) fn handle(rows: &[Number], marks: &[u64], t: u32, h: Handle) -> Spot
     shared(rows, marks, h)
 }
 
+// A handle where class `fixed` is fixed, or none: what is stated of it is looked at where one is, and the handle is there.
+fn judged(rows: &[Number], marks: &[u64], classes: &[Number], fixed: u32, t: u32, h: Handle) -> Spot
+    ensures { λ r. ⌜ ((ps ns b : List ℕ) → r ≡ handle-spot fixed (tables (now (rows .entry)) (now (marks .entry)) ps ns b (now (classes .entry))) t h) ⌝ }
+{
+    let at = handle(rows, marks, t, h);
+    if (fixed == NO_CLASS) | !at.there {
+        return at;
+    }
+    let stated = rows::references::class_at(rows, marks, at.row);
+    let fits = classes::fits(classes, fixed, stated);
+    Spot {
+        there: at.there,
+        row: at.row,
+        fits,
+    }
+}
+
 // The buffer that function f of the thread releases.
 fn buffer(pins: &[Number], pinmarks: &[u64], t: u32, f: u32, b: Handle) -> Spot
-    ensures { λ r. ⌜ ((rs ms d : List ℕ) → r ≡ buffer-spot (tables rs ms (now (pins .entry)) (now (pinmarks .entry)) d) t f b) ⌝ }
+    ensures { λ r. ⌜ ((rs ms d cs : List ℕ) → r ≡ buffer-spot (tables rs ms (now (pins .entry)) (now (pinmarks .entry)) d cs) t f b) ⌝ }
 {
     let k = facts::family(f);
     let room = rows::pins::room(pins, pinmarks);
@@ -74,30 +97,34 @@ fn buffer(pins: &[Number], pinmarks: &[u64], t: u32, f: u32, b: Handle) -> Spot
         return Spot {
             there: (t != 0) & (own < room),
             row: own,
+            fits: true,
         };
     }
     let row = rows::pins::find(pins, pinmarks, 0, k, b);
     Spot {
         there: row < room,
         row,
+        fits: true,
     }
 }
 
-// The value h at a place of function f, called by thread t.
+// The value h at a place of function f, called by thread t, where class `fixed` is fixed, or none.
 pub(crate) fn place(
     rows: &[Number],
     marks: &[u64],
     pins: &[Number],
     pinmarks: &[u64],
+    classes: &[Number],
     p: Place,
+    fixed: u32,
     t: u32,
     f: u32,
     h: Handle,
 ) -> Spot
-    ensures { λ r. ⌜ ((b : List ℕ) → r ≡ place-spot p (tables (now (rows .entry)) (now (marks .entry)) (now (pins .entry)) (now (pinmarks .entry)) b) t f h) ⌝ }
+    ensures { λ r. ⌜ ((b : List ℕ) → r ≡ place-spot fixed p (tables (now (rows .entry)) (now (marks .entry)) (now (pins .entry)) (now (pinmarks .entry)) b (now (classes .entry))) t f h) ⌝ }
 {
     if facts::results::is_handle_place(p) {
-        return handle(rows, marks, t, h);
+        return judged(rows, marks, classes, fixed, t, h);
     }
     if facts::results::is_buffer_place(p) {
         return buffer(pins, pinmarks, t, f, h);

@@ -1,22 +1,29 @@
 -- A row and what it stands for pass the same tests: rows found and counted are handles alive and buffers outstanding.
 use Prim.Native.Nat.{ℕ}
-use mathlib.Core.Path.{_≡_, refl, sym, ap, ap₂, _∙_}
+use mathlib.Core.Path.{_≡_, refl, sym, ap, ap₂, fun-ext, _∙_}
 use mathlib.Core.Bool.{Bool, true, false, _&&_}
+use mathlib.Core.List.{List, [], _∷_}
 use native.Mathlib.Decide.{ℕ-discrete}
 use borrow.Author.Tests.{eq-eqb, ne-eqb}
 use lib.Dec.{eqb, ltb}
 use Rattle.words.specs.Choice.{if_then_else_}
+use Rattle.words.specs.Lists.{of-first}
+use Rattle.lines.specs.Line.{kind}
+use Rattle.rows.specs.Slots.{held}
 use Rattle.rows.specs.Table.{Table, room, found, counted, some-row}
-use Rattle.rows.specs.References.{references, is-handle}
+use Rattle.rows.specs.View.{view}
+use Rattle.rows.specs.References.{references, is-handle, class-at}
 use Rattle.rows.specs.References.{in-frame as in-frame-row, of-thread as of-thread-row}
 use Rattle.rows.specs.Pins.{pins, of-thread, is-buffer}
 use Rattle.rows.specs.declared.references.Reference.{Reference}
 use Rattle.rows.specs.declared.pins.Pin.{Pin as PinRow}
+use Rattle.rows.proofs.ViewLaws.{of-first-view}
 use Rattle.history.specs.Handles.{Alive, local, shared, is-local, is-shared, in-frame, global-or-weak}
 use Rattle.facts.specs.Table.{family, is-critical}
 use Rattle.history.specs.Buffers.{Pin, ordinary, critical, pin, same-pin, critical-of}
+use Rattle.history.specs.Statements.{names}
 use Rattle.tables.proofs.RowCounts.{found-counted, some-row-counted, counted-same, counted-none}
-use Rattle.tables.specs.Tables.{alive-of, pin-of, handles-in, buffers-in}
+use Rattle.tables.specs.Tables.{alive-of, pin-of, handles-in, buffers-in, class-in}
 
 -- ---- a reference row and its handle
 
@@ -117,6 +124,42 @@ module _ (T : Table) where
   pub globals-counted : (k : ℕ) → k ≡ counted references (of-thread-row 0) T → k ≡ handles-in T global-or-weak
   unfolding handles-in
   globals-counted k e = e ∙ sym (counted-same references (λ x. global-or-weak (alive-of x)) (of-thread-row 0) T row-of-global)
+
+-- ---- the class in the row of a handle
+
+of-none : (q : Reference → Bool) (f : Reference → ℕ) (xs : List Reference) → ((x : Reference) → q x ≡ false) → _≡_ {A = ℕ} 0 (of-first q f xs)
+of-none q f [] e = refl
+of-none q f (x ∷ xs) e = rw (e x) (of-none q f xs e)
+
+module _ (T : Table) (t h : ℕ) where
+  class-found : (u : ℕ) → ((x : Reference) → names t h (alive-of x) ≡ is-handle u h x) → class-at T (found references (is-handle u h) T) ≡ class-in T t h
+  unfolding class-at class-in
+  class-found u e =
+      of-first-view references (is-handle u h) (λ x. x .class) T
+      ∙ ap (λ (q : Reference → Bool). of-first q (λ x. x .class) (held (view references T))) (sym (fun-ext e))
+
+  no-class-found : ((x : Reference) → names t h (alive-of x) ≡ false) → _≡_ {A = ℕ} 0 (class-in T t h)
+  unfolding class-in
+  no-class-found e = of-none (λ x. names t h (alive-of x)) (λ x. x .class) (held (view references T)) e
+
+  pub no-handle-class : kind h ≡ 0 → _≡_ {A = ℕ} 0 (class-in T t h)
+  unfolding names
+  no-handle-class e = no-class-found (λ x. rw (eq-eqb (kind h) 0 e) refl)
+
+  pub local-class : (r : ℕ) → (kind h ≡ 0 → ⊥) → kind h ≡ 1 → (t ≡ 0 → ⊥) → r ≡ found references (is-handle t h) T → class-at T r ≡ class-in T t h
+  unfolding names
+  local-class r n e z er = ap (class-at T) er ∙ class-found t (λ x. rw (ne-eqb (kind h) 0 n, eq-eqb (kind h) 1 e) (row-of-local t z x h))
+
+  -- thread 0 names no local
+  pub no-local-class : (kind h ≡ 0 → ⊥) → kind h ≡ 1 → t ≡ 0 → _≡_ {A = ℕ} 0 (class-in T t h)
+  unfolding names
+  no-local-class n e z =
+      no-class-found
+      (λ x. rw (ne-eqb (kind h) 0 n, eq-eqb (kind h) 1 e, z) (no-local-row (eqb (x .handle) h) (is-local 0 h) x refl refl))
+
+  pub shared-class : (r : ℕ) → (kind h ≡ 0 → ⊥) → (kind h ≡ 1 → ⊥) → r ≡ found references (is-handle 0 h) T → class-at T r ≡ class-in T t h
+  unfolding names
+  shared-class r n e er = ap (class-at T) er ∙ class-found 0 (λ x. rw (ne-eqb (kind h) 0 n, ne-eqb (kind h) 1 e) (row-of-shared h x))
 
 -- ---- a pin row and its buffer
 

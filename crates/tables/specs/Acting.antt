@@ -8,15 +8,17 @@ use Rattle.words.specs.Choice.{if_then_else_}
 use Rattle.facts.specs.Table.{fact-of, family, is-critical}
 use Rattle.facts.specs.Named.{PushLocalFrame, PopLocalFrame, DeleteGlobalRef, DeleteLocalRef, EnsureLocalCapacity, MonitorEnter, MonitorExit, DeleteWeakGlobalRef}
 use Rattle.facts.specs.Results.{is-buffer-place}
-use Rattle.lines.specs.Line.{Line, if-N_then_else_, if-X_then_else_, if-C_then_else_, if-R_then_else_, if-Z_then_else_, kind, is-zero, above-zero}
-use Rattle.rows.specs.Table.{Layout, Table, found, taken, ended, ended-all}
-use Rattle.rows.specs.References.{references, is-handle, from-frame}
+use Rattle.lines.specs.Line.{Line, if-N_then_else_, if-X_then_else_, if-C_then_else_, if-R_then_else_, if-Z_then_else_, if-K_then_else_, if-O_then_else_, kind, is-zero, above-zero}
+use Rattle.rows.specs.Table.{Layout, Table, found, taken, changed, ended, ended-all}
+use Rattle.rows.specs.References.{references, with-class, is-handle, from-frame}
 use Rattle.rows.specs.Pins.{pins, is-buffer}
 use Rattle.history.specs.Frames.{without-native, top-pushed}
 use Rattle.history.specs.Handles.{in-frame}
 use Rattle.history.specs.Capacities.{native-capacity}
 use Rattle.history.specs.Buffers.{gets}
+use Rattle.history.specs.Statements.{class-by}
 use Rattle.history.specs.Acceptance.{made-by}
+use Rattle.classes.specs.Supers.{with-super}
 use Rattle.book.specs.Threads.{thread-in}
 use Rattle.book.specs.Moves.{frame-pushed, native-left, frame-popped, capacity-raised, item-pushed, item-popped, env-set, pending-set, monitor-added, monitor-taken, line-counted, closed-set}
 use Rattle.book.specs.Threads.{no-function}
@@ -47,7 +49,12 @@ delete-owner f t = if eqb f DeleteLocalRef then t else 0
 abbrev pub pin-owner : ℕ → ℕ → ℕ
 pin-owner f t = if is-critical (family f) then t else 0
 
--- X ends the rows of its native's frames; 20 those of the top frame, if it was pushed; what line number `line` makes carries that number
+-- the thread in the row of what thread t names by h
+abbrev pub owner-of : ℕ → ℕ → ℕ
+owner-of t h = if eqb (kind h) 1 then t else 0
+
+-- X ends the rows of its native's frames; 20 those of the top frame, if it was pushed; what line number `line` makes carries that number,
+-- and the class that the line gives it; O writes its class into the lowest matching row
 unfoldable pub references-after : ℕ → Line → Tables → Table
 references-after line e T =
     if-X e then (λ t r. ended-all references (from-frame t (suc (length (without-native (thread-in (T .book) t .frames))))) (T .references))
@@ -57,7 +64,8 @@ references-after line e T =
     else if eqb f PopLocalFrame && top-pushed (thread-in (T .book) t .frames) then
     ended-all references (from-frame t (length (thread-in (T .book) t .frames))) (T .references)
     else T .references)
-    else all-taken references (T .references) (map (reference-of line) (made-by e (seen-in T)))
+    else if-O e then (λ t h c. changed references (T .references) (found references (is-handle (owner-of t h) h) (T .references)) (with-class c))
+    else all-taken references (T .references) (map (reference-of line (class-by e)) (made-by e (seen-in T)))
 
 -- a release ends the lowest matching row
 unfoldable pub pins-after : ℕ → Line → Tables → Table
@@ -66,6 +74,12 @@ pins-after line e T =
     (λ t env f a b c n.
     if is-buffer-place (fact-of f .b) then first-ended pins (is-buffer (pin-owner f t) (family f) b) (T .pins) else T .pins)
     else all-taken pins (T .pins) (map (pin-row-of line) (gets e))
+
+-- ---- the classes
+
+-- K writes the super of its class
+unfoldable pub classes-after : Line → Tables → List ℕ
+classes-after e T = if-K e then (λ c s. with-super (T .classes) c s) else T .classes
 
 -- ---- the book
 
@@ -105,7 +119,12 @@ book-after e n T =
 -- all but the open items; line number `line`, `n` was asked of the open call on top
 unfoldable pub acted : ℕ → Line → ℕ → Tables → Tables
 acted line e n T =
-    record { references = references-after line e T; pins = pins-after line e T; book = line-counted (book-after e n T) }
+    record {
+      references = references-after line e T;
+      pins = pins-after line e T;
+      book = line-counted (book-after e n T);
+      classes = classes-after e T;
+    }
 
 -- ---- the open items
 

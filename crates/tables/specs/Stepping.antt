@@ -1,5 +1,6 @@
 -- One step over lent tables, and a start: what is answered and what is left, whatever stood there. Assumes nothing.
 use Prim.Native.Nat.{ℕ, suc}
+use mathlib.Core.Bool.{Bool, _||_}
 use mathlib.Core.List.{List}
 use lib.Dec.{leb}
 use lib.ListN.{length}
@@ -10,6 +11,7 @@ use Rattle.rows.specs.Table.{cleared as rows-cleared}
 use Rattle.history.specs.Past.{thread-of}
 use Rattle.history.specs.Items.{Item, top-of, asked}
 use Rattle.history.specs.Replies.{Reply, accepted, not-accepted, most-lines}
+use Rattle.classes.specs.Supers.{is-short, classes-cleared}
 use Rattle.book.specs.Threads.{items-in, lines-in}
 use Rattle.book.specs.Moves.{cleared as book-cleared}
 use Rattle.book.specs.Unfit.{unfit}
@@ -30,7 +32,7 @@ untouched k T = stepped (not-accepted k) T
 
 -- the tables with the open items moved
 abbrev pub with-items : Line → Tables → Tables
-with-items e T = record { references = T .references; pins = T .pins; book = items-moved e (T .book) }
+with-items e T = record { references = T .references; pins = T .pins; book = items-moved e (T .book); classes = T .classes }
 
 -- a refusal leaves all untouched
 abbrev pub follow : ℕ → Line → ℕ → Reply → Tables → Stepped
@@ -49,18 +51,23 @@ abbrev pub on-read : Read → Tables → Stepped
 on-read (refused k) T = untouched k T
 on-read (says e) T = on-line e (items-in (T .book) (thread-of e)) T
 
--- 8, 1, 2, 3, 4, 5, 6, 7 in this order
+-- the lent thread book is not fit, or the class table is short
+abbrev pub unfit-tables : Tables → Bool
+unfit-tables T = unfit (T .book) || is-short (T .classes)
+
+-- 8, 1, 2, 3, 4, 5, 6, 9, 10, 7 in this order
 unfoldable pub step-of : Tables → List ℕ → Stepped
 step-of T bs =
-    if unfit (T .book) then untouched 8 T
+    if unfit-tables T then untouched 8 T
     else if leb most-lines (lines-in (T .book)) then untouched 1 T
     else on-read (read bs) T
 
--- a start call clears all rows, marks and book
+-- a start call clears all rows, marks, book and classes
 unfoldable pub start-of : Tables → Tables
 start-of T =
     record {
       references = rows-cleared (T .references);
       pins = rows-cleared (T .pins);
       book = book-cleared (T .book);
+      classes = classes-cleared (T .classes);
     }

@@ -13,7 +13,7 @@ use Rattle.history.specs.Past.{thread-of}
 use Rattle.history.specs.Items.{Item}
 use Rattle.history.specs.Frames.{frames-after}
 use Rattle.history.specs.Buffers.{gets}
-use Rattle.history.specs.Acceptance.{in-step, env-right, made-by, makes-anew, has-item-room, first-refusal, deepest}
+use Rattle.history.specs.Acceptance.{in-step, env-right, made-by, makes-anew, classes-right, names-alive, has-item-room, first-refusal, deepest}
 use Rattle.history.specs.Findings.{of-line}
 use Rattle.history.specs.Replies.{Reply, accepted, not-accepted}
 use Rattle.tables.specs.Tables.{Tables, seen-in}
@@ -25,13 +25,15 @@ rows-left e T =
     && leb (length (gets e) + alive pins (T .pins)) (room pins (T .pins))
     && leb (length (frames-after e (seen-in T .frames (thread-of e)))) deepest
 
--- 0, or the number 4 to 7; the line's thread has `many` items open and `top` on top
+-- 0, or the number 4 to 7, 9 or 10; the line's thread has `many` items open and `top` on top
 unfoldable pub refusal-in : Line → Option Item → ℕ → Tables → ℕ
 refusal-in e top many T =
     first-refusal
     (in-step e top (seen-in T .closed))
     (env-right e (seen-in T))
     (makes-anew e (seen-in T))
+    (classes-right e (seen-in T))
+    (names-alive e (seen-in T))
     (rows-left e T && has-item-room e many)
 
 -- line number `line`

@@ -1,4 +1,5 @@
 -- That the promises of the exported judge are tight. Assumes nothing.
+use mathlib.Core.List.{[]}
 use Rattle.exported.proofs as exported
 use Rattle.exported.specs.Told.{Told}
 use Rattle.exported.specs.Judged.{Judged}
@@ -13,7 +14,7 @@ pub weir-step-tight : Tight exported.weir_step.ended exported.weir_step.Reads.As
 weir-step-tight κs args = (tt, λ x y. by (λ (o : Told). given (o .number) (tt, with-tables (o .left) (o .found, tt))))
 
 pub weir-leaks-tight : Tight exported.weir_leaks.ended exported.weir_leaks.Reads.Asked exported.weir_leaks.Reads.Learnt
-weir-leaks-tight κs args = (tt, λ x y. by (λ (o : Told-list). given (o .number) (tt, (tt, (tt, (tt, (tt, (o .left, tt))))))))
+weir-leaks-tight κs args = (tt, λ x y p q. by (λ (o : Told-list). given (o .number) (tt, (tt, (tt, (tt, (tt, (o .left, tt))))))) (p []) (q []))
 
 pub weir-judge-tight : Tight exported.weir_judge.ended exported.weir_judge.Reads.Asked exported.weir_judge.Reads.Learnt
 weir-judge-tight κs args = (tt, λ x y. by (λ (o : Judged). given (o .number) (tt, with-tables (o .left) (o .out, tt))))

@@ -41,3 +41,15 @@ is-handle-place-tight κs args = (tt, by-reply)
 
 pub is-buffer-place-tight : Tight facts.results.is_buffer_place.ended facts.results.is_buffer_place.Reads.Asked facts.results.is_buffer_place.Reads.Learnt
 is-buffer-place-tight κs args = (tt, by-reply)
+
+pub is-reserved-tight : Tight facts.classes.is_reserved.ended facts.classes.is_reserved.Reads.Asked facts.classes.is_reserved.Reads.Learnt
+is-reserved-tight κs args = (tt, by-reply)
+
+pub class-a-tight : Tight facts.classes.class_a.ended facts.classes.class_a.Reads.Asked facts.classes.class_a.Reads.Learnt
+class-a-tight κs args = (tt, by-reply)
+
+pub class-b-tight : Tight facts.classes.class_b.ended facts.classes.class_b.Reads.Asked facts.classes.class_b.Reads.Learnt
+class-b-tight κs args = (tt, by-reply)
+
+pub class-made-tight : Tight facts.classes.class_made.ended facts.classes.class_made.Reads.Asked facts.classes.class_made.Reads.Learnt
+class-made-tight κs args = (tt, by-reply)

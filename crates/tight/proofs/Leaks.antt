@@ -1,5 +1,6 @@
 -- That the promise of the list of leaks is tight. Assumes nothing.
 use mathlib.Core.Path.{_≡_, refl, sym, ap, _∙_}
+use mathlib.Core.List.{[]}
 use Rattle.leaks.proofs as leaks
 use Rattle.leaks.specs.Reply.{reply-of}
 use Rattle.leaks.specs.declared.Listed.{Listed}
@@ -18,6 +19,6 @@ list-tight κs args = (
   tt,
   λ x y p q.
       by-two (λ r l. given r (tt, (tt, (tt, (tt, (tt, (l, tt)))))))
-      (one-reply (x .reply) (y .reply) (ap (λ (o : Listing). o .reply) (p ∙ sym q)), ap (λ (o : Listing). o .left) (p ∙ sym q))
+      (one-reply (x .reply) (y .reply) (ap (λ (o : Listing). o .reply) (p [] ∙ sym (q []))), ap (λ (o : Listing). o .left) (p [] ∙ sym (q [])))
       (refl, refl),
 )

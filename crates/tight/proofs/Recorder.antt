@@ -15,5 +15,11 @@ weir-call-tight κs args = (tt, by-reply-and-slice)
 pub weir-return-tight : Tight recorder.weir_return.ended recorder.weir_return.Reads.Asked recorder.weir_return.Reads.Learnt
 weir-return-tight κs args = (tt, by-reply-and-slice)
 
+pub weir-declare-tight : Tight recorder.weir_declare.ended recorder.weir_declare.Reads.Asked recorder.weir_declare.Reads.Learnt
+weir-declare-tight κs args = (tt, by-reply-and-slice)
+
+pub weir-state-tight : Tight recorder.weir_state.ended recorder.weir_state.Reads.Asked recorder.weir_state.Reads.Learnt
+weir-state-tight κs args = (tt, by-reply-and-slice)
+
 pub weir-end-tight : Tight recorder.weir_end.ended recorder.weir_end.Reads.Asked recorder.weir_end.Reads.Learnt
 weir-end-tight κs args = (tt, by-reply-and-slice)

@@ -5,8 +5,9 @@ use Rattle.rows.specs.References.{told}
 use Rattle.rows.specs.Pins.{told as pin-told}
 use Rattle.rows.specs.declared.references.Held.{Held}
 use Rattle.rows.specs.declared.pins.Held.{Held as PinHeld}
-use Rattle.tight.specs.Tight.{Tight}
-use Rattle.tight.proofs.Shapes.{by-reply, by-table, by-reply-and-table}
+use Rattle.rows.specs.Table.{Table}
+use Rattle.tight.specs.Tight.{given, Tight}
+use Rattle.tight.proofs.Shapes.{by, by-reply, by-table, by-reply-and-table}
 
 pub clear-tight : Tight rows.clear.ended rows.clear.Reads.Asked rows.clear.Reads.Learnt
 clear-tight κs args = (tt, by-table)
@@ -28,6 +29,12 @@ one-slot Held.Nothing Held.Nothing e = refl
 
 pub references-slot-tight : Tight rows.references.slot.ended rows.references.slot.Reads.Asked rows.references.slot.Reads.Learnt
 references-slot-tight κs args = (tt, λ x y p q. by-reply x y (one-slot (x .reply) (y .reply) (p ∙ sym q)) refl)
+
+pub references-class-at-tight : Tight rows.references.class_at.ended rows.references.class_at.Reads.Asked rows.references.class_at.Reads.Learnt
+references-class-at-tight κs args = (tt, by-reply)
+
+pub references-state-tight : Tight rows.references.state.ended rows.references.state.Reads.Asked rows.references.state.Reads.Learnt
+references-state-tight κs args = (tt, λ x y. by (λ (t : Table). given (x .reply) (t .rows, x .left .1)))
 
 pub references-store-tight : Tight rows.references.store.ended rows.references.store.Reads.Asked rows.references.store.Reads.Learnt
 references-store-tight κs args = (tt, by-table)

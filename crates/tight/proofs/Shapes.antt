@@ -45,8 +45,11 @@ by-puts x y p q = by-reply-and-slice x y (p .reply, p .left) (q .reply, q .left)
 abbrev pub with-table : {Rest : Type 0} → Table → Rest → List ℕ × (List ℕ × Rest)
 with-table t rest = (t .rows, (t .marks, rest))
 
-abbrev pub with-tables : {Rest : Type 0} → Tables → Rest → List ℕ × (List ℕ × (List ℕ × (List ℕ × (List ℕ × Rest))))
-with-tables T rest = with-table (T .references) (with-table (T .pins) (T .book, rest))
+abbrev pub with-rows-and-book : {Rest : Type 0} → Tables → Rest → List ℕ × (List ℕ × (List ℕ × (List ℕ × (List ℕ × Rest))))
+with-rows-and-book T rest = with-table (T .references) (with-table (T .pins) (T .book, rest))
+
+abbrev pub with-tables : {Rest : Type 0} → Tables → Rest → List ℕ × (List ℕ × (List ℕ × (List ℕ × (List ℕ × (List ℕ × Rest)))))
+with-tables T rest = with-rows-and-book T (T .classes, rest)
 
 pub by-table : {Reply Rest : Type 0} {t : Table} (x y : Given Reply (List ℕ × (List ℕ × Rest)))
     → table (x .left .0) (x .left .1 .0) ≡ t → table (y .left .0) (y .left .1 .0) ≡ t
@@ -58,17 +61,25 @@ pub by-reply-and-table : {Reply Rest : Type 0} {v : Reply} {t : Table} (x y : Gi
     → x ≡ given (y .reply) (y .left .0, (y .left .1 .0, x .left .1 .1))
 by-reply-and-table x y = by-two (λ r (t : Table). given r (with-table t (x .left .1 .1)))
 
--- ---- what is left in all five lent slices is said
+-- ---- what is left in all six lent slices is said
 
-pub by-tables : {Reply Rest : Type 0} {T : Tables} (x y : Given Reply (List ℕ × (List ℕ × (List ℕ × (List ℕ × (List ℕ × Rest))))))
-    → tables (x .left .0) (x .left .1 .0) (x .left .1 .1 .0) (x .left .1 .1 .1 .0) (x .left .1 .1 .1 .1 .0) ≡ T
-    → tables (y .left .0) (y .left .1 .0) (y .left .1 .1 .0) (y .left .1 .1 .1 .0) (y .left .1 .1 .1 .1 .0) ≡ T
+pub by-tables : {Reply Rest : Type 0} {T : Tables} (x y : Given Reply (List ℕ × (List ℕ × (List ℕ × (List ℕ × (List ℕ × (List ℕ × Rest)))))))
+    → tables (x .left .0) (x .left .1 .0) (x .left .1 .1 .0) (x .left .1 .1 .1 .0) (x .left .1 .1 .1 .1 .0) (x .left .1 .1 .1 .1 .1 .0) ≡ T
+    → tables (y .left .0) (y .left .1 .0) (y .left .1 .1 .0) (y .left .1 .1 .1 .0) (y .left .1 .1 .1 .1 .0) (y .left .1 .1 .1 .1 .1 .0) ≡ T
+    → x ≡ given (x .reply) (y .left .0, (y .left .1 .0, (y .left .1 .1 .0, (y .left .1 .1 .1 .0, (y .left .1 .1 .1 .1 .0, (y .left .1 .1 .1 .1 .1 .0, x .left .1 .1 .1 .1 .1 .1))))))
+by-tables x y = by (λ (T : Tables). given (x .reply) (with-tables T (x .left .1 .1 .1 .1 .1 .1)))
+
+-- ---- the classes stay out of it
+
+pub by-rows-and-book : {Reply Rest : Type 0} {T : Tables} {cs : List ℕ} (x y : Given Reply (List ℕ × (List ℕ × (List ℕ × (List ℕ × (List ℕ × Rest))))))
+    → tables (x .left .0) (x .left .1 .0) (x .left .1 .1 .0) (x .left .1 .1 .1 .0) (x .left .1 .1 .1 .1 .0) cs ≡ T
+    → tables (y .left .0) (y .left .1 .0) (y .left .1 .1 .0) (y .left .1 .1 .1 .0) (y .left .1 .1 .1 .1 .0) cs ≡ T
     → x ≡ given (x .reply) (y .left .0, (y .left .1 .0, (y .left .1 .1 .0, (y .left .1 .1 .1 .0, (y .left .1 .1 .1 .1 .0, x .left .1 .1 .1 .1 .1)))))
-by-tables x y = by (λ (T : Tables). given (x .reply) (with-tables T (x .left .1 .1 .1 .1 .1)))
+by-rows-and-book x y = by (λ (T : Tables). given (x .reply) (with-rows-and-book T (x .left .1 .1 .1 .1 .1)))
 
--- ---- the pins stay out of it
+-- ---- and the pins
 
-pub by-references-and-book : {Reply Rest : Type 0} {T : Tables} {ps ns : List ℕ} (x y : Given Reply (List ℕ × (List ℕ × (List ℕ × Rest))))
-    → tables (x .left .0) (x .left .1 .0) ps ns (x .left .1 .1 .0) ≡ T → tables (y .left .0) (y .left .1 .0) ps ns (y .left .1 .1 .0) ≡ T
+pub by-references-and-book : {Reply Rest : Type 0} {T : Tables} {ps ns cs : List ℕ} (x y : Given Reply (List ℕ × (List ℕ × (List ℕ × Rest))))
+    → tables (x .left .0) (x .left .1 .0) ps ns (x .left .1 .1 .0) cs ≡ T → tables (y .left .0) (y .left .1 .0) ps ns (y .left .1 .1 .0) cs ≡ T
     → x ≡ given (x .reply) (y .left .0, (y .left .1 .0, (y .left .1 .1 .0, x .left .1 .1 .1)))
 by-references-and-book x y = by (λ (T : Tables). given (x .reply) (with-table (T .references) (T .book, x .left .1 .1 .1)))

@@ -9,6 +9,9 @@ call-refusal-tight κs args = (tt, by-reply)
 pub call-findings-tight : Tight weigh.call.findings.ended weigh.call.findings.Reads.Asked weigh.call.findings.Reads.Learnt
 call-findings-tight κs args = (tt, by-reply)
 
+pub declare-refusal-tight : Tight weigh.declare.refusal.ended weigh.declare.refusal.Reads.Asked weigh.declare.refusal.Reads.Learnt
+declare-refusal-tight κs args = (tt, by-reply)
+
 pub end-findings-tight : Tight weigh.end.findings.ended weigh.end.findings.Reads.Asked weigh.end.findings.Reads.Learnt
 end-findings-tight κs args = (tt, by-reply)
 
@@ -32,3 +35,6 @@ return-refusal-tight κs args = (tt, by-reply)
 
 pub return-findings-tight : Tight weigh.returns.findings.ended weigh.returns.findings.Reads.Asked weigh.returns.findings.Reads.Learnt
 return-findings-tight κs args = (tt, by-reply)
+
+pub state-refusal-tight : Tight weigh.state.refusal.ended weigh.state.refusal.Reads.Asked weigh.state.refusal.Reads.Learnt
+state-refusal-tight κs args = (tt, by-reply)

@@ -8,6 +8,7 @@ ghost use lib.ListN.{length, take};
 ghost use lib.Seq.{paste};
 ghost use Rattle.history.specs.Replies.{most-lines};
 ghost use Rattle.history.specs.Report.{end-line};
+ghost use Rattle.classes.specs.Supers.{all-classes};
 ghost use Rattle.book.specs.Layout.{whole};
 ghost use Rattle.book.specs.Threads.{lines-in, closed-in};
 ghost use Rattle.tables.specs.Tables.{tables};
@@ -20,8 +21,8 @@ pub enum Reported {
     Bytes(usize),
     // The slice is short for the report, which has so many bytes.
     Needs(usize),
-    // The thread book is short.
-    ShortBook,
+    // The thread book or the class table is short.
+    ShortTables,
 }
 
 // Findings are put here before they are copied.
@@ -123,12 +124,13 @@ fn report_into(
     pins: &mut [Number],
     pinmarks: &mut [u64],
     book: &mut [u64],
+    classes: &mut [Number],
     out: &mut [u8],
 ) -> usize
-    requires { ⌜ whole ≤ length (now book) ⌝ }
-    ensures { λ r. ⌜ Measured (tables (now (rows .entry)) (now (marks .entry)) (now (pins .entry)) (now (pinmarks .entry)) (now (book .entry))) (now (trace .entry)) (now (out .entry)) r (tables (now (rows .exit)) (now (marks .exit)) (now (pins .exit)) (now (pinmarks .exit)) (now (book .exit))) (now (out .exit)) ⌝ }
+    requires { ⌜ (whole ≤ length (now book)) × (all-classes ≤ length (now classes)) ⌝ }
+    ensures { λ r. ⌜ Measured (tables (now (rows .entry)) (now (marks .entry)) (now (pins .entry)) (now (pinmarks .entry)) (now (book .entry)) (now (classes .entry))) (now (trace .entry)) (now (out .entry)) r (tables (now (rows .exit)) (now (marks .exit)) (now (pins .exit)) (now (pinmarks .exit)) (now (book .exit)) (now (classes .exit))) (now (out .exit)) ⌝ }
 {
-    judge::start(rows, marks, pins, pinmarks, book);
+    judge::start(rows, marks, pins, pinmarks, book, classes);
     let mut scratch = [0; SCRATCH];
     let mut so_far = Run {
         at: 0,
@@ -147,6 +149,7 @@ fn report_into(
             pins,
             pinmarks,
             book,
+            classes,
             &mut scratch,
         );
         so_far = with_passed(so_far, passed, trace, &scratch, out);
@@ -155,7 +158,7 @@ fn report_into(
 }
 
 // Judges all lines of a trace from a start, and writes the report at the start of `out`: findings, then the `end` line.
-// Where `out` is short nothing is written there; the tables, its work room, are left as the run left them. Over a short book nothing is touched.
+// Where `out` is short nothing is written there; the tables, its work room, are left as the run left them. Over a short book or class table nothing is touched.
 pub fn judge_trace(
     trace: &[u8],
     rows: &mut [Number],
@@ -163,18 +166,31 @@ pub fn judge_trace(
     pins: &mut [Number],
     pinmarks: &mut [u64],
     book: &mut [u64],
+    classes: &mut [Number],
     out: &mut [u8],
 ) -> Reported
-    ensures { λ r. ⌜ leaves r (tables (now (rows .exit)) (now (marks .exit)) (now (pins .exit)) (now (pinmarks .exit)) (now (book .exit))) (now (out .exit)) ≡ whole-outcome (tables (now (rows .entry)) (now (marks .entry)) (now (pins .entry)) (now (pinmarks .entry)) (now (book .entry))) (now (trace .entry)) (now (out .entry)) ⌝ }
+    ensures { λ r. ⌜ leaves r (tables (now (rows .exit)) (now (marks .exit)) (now (pins .exit)) (now (pinmarks .exit)) (now (book .exit)) (now (classes .exit))) (now (out .exit)) ≡ whole-outcome (tables (now (rows .entry)) (now (marks .entry)) (now (pins .entry)) (now (pinmarks .entry)) (now (book .entry)) (now (classes .entry))) (now (trace .entry)) (now (out .entry)) ⌝ }
 {
     if book.len() < book::WHOLE {
-        return Reported::ShortBook;
+        return Reported::ShortTables;
+    }
+    if classes::is_short(classes) {
+        return Reported::ShortTables;
     }
     let mut unused = [0];
-    let w = report_into(trace, rows, marks, pins, pinmarks, book, &mut unused);
+    let w = report_into(
+        trace,
+        rows,
+        marks,
+        pins,
+        pinmarks,
+        book,
+        classes,
+        &mut unused,
+    );
     if out.len() < w {
         return Reported::Needs(w);
     }
-    report_into(trace, rows, marks, pins, pinmarks, book, out);
+    report_into(trace, rows, marks, pins, pinmarks, book, classes, out);
     Reported::Bytes(w)
 }

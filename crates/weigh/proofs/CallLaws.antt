@@ -52,7 +52,7 @@ module _ (closed : Bool) (top : Option Item) (many : ℕ) (x : Bool) (e : x ≡ 
 -- ---- what is judged
 
 pub call-judged : (line env f a b c : ℕ) (s : CallSight) (p3 c3 : Bool) (r1 r2 r3 : ℕ) → p3 ≡ is-allowed-pending f → c3 ≡ is-allowed-critical f
-    → r1 ≡ rule-number (place-rule (s .pa) a (s .a .there)) → r2 ≡ rule-number (place-rule (s .pb) b (s .b .there)) → r3 ≡ rule-number (place-rule (s .pc) c (s .c .there))
+    → r1 ≡ rule-number (place-rule (s .pa) a (s .a .there) (s .a .fits)) → r2 ≡ rule-number (place-rule (s .pb) b (s .b .there) (s .b .fits)) → r3 ≡ rule-number (place-rule (s .pc) c (s .c .there) (s .c .fits))
     → record {
       line = line;
       foreign = not (eqb env (s .env));

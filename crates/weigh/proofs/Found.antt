@@ -2,8 +2,8 @@
 use Prim.Native.Nat.{ℕ, zero, suc, _<_}
 use mathlib.Core.Path.{_≡_, refl, sym, ap, _∙_}
 use mathlib.Core.Bool.{Bool, not, _&&_}
-use mathlib.Core.List.{List}
-use mathlib.Core.Option.{none}
+use mathlib.Core.List.{List, []}
+use mathlib.Core.Option.{Option, none}
 use native.Mathlib.Decide.{decLt}
 use native.Mathlib.Omega.{arith}
 use borrow.Author.Tests.{lt-ltb, le-ltb, lt-leb, le-leb}
@@ -13,15 +13,18 @@ use lib.ListN.{length}
 use Rattle.words.specs.Choice.{if_then_else_}
 use Rattle.words.specs.Lists.{joined}
 use Rattle.facts.specs.Table.{fact-of}
+use Rattle.facts.specs.Classes.{no-class, class-a, class-b}
 use Rattle.facts.specs.Results.{is-local-result}
+use Rattle.facts.specs.declared.Place.{Place}
 use Rattle.facts.specs.declared.Place.the-variants as Place
 use Rattle.facts.specs.declared.Result.{Result}
 use Rattle.facts.specs.declared.Result.the-variants as Result
-use Rattle.lines.specs.Line.{X, C, R, Z, above-zero}
+use Rattle.lines.specs.Line.{Statement, X, C, R, Z, states, above-zero}
 use Rattle.lines.specs.Events.{is-status, result-in-line}
 use Rattle.rows.specs.Table.{Table}
 use Rattle.history.specs.Handles.{in-frame}
-use Rattle.history.specs.Breaches.{when, place-rule, is-there, rule-here, rule-at, line-rule, call-rule, exceeds, overflows, breach}
+use Rattle.history.specs.Seen.{Seen}
+use Rattle.history.specs.Breaches.{when, place-rule, is-there, fits-here, rule-here, rule-at, line-rule, call-rule, exceeds, overflows, breach}
 use Rattle.history.specs.Findings.{places, found, of-line}
 use Rattle.book.specs.Layout.{capacity-at, cell}
 use Rattle.book.specs.Threads.{stack, depth, thread-of, thread-in, top-capacity}
@@ -37,23 +40,34 @@ use Rattle.weigh.specs.Call.{judged-call}
 use Rattle.weigh.specs.Leave.{judged-leave}
 use Rattle.weigh.specs.Returns.{found-return}
 use Rattle.weigh.specs.End.{found-end}
+use Rattle.weigh.proofs.PlaceLaws.{judged-there}
 
 -- ---- C
 
 module _ (T : Tables) (line t env f a b c : ℕ) (n : ℤ) where
+  -- what is told of a place gives its rule
+  rule-told : (fixed : ℕ) (p : Place) (h : ℕ) → place-rule p h (place-spot fixed p T t f h .there) (place-spot fixed p T t f h .fits) ≡ rule-here fixed p t f h (seen-in T)
+  unfolding place-spot
+  rule-told fixed p h = judged-there h (is-there p t f h (seen-in T)) (fits-here fixed t h (seen-in T)) p
+
   pub call-found : listed (judged-call line env f a b c (call-sight T t f a b c)) ≡ of-line line (C t env f a b c n) (seen-in T)
-  unfolding listed judged-call call-sight place-spot of-line breach rule-at line-rule call-rule
+  unfolding listed judged-call call-sight of-line breach rule-at line-rule call-rule
   call-found =
       by-rules (of-one-rule (judged-call line env f a b c (call-sight T t f a b c)))
       (λ rule. joined places λ place. found line rule place (breach (C t env f a b c n) (seen-in T) rule place))
       (same 0) (same 1) (same 2) (same 3) (same 4) (same 5) (same 6) (same 7) (same 8) (same 9) (same 10)
     where
+      told : ℕ → Place → ℕ → Option ℕ
+      told fixed p h = place-rule p h (place-spot fixed p T t f h .there) (place-spot fixed p T t f h .fits)
+
       same : (k : ℕ)
-          → as-judged line k (call-rule t env f (seen-in T) (suc k)) (rule-here (fact-of f .a) t f a (seen-in T)) (rule-here (fact-of f .b) t f b (seen-in T)) (rule-here (fact-of f .c) t f c (seen-in T)) a b c
-          ≡ as-seen line k (call-rule t env f (seen-in T) (suc k)) (rule-here (fact-of f .a) t f a (seen-in T)) (rule-here (fact-of f .b) t f b (seen-in T)) (rule-here (fact-of f .c) t f c (seen-in T)) a b c
+          → as-judged line k (call-rule t env f (seen-in T) (suc k)) (told (class-a f) (fact-of f .a) a) (told (class-b f) (fact-of f .b) b) (told no-class (fact-of f .c) c) a b c
+          ≡ as-seen line k (call-rule t env f (seen-in T) (suc k)) (rule-here (class-a f) (fact-of f .a) t f a (seen-in T)) (rule-here (class-b f) (fact-of f .b) t f b (seen-in T)) (rule-here no-class (fact-of f .c) t f c (seen-in T)) a b c
       same k =
-          same-of-rule line k (call-rule t env f (seen-in T) (suc k)) (rule-here (fact-of f .a) t f a (seen-in T)) (rule-here (fact-of f .b) t f b (seen-in T))
-          (rule-here (fact-of f .c) t f c (seen-in T)) a b c
+          same-of-rule line k (call-rule t env f (seen-in T) (suc k)) (told (class-a f) (fact-of f .a) a) (told (class-b f) (fact-of f .b) b) (told no-class (fact-of f .c) c) a b c
+          ∙ λ i.
+          as-seen line k (call-rule t env f (seen-in T) (suc k)) (rule-told (class-a f) (fact-of f .a) a i) (rule-told (class-b f) (fact-of f .b) b i)
+          (rule-told no-class (fact-of f .c) c i) a b c
 
 -- ---- X
 
@@ -65,10 +79,11 @@ module _ (T : Tables) (line t r : ℕ) where
       (λ rule. joined places λ place. found line rule place (breach (X t r) (seen-in T) rule place))
       (same 0) (same 1) (same 2) (same 3) (same 4) (same 5) (same 6) (same 7) (same 8) (same 9) (same 10)
     where
-      same : (k : ℕ)
-          → as-judged line k (line-rule (X t r) (seen-in T) (suc k)) (rule-here Place.HandleOrNull t 0 r (seen-in T)) none none r 0 0
-          ≡ as-seen line k (line-rule (X t r) (seen-in T) (suc k)) (rule-here Place.HandleOrNull t 0 r (seen-in T)) none none r r r
-      same k = same-of-rule line k (line-rule (X t r) (seen-in T) (suc k)) (rule-here Place.HandleOrNull t 0 r (seen-in T)) none none r 0 0
+      here : Option ℕ
+      here = rule-here no-class Place.HandleOrNull t 0 r (seen-in T)
+
+      same : (k : ℕ) → as-judged line k (line-rule (X t r) (seen-in T) (suc k)) here none none r 0 0 ≡ as-seen line k (line-rule (X t r) (seen-in T) (suc k)) here none none r r r
+      same k = same-of-rule line k (line-rule (X t r) (seen-in T) (suc k)) here none none r 0 0
 
 -- ---- R
 
@@ -117,3 +132,9 @@ return-found T line t f h p s =
 pub end-found : (T : Tables) (line : ℕ) → found-end line (end-sight T) ≡ of-line line Z (seen-in T)
 unfolding found-end end-sight
 end-found T line = sym (end-listed line (seen-in T))
+
+-- ---- a statement has no findings
+
+pub statement-found : (line : ℕ) (s : Statement) (v : Seen) → of-line line (states s) v ≡ []
+unfolding of-line breach rule-at line-rule place-rule
+statement-found line s v = refl

@@ -22,7 +22,7 @@ module _ (closed : Bool) (top : Option Item) (x : Bool) (e : x ≡ is-native top
   unfolding leave-refusal
   leave-0 n = rw (sym (open-and closed x (is-native top) e) ∙ is-in closed x n) refl
 
-pub leave-found : (line r : ℕ) (s : LeaveSight) (rule : ℕ) (y : Answer) → rule ≡ rule-number (place-rule Place.HandleOrNull r (s .result .there))
+pub leave-found : (line r : ℕ) (s : LeaveSight) (rule : ℕ) (y : Answer) → rule ≡ rule-number (place-rule Place.HandleOrNull r (s .result .there) (s .result .fits))
     → y ≡ answer-of (listed (record { line = line; foreign = false; env = 0; pending = false; critical = s .critical; unheld = false; unpushed = false; rule1 = rule; a = r; rule2 = 0; b = 0; rule3 = 0; c = 0 }))
     → y ≡ answer-of (listed (judged-leave line r s))
 unfolding judged-leave

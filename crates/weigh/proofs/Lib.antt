@@ -4,6 +4,7 @@ pub mod LeaveLaws
 pub mod EnterLaws
 pub mod ReturnLaws
 pub mod EndLaws
+pub mod StatementLaws
 pub mod Refused
 pub mod ReturnRefused
 pub mod Found

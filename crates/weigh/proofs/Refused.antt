@@ -13,7 +13,7 @@ use lib.ListN.{length, length-map}
 use Rattle.words.specs.Choice.{if_then_else_}
 use Rattle.words.specs.Lists.{any}
 use Rattle.facts.specs.Named.{PopLocalFrame}
-use Rattle.lines.specs.Line.{N, X, C, Z}
+use Rattle.lines.specs.Line.{Statement, K, O, N, X, C, Z, states}
 use Rattle.rows.specs.Table.{room, alive}
 use Rattle.rows.specs.References.{references}
 use Rattle.rows.specs.Pins.{pins}
@@ -21,17 +21,22 @@ use Rattle.history.specs.Items.{Item, is-empty, is-native, is-call}
 use Rattle.history.specs.Frames.{Frame, entered, pushed, without-native, without-pushed}
 use Rattle.history.specs.Handles.{Alive, local, makes, is-local, same-handle}
 use Rattle.history.specs.Buffers.{gets}
-use Rattle.history.specs.Seen.{is-alive}
-use Rattle.history.specs.Acceptance.{in-step, env-right, made-by, twice, makes-anew, first-refusal, deepest}
+use Rattle.history.specs.Seen.{is-alive, handle-alive}
+use Rattle.history.specs.Classes.{is-known}
+use Rattle.history.specs.Acceptance.{in-step, env-right, made-by, twice, makes-anew, classes-right, names-alive, first-refusal, deepest}
+use Rattle.classes.specs.Supers.{super-in}
 use Rattle.book.specs.Threads.{thread-in, closed-in, env-elsewhere}
 use Rattle.book.proofs.Changing.{frames-within}
 use Rattle.tables.specs.Tables.{Tables, handles-in, seen-in}
 use Rattle.tables.specs.Weighing.{rows-left, refusal-in}
 use Rattle.tables.proofs.RowCounts.{alive-most}
-use Rattle.sight.specs.Sights.{some-alive, enter-sight}
+use Rattle.sight.specs.declared.state.StateSight.{StateSight}
+use Rattle.sight.specs.Sights.{some-alive, enter-sight, declare-sight, state-sight}
 use Rattle.weigh.specs.Enter.{enter-turn, named-twice, env-fits, enter-room, enter-refusal}
 use Rattle.weigh.specs.Leave.{leave-refusal}
 use Rattle.weigh.specs.Call.{call-refusal}
+use Rattle.weigh.specs.Declare.{declare-refusal}
+use Rattle.weigh.specs.State.{state-refusal}
 
 -- ---- room for a line that makes nothing
 
@@ -64,14 +69,14 @@ leave-room T t r =
     nothing-made T (length (without-native (thread-in (T .book) t .frames)))
     (omega (arith, left-shorter (thread-in (T .book) t .frames), frames-within (T .book) t))
 
-by-step : (step : Bool) → first-refusal step true true true ≡ (if step then 0 else 4)
+by-step : (step : Bool) → first-refusal step true true true true true ≡ (if step then 0 else 4)
 by-step true = refl
 by-step false = refl
 
 pub leave-told : (T : Tables) (top : Option Item) (many t r : ℕ) → refusal-in (X t r) top many T ≡ leave-refusal (closed-in (T .book)) top
-unfolding refusal-in leave-refusal in-step env-right makes-anew made-by makes seen-in
+unfolding refusal-in leave-refusal in-step env-right classes-right names-alive makes-anew made-by makes seen-in
 leave-told T top many t r =
-    ap (λ (o : Bool). first-refusal (not (closed-in (T .book)) && is-native top) true true (o && true)) (leave-room T t r)
+    ap (λ (o : Bool). first-refusal (not (closed-in (T .book)) && is-native top) true true true true (o && true)) (leave-room T t r)
     ∙ by-step (not (closed-in (T .book)) && is-native top)
 
 -- ---- C
@@ -82,19 +87,19 @@ call-room T t env f a b c n =
     nothing-made T (length (if eqb f PopLocalFrame then without-pushed (thread-in (T .book) t .frames) else thread-in (T .book) t .frames))
     (omega (arith, popped-shorter (eqb f PopLocalFrame) (thread-in (T .book) t .frames), frames-within (T .book) t))
 
-by-items : (step : Bool) (many : ℕ) → first-refusal step true true (ltb many deepest) ≡ (if step then (if leb deepest many then 7 else 0) else 4)
+by-items : (step : Bool) (many : ℕ) → first-refusal step true true true true (ltb many deepest) ≡ (if step then (if leb deepest many then 7 else 0) else 4)
 by-items false many = refl
 by-items true many = go (decLt many deepest)
   where
-    go : Dec (many < deepest) → first-refusal true true true (ltb many deepest) ≡ (if leb deepest many then 7 else 0)
+    go : Dec (many < deepest) → first-refusal true true true true true (ltb many deepest) ≡ (if leb deepest many then 7 else 0)
     go (yes h) = rw (lt-ltb many deepest h, lt-leb deepest many h) refl
     go (no h) = let k : deepest ≤ many = omega (arith, h) in rw (le-ltb many deepest k, le-leb deepest many k) refl
 
 pub call-told : (T : Tables) (top : Option Item) (many t env f a b c : ℕ) (n : ℤ)
     → refusal-in (C t env f a b c n) top many T ≡ call-refusal (closed-in (T .book)) top many
-unfolding refusal-in call-refusal in-step env-right makes-anew made-by makes seen-in
+unfolding refusal-in call-refusal in-step env-right classes-right names-alive makes-anew made-by makes seen-in
 call-told T top many t env f a b c n =
-    ap (λ (o : Bool). first-refusal (not (closed-in (T .book)) && is-native top) true true (o && ltb many deepest)) (call-room T t env f a b c n)
+    ap (λ (o : Bool). first-refusal (not (closed-in (T .book)) && is-native top) true true true true (o && ltb many deepest)) (call-room T t env f a b c n)
     ∙ by-items (not (closed-in (T .book)) && is-native top) many
 
 -- ---- Z
@@ -103,14 +108,58 @@ end-room : (T : Tables) → rows-left Z T ≡ true
 unfolding rows-left made-by makes gets seen-in
 end-room T = nothing-made T (length (thread-in (T .book) 0 .frames)) (frames-within (T .book) 0)
 
-by-end : (over : Bool) → first-refusal (not over && true) true true true ≡ (if over then 4 else 0)
+by-end : (over : Bool) → first-refusal (not over && true) true true true true true ≡ (if over then 4 else 0)
 by-end true = refl
 by-end false = refl
 
 pub end-told : (T : Tables) (top : Option Item) (many : ℕ) → refusal-in Z top many T ≡ (if closed-in (T .book) then 4 else 0)
-unfolding refusal-in in-step env-right makes-anew made-by makes seen-in
+unfolding refusal-in in-step env-right classes-right names-alive makes-anew made-by makes seen-in
 end-told T top many =
-    ap (λ (o : Bool). first-refusal (not (closed-in (T .book)) && true) true true (o && true)) (end-room T) ∙ by-end (closed-in (T .book))
+    ap (λ (o : Bool). first-refusal (not (closed-in (T .book)) && true) true true true true (o && true)) (end-room T) ∙ by-end (closed-in (T .book))
+
+-- ---- K and O
+
+statement-room : (T : Tables) (s : Statement) → rows-left (states s) T ≡ true
+unfolding rows-left made-by makes gets seen-in
+statement-room T s = nothing-made T (length (thread-in (T .book) 0 .frames)) (frames-within (T .book) 0)
+
+by-declare : (over known under : Bool) → first-refusal (not over && true) true true (not known && under) true true ≡ (if over then 4 else if known || not under then 9 else 0)
+by-declare true known under = refl
+by-declare false true under = refl
+by-declare false false true = refl
+by-declare false false false = refl
+
+pub declare-told : (T : Tables) (top : Option Item) (many c s : ℕ) → refusal-in (states (K c s)) top many T ≡ declare-refusal (closed-in (T .book)) (declare-sight T c s)
+unfolding refusal-in declare-refusal declare-sight in-step env-right makes-anew made-by makes classes-right names-alive seen-in
+declare-told T top many c s =
+    let known : Bool = is-known (super-in (T .classes)) c in
+    let under : Bool = is-known (super-in (T .classes)) s in
+    ap (λ (o : Bool). first-refusal (not (closed-in (T .book)) && true) true true (not known && under) true (o && true)) (statement-room T (K c s))
+    ∙ by-declare (closed-in (T .book)) known under
+
+by-state : (over known alive : Bool) → first-refusal (not over && true) true true known alive true ≡ (if over then 4 else if not known then 9 else if not alive then 10 else 0)
+by-state true known alive = refl
+by-state false true true = refl
+by-state false true false = refl
+by-state false false alive = refl
+
+pub state-told : (T : Tables) (top : Option Item) (many t h c : ℕ) → refusal-in (states (O t h c)) top many T ≡ state-refusal (closed-in (T .book)) (state-sight T t h c)
+unfolding refusal-in state-refusal state-sight in-step env-right makes-anew made-by makes classes-right names-alive seen-in
+state-told T top many t h c =
+    let known : Bool = is-known (super-in (T .classes)) c in
+    ap (λ (o : Bool). first-refusal (not (closed-in (T .book)) && true) true true known (handle-alive t h (seen-in T)) (o && true)) (statement-room T (O t h c))
+    ∙ by-state (closed-in (T .book)) known (handle-alive t h (seen-in T))
+
+-- an accepted O names a handle that is alive
+pub stated-alive : (closed : Bool) (s : StateSight) → state-refusal closed s ≡ 0 → s .alive ≡ true
+unfolding state-refusal
+stated-alive closed s = go closed (s .known) (s .alive)
+  where
+    go : (over known alive : Bool) → _≡_ {A = ℕ} (if over then 4 else if not known then 9 else if not alive then 10 else 0) 0 → alive ≡ true
+    go true known alive e = absurd (omega (arith, e))
+    go false false alive e = absurd (omega (arith, e))
+    go false true false e = absurd (omega (arith, e))
+    go false true true e = refl
 
 -- ---- N
 
@@ -165,15 +214,15 @@ enter-fits T many t env hs =
     (ap (λ (n : ℕ). leb (n + alive references (T .references)) (room references (T .references))) (length-map hs (local t (suc (length (thread-in (T .book) t .frames)))))
     ∙ rows-more (room references (T .references)) (alive references (T .references)) (length hs) (alive-most references (T .references)))
 
-by-turn : (turn env anew room : Bool) → first-refusal turn env anew room ≡ (if turn then first-refusal true env anew room else 4)
+by-turn : (turn env anew room : Bool) → first-refusal turn env anew true true room ≡ (if turn then first-refusal true env anew true true room else 4)
 by-turn true env anew room = refl
 by-turn false env anew room = refl
 
 pub enter-told : (T : Tables) (top : Option Item) (many t env : ℕ) (hs : List ℕ)
     → refusal-in (N t env hs) top many T ≡ (if enter-turn (closed-in (T .book)) top then enter-refusal many env hs (enter-sight T t env hs) else 4)
-unfolding refusal-in enter-refusal in-step env-right env-elsewhere enter-sight seen-in
+unfolding refusal-in enter-refusal in-step env-right classes-right names-alive env-elsewhere enter-sight seen-in
 enter-told T top many t env hs =
     let turn : Bool = not (closed-in (T .book)) && (is-empty top || is-call top) in
     let fits : Bool = env-fits env (enter-sight T t env hs) in
-    ap₂ (first-refusal turn fits) (enter-anew T t env hs) (enter-fits T many t env hs)
+    ap₂ (λ (a r : Bool). first-refusal turn fits a true true r) (enter-anew T t env hs) (enter-fits T many t env hs)
     ∙ by-turn turn fits (not (some-alive (T .references) t hs || named-twice hs)) (enter-room many (length hs) (enter-sight T t env hs))

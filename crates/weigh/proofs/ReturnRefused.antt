@@ -28,7 +28,7 @@ use Rattle.history.specs.Items.{Item, is-call-of}
 use Rattle.history.specs.Frames.{Frame, pushed}
 use Rattle.history.specs.Handles.{Alive, local, shared, result-made, makes, same-handle}
 use Rattle.history.specs.Buffers.{Pin, pin, gets}
-use Rattle.history.specs.Acceptance.{in-step, env-right, made-by, twice, makes-anew, first-refusal, deepest}
+use Rattle.history.specs.Acceptance.{in-step, env-right, made-by, twice, makes-anew, classes-right, names-alive, first-refusal, deepest}
 use Rattle.book.specs.Threads.{thread-in, closed-in}
 use Rattle.book.proofs.Changing.{frames-within}
 use Rattle.tables.specs.Tables.{Tables, handles-in, seen-in}
@@ -166,7 +166,7 @@ return-fits T t f h p s =
 
 -- ---- the number
 
-by-turn : (turn again fits : Bool) → first-refusal turn true (not again) (fits && true) ≡ (if turn then (if again then 6 else if fits then 0 else 7) else 4)
+by-turn : (turn again fits : Bool) → first-refusal turn true (not again) true true (fits && true) ≡ (if turn then (if again then 6 else if fits then 0 else 7) else 4)
 by-turn false again fits = refl
 by-turn true true fits = refl
 by-turn true false true = refl
@@ -175,9 +175,9 @@ by-turn true false false = refl
 pub return-told : (T : Tables) (top : Option Item) (many t f h p : ℕ) (s : ℤ)
     → refusal-in (R t f (result-in-line f h s) p) top many T
     ≡ (if return-turn (closed-in (T .book)) f top then return-refusal f (is-zero s) (return-sight T t f h) else 4)
-unfolding refusal-in return-refusal return-sight in-step env-right seen-in
+unfolding refusal-in return-refusal return-sight in-step env-right classes-right names-alive seen-in
 return-told T top many t f h p s =
     let new : Made = made-sight (T .references) (T .pins) (fact-of f .result) t h in
     let turn : Bool = not (closed-in (T .book)) && is-call-of f top in
-    ap₂ (λ (a r : Bool). first-refusal turn true a (r && true)) (return-anew T t f h p s) (return-fits T t f h p s)
+    ap₂ (λ (a r : Bool). first-refusal turn true a true true (r && true)) (return-anew T t f h p s) (return-fits T t f h p s)
     ∙ by-turn turn (new .alive) (new .fits && frame-free f (is-zero s) (length (thread-in (T .book) t .frames)))

@@ -28,10 +28,10 @@ judged-call line env f a b c s =
       critical = s .critical && not (is-allowed-critical f);
       unheld = eqb f MonitorExit && eqb (s .monitors) 0;
       unpushed = eqb f PopLocalFrame && not (s .pushed);
-      rule1 = rule-number (place-rule (s .pa) a (s .a .there));
+      rule1 = rule-number (place-rule (s .pa) a (s .a .there) (s .a .fits));
       a = a;
-      rule2 = rule-number (place-rule (s .pb) b (s .b .there));
+      rule2 = rule-number (place-rule (s .pb) b (s .b .there) (s .b .fits));
       b = b;
-      rule3 = rule-number (place-rule (s .pc) c (s .c .there));
+      rule3 = rule-number (place-rule (s .pc) c (s .c .there) (s .c .fits));
       c = c;
     }

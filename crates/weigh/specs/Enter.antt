@@ -28,4 +28,4 @@ enter-room many n s = leb n (s .free) && ltb (s .frames) deepest && ltb many dee
 -- of N in turn: 0, 5, 6 or 7
 unfoldable pub enter-refusal : ℕ → ℕ → List ℕ → EnterSight → ℕ
 enter-refusal many env hs s =
-    first-refusal true (env-fits env s) (not (s .alive || named-twice hs)) (enter-room many (length hs) s)
+    first-refusal true (env-fits env s) (not (s .alive || named-twice hs)) true true (enter-room many (length hs) s)

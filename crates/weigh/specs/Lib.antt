@@ -4,3 +4,5 @@ pub mod Leave
 pub mod Call
 pub mod Returns
 pub mod End
+pub mod Declare
+pub mod State

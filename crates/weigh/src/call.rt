@@ -34,9 +34,9 @@ fn judge(seen: CallSight, line: u32, env: Handle, f: u32, a: Handle, b: Handle, 
     let pa = seen.pa;
     let pb = seen.pb;
     let pc = seen.pc;
-    let rule1 = crate::places::place_rule(pa, a, x.there);
-    let rule2 = crate::places::place_rule(pb, b, y.there);
-    let rule3 = crate::places::place_rule(pc, c, z.there);
+    let rule1 = crate::places::place_rule(pa, a, x.there, x.fits);
+    let rule2 = crate::places::place_rule(pb, b, y.there, y.fits);
+    let rule3 = crate::places::place_rule(pc, c, z.there, z.fits);
     Judged {
         line,
         foreign: env as u64 != seen.env,

@@ -25,7 +25,7 @@ pub fn findings(seen: LeaveSight, line: u32, result: Handle) -> Answer
     ensures { λ r. ⌜ r ≡ answer-of (listed (judged-leave line result seen)) ⌝ }
 {
     let at = seen.result;
-    let rule1 = crate::places::handle_or_null_rule(result, at.there);
+    let rule1 = crate::places::handle_or_null_rule(result, at.there, at.fits);
     answers::findings(Judged {
         line,
         foreign: false,

@@ -1,8 +1,10 @@
 // What is answered to a line that was read, from what it was told of the lent tables: the number given instead, or its findings.
 pub mod call;
+pub mod declare;
 pub mod end;
 pub mod enter;
 pub mod leave;
 mod places;
 pub mod returns;
+pub mod state;
 mod steps;

@@ -1,4 +1,5 @@
-// The rule that a value breaks at a place, the first that fits, or 0. `there` tells whether what it names is alive or outstanding.
+// The rule that a value breaks at a place, the first that fits, or 0. `there` tells whether what it names is alive or outstanding, `fits`
+// whether its stated class is right there.
 use facts::Place;
 use facts::handles::GLOBAL;
 use facts::handles::IDENTITY;
@@ -7,20 +8,21 @@ use facts::handles::LOCAL;
 use facts::handles::WEAK;
 use words::Handle;
 ghost use mathlib.Core.Path.{_≡_};
+ghost use mathlib.Core.Bool.{Bool};
 ghost use Rattle.facts.specs.declared.Place.the-variants as Place;
 ghost use Rattle.history.specs.Breaches.{handle-rule, kind-rule, place-rule};
 ghost use Rattle.answers.specs.Listed.{rule-number};
 
 // A handle that is not null.
-fn handle_rule(h: Handle, there: bool) -> u32
-    ensures { λ r. ⌜ r ≡ rule-number (handle-rule h there) ⌝ }
+fn handle_rule(h: Handle, there: bool, fits: bool) -> u32
+    ensures { λ r. ⌜ r ≡ rule-number (handle-rule h there fits) ⌝ }
 {
     let kind = h % KINDS;
     if kind == IDENTITY {
         return 4;
     }
     if there {
-        return 0;
+        return if fits { 0 } else { 4 };
     }
     if kind == LOCAL {
         return 11;
@@ -29,40 +31,40 @@ fn handle_rule(h: Handle, there: bool) -> u32
 }
 
 // A handle of one kind, or null.
-fn kind_rule(kind: Handle, h: Handle, there: bool) -> u32
-    ensures { λ r. ⌜ r ≡ rule-number (kind-rule kind h there) ⌝ }
+fn kind_rule(kind: Handle, h: Handle, there: bool, fits: bool) -> u32
+    ensures { λ r. ⌜ r ≡ rule-number (kind-rule kind h there fits) ⌝ }
 {
     if h == 0 {
         return 0;
     }
     if h % KINDS == kind {
-        handle_rule(h, there)
+        handle_rule(h, there, fits)
     } else {
         4
     }
 }
 
 // A handle or null.
-pub(crate) fn handle_or_null_rule(h: Handle, there: bool) -> u32
-    ensures { λ r. ⌜ r ≡ rule-number (place-rule Place.HandleOrNull h there) ⌝ }
+pub(crate) fn handle_or_null_rule(h: Handle, there: bool, fits: bool) -> u32
+    ensures { λ r. ⌜ r ≡ rule-number (place-rule Place.HandleOrNull h there fits) ⌝ }
 {
     if h == 0 {
         return 0;
     }
-    handle_rule(h, there)
+    handle_rule(h, there, fits)
 }
 
-fn must_handle_rule(h: Handle, there: bool) -> u32
-    ensures { λ r. ⌜ r ≡ rule-number (place-rule Place.Handle h there) ⌝ }
+fn must_handle_rule(h: Handle, there: bool, fits: bool) -> u32
+    ensures { λ r. ⌜ r ≡ rule-number (place-rule Place.Handle h there fits) ⌝ }
 {
     if h == 0 {
         return 7;
     }
-    handle_rule(h, there)
+    handle_rule(h, there, fits)
 }
 
-fn identity_rule(h: Handle, there: bool) -> u32
-    ensures { λ r. ⌜ r ≡ rule-number (place-rule Place.Identity h there) ⌝ }
+fn identity_rule(h: Handle) -> u32
+    ensures { λ r. ⌜ ((there fits : Bool) → r ≡ rule-number (place-rule Place.Identity h there fits)) ⌝ }
 {
     if h == 0 {
         return 7;
@@ -71,7 +73,7 @@ fn identity_rule(h: Handle, there: bool) -> u32
 }
 
 fn buffer_rule(b: Handle, there: bool) -> u32
-    ensures { λ r. ⌜ r ≡ rule-number (place-rule Place.Buffer b there) ⌝ }
+    ensures { λ r. ⌜ ((fits : Bool) → r ≡ rule-number (place-rule Place.Buffer b there fits)) ⌝ }
 {
     if b == 0 {
         return 7;
@@ -80,16 +82,16 @@ fn buffer_rule(b: Handle, there: bool) -> u32
 }
 
 // A value at a place.
-pub(crate) fn place_rule(place: Place, h: Handle, there: bool) -> u32
-    ensures { λ r. ⌜ r ≡ rule-number (place-rule place h there) ⌝ }
+pub(crate) fn place_rule(place: Place, h: Handle, there: bool, fits: bool) -> u32
+    ensures { λ r. ⌜ r ≡ rule-number (place-rule place h there fits) ⌝ }
 {
     match place {
-        Place::Handle => must_handle_rule(h, there),
-        Place::HandleOrNull => handle_or_null_rule(h, there),
-        Place::LocalOrNull => kind_rule(LOCAL, h, there),
-        Place::GlobalOrNull => kind_rule(GLOBAL, h, there),
-        Place::WeakOrNull => kind_rule(WEAK, h, there),
-        Place::Identity => identity_rule(h, there),
+        Place::Handle => must_handle_rule(h, there, fits),
+        Place::HandleOrNull => handle_or_null_rule(h, there, fits),
+        Place::LocalOrNull => kind_rule(LOCAL, h, there, fits),
+        Place::GlobalOrNull => kind_rule(GLOBAL, h, there, fits),
+        Place::WeakOrNull => kind_rule(WEAK, h, there, fits),
+        Place::Identity => identity_rule(h),
         Place::Buffer => buffer_rule(h, there),
         Place::Unused => 0,
     }

@@ -39,3 +39,8 @@ module _ {ℓ} {A : Type ℓ} where
   abbrev pub sum : (A → ℕ) → List A → ℕ
   sum f [] = 0
   sum f (x ∷ xs) = f x + sum f xs
+
+  -- what f says of the first that passes the test, 0 where none does
+  abbrev pub of-first : (A → Bool) → (A → ℕ) → List A → ℕ
+  of-first test f [] = 0
+  of-first test f (x ∷ xs) = if test x then f x else of-first test f xs

@@ -1,7 +1,5 @@
 -- `judge::next_number` meets its contract. Assumes nothing.
 use native.Mathlib.Omega.{arith}
-use denote.Ref.{now}
-use Rattle.judge.proofs.ByBook.{fewer-lines}
 use borrow.Author.Needs.{needs}
 use Rattle.judge.proofs.next_number.Statement.{statement}
 use Rattle.judge.proofs.next_number.Tie as tie
@@ -9,6 +7,6 @@ use Rattle.judge.proofs.next_number.Tie as tie
 pub next-number-spec : {M : Type 1} → statement M
 next-number-spec = tie.close (tie.spec
     (λ c κs. search needs)
-    (λ c. omega (arith, fewer-lines (now (c .before .before .args .book)) (c .before .before .pre), c .lines-of .ensures))
-    (λ c. omega (arith, fewer-lines (now (c .before .before .args .book)) (c .before .before .pre), c .lines-of .ensures))
+    (λ c. omega (arith, c .before .before .pre, c .lines-of .ensures))
+    (λ c. omega (arith, c .before .before .pre, c .lines-of .ensures))
     (λ c. search needs))

@@ -4,28 +4,34 @@ use mathlib.Core.Path.{refl, sym}
 use mir.Facts.{toZ-ofZ}
 use lib.Seq.{length-take-le}
 use Rattle.judge.proofs.Reading.{few-named}
-use Rattle.judge.proofs.Dispatch.{of-enter, of-leave, of-call, of-return, of-end, of-refused}
+use Rattle.judge.proofs.Dispatch.{of-enter, of-leave, of-call, of-return, of-declare, of-state, of-end, of-refused}
 use borrow.Author.Needs.{needs, sfits-of}
 use Rattle.judge.proofs.on_event.Statement.{statement}
 use Rattle.judge.proofs.on_event.Tie as tie
 
 returns : tie.Need-returns
-returns c = let at-enter = c .before .before .before .before .before .before in let at-event = at-enter .before .before .before .before .before .before in of-enter _ _ _ _ _ _ _ (at-event .event .given .1) (at-enter .enter .ensures _ _)
+returns c = let at-enter = c .before .before .before .before .before .before in let at-event = at-enter .before .before .before .before .before .before in of-enter _ _ _ _ _ _ _ (at-event .event .given .1) (at-enter .enter .ensures _ _ _)
 
 returns-2 : tie.Need-returns-2
-returns-2 c = let at-leave = c .before .before .before .before .before .before in let at-event2 = at-leave .before .before .before .before .before .before .before in of-leave _ _ _ _ _ _ _ (at-event2 .event2 .given .1) (at-leave .leave .ensures _)
+returns-2 c = let at-leave = c .before .before .before .before .before .before in let at-event2 = at-leave .before .before .before .before .before .before .before in of-leave _ _ _ _ _ _ _ (at-event2 .event2 .given .1) (at-leave .leave .ensures _ _)
 
 returns-3 : tie.Need-returns-3
-returns-3 c = let at-call = c .before .before .before .before .before .before .before .before .before .before in let at-event3 = at-call .before .before .before .before .before .before .before in of-call _ _ _ _ _ _ _ (at-event3 .event3 .given .1) (at-call .call .ensures _)
+returns-3 c = let at-call = c .before .before .before .before .before .before .before .before .before .before in let at-event3 = at-call .before .before .before .before .before .before .before .before in of-call _ _ _ _ _ _ _ (at-event3 .event3 .given .1) (at-call .call .ensures _)
 
 returns-4 : tie.Need-returns-4
-returns-4 c = let at-returns = c .before .before .before .before .before .before .before .before .before .before in let at-known-told4 = at-returns .before .before .before .before .before .before in let at-event4 = at-known-told4 .before in of-return _ _ _ _ _ _ _ _ (toZ-ofZ (sfits-of (at-known-told4 .known-told4 .given .1 .1 .1 .0 .1))) (at-event4 .event4 .given .1) (at-returns .returns .ensures _)
+returns-4 c = let at-returns = c .before .before .before .before .before .before .before .before .before .before in let at-known-told4 = at-returns .before .before .before .before .before .before in let at-event4 = at-known-told4 .before in of-return _ _ _ _ _ _ _ _ (toZ-ofZ (sfits-of (at-known-told4 .known-told4 .given .1 .1 .1 .0 .1))) (at-event4 .event4 .given .1) (at-returns .returns .ensures _ _)
 
 returns-5 : tie.Need-returns-5
-returns-5 c = let at-end = c .before .before in let at-enum-told = at-end .before .before .before .before .before .before in of-end _ _ _ _ _ _ _ (at-enum-told .enum-told .given .1) (at-end .end .ensures _ _)
+returns-5 c = let at-declare = c .before .before .before .before in let at-event5 = at-declare .before .before .before .before in of-declare _ _ _ _ _ _ _ (at-event5 .event5 .given .1) (at-declare .declare .ensures _ _ _ _ _ _ _)
 
 returns-6 : tie.Need-returns-6
-returns-6 c = of-refused _ _ _ _ _ _ _ _ (c .before .before .event5 .given .1) (c .refused .ensures) refl
+returns-6 c = let at-state = c .before .before .before .before in let at-event6 = at-state .before .before .before .before .before .before in of-state _ _ _ _ _ _ _ (at-event6 .event6 .given .1) (at-state .state .ensures _ _ _ _ _)
+
+returns-7 : tie.Need-returns-7
+returns-7 c = let at-end = c .before .before in let at-enum-told = at-end .before .before .before .before .before .before in of-end _ _ _ _ _ _ _ (at-enum-told .enum-told .given .1) (at-end .end .ensures _ _ _)
+
+returns-8 : tie.Need-returns-8
+returns-8 c = of-refused _ _ _ _ _ _ _ _ (c .before .before .event7 .given .1) (c .refused .ensures) refl
 
 pub on-event-spec : {M : Type 1} → statement M
 on-event-spec =
@@ -33,8 +39,12 @@ on-event-spec =
     (tie.spec
     (λ c. search needs)
     (λ c. search needs)
-    (λ c. let at-event = c .before .before .before .before in let at-pre = at-event .before .before .before .before .before .before .before in omega (arith, few-named _ (at-pre .pre) (at-event .event .given .1)))
-    (λ c. let at-event = c .before .before .before .before .before in let at-pre = at-event .before .before .before .before .before .before .before in sym (length-take-le _ _ (omega (arith, few-named _ (at-pre .pre) (at-event .event .given .1)))))
+    (λ c. let at-event = c .before .before .before .before in let at-pre = at-event .before .before .before .before .before .before .before .before in omega (arith, few-named _ (at-pre .pre) (at-event .event .given .1)))
+    (λ c. let at-event = c .before .before .before .before .before in let at-pre = at-event .before .before .before .before .before .before .before .before in sym (length-take-le _ _ (omega (arith, few-named _ (at-pre .pre) (at-event .event .given .1)))))
+    (λ c κs. search needs)
+    (λ c. search needs)
+    (λ c κs. search needs)
+    (λ c. search needs)
     (λ c κs. search needs)
     (λ c. search needs)
     (λ c κs. search needs)
@@ -61,6 +71,7 @@ on-event-spec =
     (λ c. let at-call = c .before .before .before .before .before .before .before .before .before .before in at-call .call .kept .1 .1 .0)
     (λ c. let at-call = c .before .before .before .before .before .before .before .before .before .before in at-call .call .kept .1 .1 .1 .0)
     (λ c. let at-call = c .before .before .before .before .before .before .before .before .before .before in at-call .call .kept .1 .1 .1 .1 .0)
+    (λ c. refl)
     returns-3
     (λ c. let at-returns = c .before .before .before .before .before .before .before .before .before .before in at-returns .returns .kept .0)
     (λ c. let at-returns = c .before .before .before .before .before .before .before .before .before .before in at-returns .returns .kept .1 .0)
@@ -68,10 +79,18 @@ on-event-spec =
     (λ c. let at-returns = c .before .before .before .before .before .before .before .before .before .before in at-returns .returns .kept .1 .1 .1 .0)
     (λ c. let at-returns = c .before .before .before .before .before .before .before .before .before .before in at-returns .returns .kept .1 .1 .1 .1 .0)
     returns-4
+    (λ c. let at-declare = c .before .before .before .before in at-declare .declare .kept .0)
+    (λ c. let at-declare = c .before .before .before .before in at-declare .declare .kept .1 .0)
+    returns-5
+    (λ c. let at-state = c .before .before .before .before in at-state .state .kept .0)
+    (λ c. refl)
+    (λ c. let at-state = c .before .before .before .before in at-state .state .kept .1 .1 .0)
+    (λ c. refl)
+    returns-6
     (λ c. refl)
     (λ c. refl)
     (λ c. refl)
     (λ c. refl)
     (λ c. c .before .before .end .kept .1 .1 .1 .1 .0)
-    returns-5
-    returns-6)
+    returns-7
+    returns-8)

@@ -16,4 +16,4 @@ call-spec =
     (λ c. search needs)
     (λ c. search needs)
     (λ c. search needs)
-    (λ c. let at-write-book = c .before .before in let at-release = at-write-book .before .before .before .before .before .before in let at-end-references = at-release .before .before .before .before .before .before .before in tables-called _ _ _ _ _ _ _ _ _ _ _ _ _ _ _ _ (at-end-references .end-references .ensures) (at-release .release .ensures) (at-write-book .write-book .ensures)))
+    (λ c. let at-write-book = c .before .before in let at-release = at-write-book .before .before .before .before .before .before in let at-end-references = at-release .before .before .before .before .before .before .before in λ cs. tables-called _ _ _ _ _ cs _ _ _ _ _ _ _ _ _ _ _ (at-end-references .end-references .ensures) (at-release .release .ensures) (at-write-book .write-book .ensures)))

@@ -15,4 +15,4 @@ enter-spec =
     (λ c. search needs)
     (λ c. search needs)
     (λ c. search needs)
-    (λ c. let at-write-book = c .before .before in let at-take-all = at-write-book .before .before .before .before .before .before in let at-frames-of = at-take-all .before .before .before in λ ps ns n. entered _ _ ps ns _ _ _ _ _ n _ _ _ _ (at-frames-of .frames-of .ensures .0) (at-take-all .take-all .ensures) (at-write-book .write-book .ensures)))
+    (λ c. let at-write-book = c .before .before in let at-take-all = at-write-book .before .before .before .before .before .before in let at-frames-of = at-take-all .before .before .before in λ ps ns cs n. entered _ _ ps ns _ cs _ _ _ _ n _ _ _ _ (at-frames-of .frames-of .ensures .0) (at-take-all .take-all .ensures) (at-write-book .write-book .ensures)))

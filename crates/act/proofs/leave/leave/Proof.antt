@@ -15,4 +15,4 @@ leave-spec =
     (λ c. search needs)
     (λ c. search needs)
     (λ c. search needs)
-    (λ c. let at-write-book = c .before .before in let at-end-frames = at-write-book .before .before .before .before .before .before in let at-frames-left = at-end-frames .before .before .before in λ ps ns line n r. left _ _ ps ns _ _ _ _ line n _ r _ (at-frames-left .frames-left .ensures .0) (at-end-frames .end-frames .ensures) (at-write-book .write-book .ensures)))
+    (λ c. let at-write-book = c .before .before in let at-end-frames = at-write-book .before .before .before .before .before .before in let at-frames-left = at-end-frames .before .before .before in λ ps ns cs line n r. left _ _ ps ns _ cs _ _ _ line n _ r _ (at-frames-left .frames-left .ensures .0) (at-end-frames .end-frames .ensures) (at-write-book .write-book .ensures)))

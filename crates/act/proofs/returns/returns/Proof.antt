@@ -18,4 +18,4 @@ returns-spec =
     (λ c. search needs)
     (λ c. search needs)
     (λ c. search needs)
-    (λ c. let at-get = c .before .before .before .before in let at-make = at-get .before .before .before .before .before .before .before in let at-write-book = at-make .before .before .before .before .before in let at-frames-of = at-write-book .before .before .before .before in let at-fits = at-frames-of .before .before .before .before .before .before .before in all-returned _ _ _ _ _ _ _ _ _ _ _ _ _ _ _ _ _ _ _ _ _ (at-frames-of .frames-of .ensures .0) (toZ-ofZ (at-fits .fits .status)) (at-write-book .write-book .ensures) (at-make .make .ensures) (at-get .get .ensures)))
+    (λ c. let at-get = c .before .before .before .before in let at-make = at-get .before .before .before .before .before .before .before in let at-write-book = at-make .before .before .before .before .before in let at-frames-of = at-write-book .before .before .before .before in let at-fits = at-frames-of .before .before .before .before .before .before .before in λ cs. all-returned _ _ _ _ _ cs _ _ _ _ _ _ _ _ _ _ _ _ _ _ _ _ (at-frames-of .frames-of .ensures .0) (toZ-ofZ (at-fits .fits .status)) (at-write-book .write-book .ensures) (at-make .make .ensures) (at-get .get .ensures)))

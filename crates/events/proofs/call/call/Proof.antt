@@ -6,7 +6,7 @@ use Rattle.events.proofs.call.call.Statement.{statement}
 use Rattle.events.proofs.call.call.Tie as tie
 
 returns-2 : tie.Need-returns-2
-returns-2 c = let at-call2 = c .before .before .before .before .before .before .before .before .before .before .before in let at-call = at-call2 .before .before .before .before .before .before .before .before in let at-if1 = at-call .before .before .before .before .before .before in let at-refusal = at-if1 .before in let at-is-closed = at-refusal .before in λ n. call-goes _ _ _ _ _ _ _ _ _ _ _ _ _ (at-is-closed .is-closed .ensures) (at-refusal .refusal .ensures) _ _ _ (at-if1 .if1 .left) (at-call .call .ensures) (at-call2 .call2 .ensures) (c .findings .ensures)
+returns-2 c = let at-call2 = c .before .before .before .before .before .before .before .before .before .before .before in let at-call = at-call2 .before .before .before .before .before .before .before .before in let at-if1 = at-call .before .before .before .before .before .before in let at-refusal = at-if1 .before in let at-is-closed = at-refusal .before in λ n. call-goes _ _ _ _ _ _ _ _ _ _ _ _ _ (at-is-closed .is-closed .ensures) (at-refusal .refusal .ensures) _ _ _ (at-if1 .if1 .left) (at-call .call .ensures) (at-call2 .call2 .ensures _) (c .findings .ensures)
 
 pub call-spec : {M : Type 1} → statement M
 call-spec =

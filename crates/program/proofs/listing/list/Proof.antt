@@ -1,5 +1,6 @@
 -- `program::listing::list` meets its contract. Assumes nothing.
 use mathlib.Core.Path.{sym, ap}
+use mathlib.Core.List.{[]}
 use borrow.Author.Tests.{not-true, not-false}
 use borrow.Author.Needs.{needs}
 use Rattle.leaks.specs.Reply.{reply-of}
@@ -21,8 +22,8 @@ list-spec =
     (λ c. let at-listed = c .before in
     let at-list = at-listed .before .before .before .before in
     let at-if1 = at-list .before .before in
-    replied _ _ (at-list .list .result) (not-false _ (at-if1 .if1 .left)) (at-list .list .ensures) (sym (ap (λ (x : Listed). records-in (reply-of x)) (at-listed .listed .given .1))))
+    replied _ _ (at-list .list .result) (not-false _ (at-if1 .if1 .left)) (at-list .list .ensures []) (sym (ap (λ (x : Listed). records-in (reply-of x)) (at-listed .listed .given .1))))
     (λ c. search needs)
     (λ c. let at-list = c .before .before .before .before in
     let at-if1 = at-list .before .before in
-    replied _ _ (at-list .list .result) (not-false _ (at-if1 .if1 .left)) (at-list .list .ensures) (sym (ap (λ (x : Listed). records-in (reply-of x)) (c .enum-told .given .1)))))
+    replied _ _ (at-list .list .result) (not-false _ (at-if1 .if1 .left)) (at-list .list .ensures []) (sym (ap (λ (x : Listed). records-in (reply-of x)) (c .enum-told .given .1)))))

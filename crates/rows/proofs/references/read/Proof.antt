@@ -21,4 +21,7 @@ read-spec =
     (λ c. search needs)
     (λ c. search needs)
     (λ c. search needs)
+    (λ c. search needs)
+    (λ c. search needs)
+    (λ c. search needs)
     (λ c. unfold row-at row cell in simp add-zero))

@@ -24,4 +24,7 @@ write-spec =
     (λ c. search needs)
     (λ c. simp length-set (omega arith))
     (λ c. search needs)
+    (λ c. search needs)
+    (λ c. simp length-set (omega arith))
+    (λ c. search needs)
     (λ c. unfold put-row in simp towards-suc))

@@ -19,4 +19,6 @@ call-spec =
     (λ c κs. search needs)
     (λ c κs. search needs)
     (λ c κs. search needs)
-    (λ c. let at-place2 = c .before in let at-place = at-place2 .before in let at-place-c = at-place .before in let at-place-b = at-place-c .before in let at-place-a = at-place-b .before in let at-in-critical = at-place-a .before in let at-top-pushed = at-in-critical .before in let at-monitors-of = at-top-pushed .before in let at-pending-of = at-monitors-of .before in let at-env-of = at-pending-of .before in call-seen _ _ _ _ _ _ _ _ _ _ _ _ _ _ _ _ _ _ _ _ _ (at-env-of .env-of .ensures) (at-pending-of .pending-of .ensures) (at-monitors-of .monitors-of .ensures) (at-top-pushed .top-pushed .ensures) (at-in-critical .in-critical .ensures) (at-place-a .place-a .ensures) (at-place-b .place-b .ensures) (at-place-c .place-c .ensures) (at-place .place .ensures) (at-place2 .place2 .ensures) (c .place3 .ensures)))
+    (λ c κs. search needs)
+    (λ c κs. search needs)
+    (λ c. let at-place2 = c .before in let at-place = at-place2 .before in let at-class-b = at-place .before in let at-class-a = at-class-b .before in let at-place-c = at-class-a .before in let at-place-b = at-place-c .before in let at-place-a = at-place-b .before in let at-in-critical = at-place-a .before in let at-top-pushed = at-in-critical .before in let at-monitors-of = at-top-pushed .before in let at-pending-of = at-monitors-of .before in let at-env-of = at-pending-of .before in call-seen _ _ _ _ _ _ _ _ _ _ _ _ _ _ _ _ _ _ _ _ _ _ _ _ (at-env-of .env-of .ensures) (at-pending-of .pending-of .ensures) (at-monitors-of .monitors-of .ensures) (at-top-pushed .top-pushed .ensures) (at-in-critical .in-critical .ensures) (at-place-a .place-a .ensures) (at-place-b .place-b .ensures) (at-place-c .place-c .ensures) (at-class-a .class-a .ensures) (at-class-b .class-b .ensures) (at-place .place .ensures) (at-place2 .place2 .ensures) (c .place3 .ensures)))

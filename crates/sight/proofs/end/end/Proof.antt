@@ -9,4 +9,4 @@ end-spec = tie.close (tie.spec
     (λ c κs. search needs)
     (λ c κs. search needs)
     (λ c κs. search needs)
-    (λ c. end-seen _ _ _ _ _ _ _ _ (c .before .before .buffers .ensures) (c .before .monitors .ensures) (c .handles .ensures)))
+    (λ c. λ cs. end-seen _ _ _ _ _ cs _ _ _ (c .before .before .buffers .ensures) (c .before .monitors .ensures) (c .handles .ensures)))

@@ -8,4 +8,4 @@ pub leave-spec : {M : Type 1} → statement M
 leave-spec = tie.close (tie.spec
     (λ c κs. search needs)
     (λ c κs. search needs)
-    (λ c. λ b. leave-seen _ _ _ _ b _ _ _ _ (c .before .in-critical .ensures) (c .handle .ensures)))
+    (λ c. λ b cs. leave-seen _ _ _ _ b cs _ _ _ _ (c .before .in-critical .ensures) (c .handle .ensures)))

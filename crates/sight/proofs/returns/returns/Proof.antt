@@ -12,4 +12,4 @@ returns-spec =
     (λ c κs. search needs)
     (λ c κs. search needs)
     (λ c κs. search needs)
-    (λ c. return-seen _ _ _ _ _ _ _ _ _ _ _ _ (c .before .before .before .result-of .ensures) (c .before .before .what-is-made .ensures) (c .before .frames-of .ensures .0) (c .overflows .ensures)))
+    (λ c. λ cs. return-seen _ _ _ _ _ cs _ _ _ _ _ _ _ (c .before .before .before .result-of .ensures) (c .before .before .what-is-made .ensures) (c .before .frames-of .ensures .0) (c .overflows .ensures)))

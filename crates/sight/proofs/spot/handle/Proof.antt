@@ -9,8 +9,8 @@ handle-spec =
     tie.close
     (tie.spec
     (λ c κs. search needs)
-    (λ c. λ ps ns b. no-handle-at _ _ _ _ (c .before .if1 .taken) (c .nowhere .ensures))
+    (λ c. λ ps ns b cs. no-handle-at _ _ _ _ (c .before .if1 .taken) (c .nowhere .ensures))
     (λ c κs. search needs)
-    (λ c. λ ps ns b. local-handle-at _ _ _ _ (c .before .before .if1 .left) (c .before .if2 .taken) (c .local .ensures ps ns b))
+    (λ c. λ ps ns b cs. local-handle-at _ _ _ _ (c .before .before .if1 .left) (c .before .if2 .taken) (c .local .ensures ps ns b cs))
     (λ c κs. search needs)
-    (λ c. λ ps ns b. shared-handle-at _ _ _ _ (c .before .before .if1 .left) (c .before .if2 .left) (c .shared .ensures ps ns b)))
+    (λ c. λ ps ns b cs. shared-handle-at _ _ _ _ (c .before .before .if1 .left) (c .before .if2 .left) (c .shared .ensures ps ns b cs)))

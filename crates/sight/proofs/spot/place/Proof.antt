@@ -11,9 +11,9 @@ place-spec =
     (tie.spec
     (λ c κs. search needs)
     (λ c κs. search needs)
-    (λ c. λ b. handle-place-at _ _ _ _ _ _ (sym (c .before .before .is-handle-place .ensures) ∙ c .before .if1 .taken) (c .handle .ensures _ _ b))
+    (λ c. λ b. handle-place-at _ _ _ _ _ _ _ (sym (c .before .before .is-handle-place .ensures) ∙ c .before .if1 .taken) (c .judged .ensures _ _ b))
     (λ c κs. search needs)
     (λ c κs. search needs)
-    (λ c. let at-if2 = c .before in let at-is-buffer-place = at-if2 .before in let at-if1 = at-is-buffer-place .before in let at-is-handle-place = at-if1 .before in λ b. buffer-place-at _ _ _ _ _ _ (sym (at-is-handle-place .is-handle-place .ensures) ∙ at-if1 .if1 .left) (sym (at-is-buffer-place .is-buffer-place .ensures) ∙ at-if2 .if2 .taken) (c .buffer .ensures _ _ b))
+    (λ c. let at-if2 = c .before in let at-is-buffer-place = at-if2 .before in let at-if1 = at-is-buffer-place .before in let at-is-handle-place = at-if1 .before in λ b. buffer-place-at _ _ _ _ _ _ _ (sym (at-is-handle-place .is-handle-place .ensures) ∙ at-if1 .if1 .left) (sym (at-is-buffer-place .is-buffer-place .ensures) ∙ at-if2 .if2 .taken) (c .buffer .ensures _ _ b _))
     (λ c κs. search needs)
-    (λ c. let at-if2 = c .before in let at-is-buffer-place = at-if2 .before in let at-if1 = at-is-buffer-place .before in let at-is-handle-place = at-if1 .before in λ b. no-place-at _ _ _ _ _ _ (sym (at-is-handle-place .is-handle-place .ensures) ∙ at-if1 .if1 .left) (sym (at-is-buffer-place .is-buffer-place .ensures) ∙ at-if2 .if2 .left) (c .nowhere .ensures)))
+    (λ c. let at-if2 = c .before in let at-is-buffer-place = at-if2 .before in let at-if1 = at-is-buffer-place .before in let at-is-handle-place = at-if1 .before in λ b. no-place-at _ _ _ _ _ _ _ (sym (at-is-handle-place .is-handle-place .ensures) ∙ at-if1 .if1 .left) (sym (at-is-buffer-place .is-buffer-place .ensures) ∙ at-if2 .if2 .left) (c .nowhere .ensures)))

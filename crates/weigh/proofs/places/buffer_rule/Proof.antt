@@ -7,6 +7,6 @@ pub buffer-rule-spec : {M : Type 1} → statement M
 buffer-rule-spec =
     tie.close
     (tie.spec
-    (λ c. null-buffer _ _ (c .if1 .taken))
-    (λ c. buffer-out _ _ (c .before .if1 .left) (c .if2 .taken))
-    (λ c. buffer-not-out _ _ (c .before .if1 .left) (c .if2 .left)))
+    (λ c. λ fits. null-buffer _ _ fits (c .if1 .taken))
+    (λ c. λ fits. buffer-out _ _ fits (c .before .if1 .left) (c .if2 .taken))
+    (λ c. λ fits. buffer-not-out _ _ fits (c .before .if1 .left) (c .if2 .left)))

@@ -8,6 +8,6 @@ pub handle-or-null-rule-spec : {M : Type 1} → statement M
 handle-or-null-rule-spec =
     tie.close
     (tie.spec
-    (λ c. null-or-handle _ _ (c .if1 .taken))
+    (λ c. null-or-handle _ _ _ (c .if1 .taken))
     (λ c κs. search needs)
-    (λ c. handle-or-null _ _ _ (c .before .if1 .left) (c .handle-rule .ensures)))
+    (λ c. handle-or-null _ _ _ _ (c .before .if1 .left) (c .handle-rule .ensures)))

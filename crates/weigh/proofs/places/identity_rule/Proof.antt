@@ -7,6 +7,6 @@ pub identity-rule-spec : {M : Type 1} → statement M
 identity-rule-spec =
     tie.close
     (tie.spec
-    (λ c. null-identity _ _ (c .if1 .taken))
-    (λ c. right-identity _ _ (c .before .if1 .left) (c .if2 .taken))
-    (λ c. handle-there _ _ (c .before .if1 .left) (c .if2 .left)))
+    (λ c. λ there fits. null-identity _ there fits (c .if1 .taken))
+    (λ c. λ there fits. right-identity _ there fits (c .before .if1 .left) (c .if2 .taken))
+    (λ c. λ there fits. handle-there _ there fits (c .before .if1 .left) (c .if2 .left)))

@@ -8,6 +8,6 @@ pub must-handle-rule-spec : {M : Type 1} → statement M
 must-handle-rule-spec =
     tie.close
     (tie.spec
-    (λ c. null-handle _ _ (c .if1 .taken))
+    (λ c. null-handle _ _ _ (c .if1 .taken))
     (λ c κs. search needs)
-    (λ c. some-handle _ _ _ (c .before .if1 .left) (c .handle-rule .ensures)))
+    (λ c. some-handle _ _ _ _ (c .before .if1 .left) (c .handle-rule .ensures)))

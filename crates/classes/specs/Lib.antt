@@ -1,0 +1,2 @@
+-- believed
+pub mod Supers
