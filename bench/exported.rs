@@ -15,6 +15,8 @@ extern "C" {
         pin_marks_length: usize,
         book: *mut Word,
         book_length: usize,
+        classes: *mut Number,
+        classes_length: usize,
     );
     fn weir_step(
         line: *const u8,
@@ -29,6 +31,8 @@ extern "C" {
         pin_marks_length: usize,
         book: *mut Word,
         book_length: usize,
+        classes: *mut Number,
+        classes_length: usize,
         found: *mut Number,
         found_length: usize,
     ) -> i32;
@@ -45,6 +49,8 @@ extern "C" {
         pin_marks_length: usize,
         book: *mut Word,
         book_length: usize,
+        classes: *mut Number,
+        classes_length: usize,
         out: *mut u8,
         out_length: usize,
     ) -> usize;
@@ -78,6 +84,8 @@ pub fn start(lent: Lent) {
             lent.pin_marks.len(),
             lent.book.as_mut_ptr(),
             lent.book.len(),
+            lent.classes.as_mut_ptr(),
+            lent.classes.len(),
         );
     }
 }
@@ -98,6 +106,8 @@ pub fn step(line: &[u8], lent: Lent, found: &mut [Number]) -> i32 {
             lent.pin_marks.len(),
             lent.book.as_mut_ptr(),
             lent.book.len(),
+            lent.classes.as_mut_ptr(),
+            lent.classes.len(),
             found.as_mut_ptr(),
             found.len(),
         )
@@ -120,6 +130,8 @@ pub fn judge(trace: &[u8], lent: Lent, out: &mut [u8]) -> usize {
             lent.pin_marks.len(),
             lent.book.as_mut_ptr(),
             lent.book.len(),
+            lent.classes.as_mut_ptr(),
+            lent.classes.len(),
             out.as_mut_ptr(),
             out.len(),
         )

@@ -86,7 +86,7 @@ fn leaking(references: usize, pins: usize, order: fn(&mut [Number])) -> Slices {
         let value = 4 * row as Number + GLOBAL;
         if is_reference {
             let rows = slices.rows.as_chunks_mut::<REFERENCE_NUMBERS>().0;
-            rows[row] = [0, value, 0, line];
+            rows[row] = [0, value, 0, line, 0];
         } else {
             let rows = slices.pins.as_chunks_mut::<PIN_NUMBERS>().0;
             rows[row] = [0, 0, value, line];

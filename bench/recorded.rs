@@ -2,7 +2,7 @@
 
 use plain::called::Handed;
 use plain::form::MOST_NUMBERS;
-use plain::limits::{Handle, Number};
+use plain::limits::{Class, Handle, Number};
 use std::ptr::{null, null_mut};
 
 extern "C" {
@@ -36,6 +36,8 @@ extern "C" {
         status: i32,
         pending: u32,
     ) -> i32;
+    fn weir_declare(d: *mut u8, length: usize, class: Class, superclass: Class) -> i32;
+    fn weir_state(d: *mut u8, length: usize, thread: u32, handle: Handle, class: Class) -> i32;
     fn weir_end(d: *mut u8, length: usize) -> i32;
 }
 
@@ -85,6 +87,12 @@ unsafe fn write_at(handed: &Handed, d: *mut u8, length: usize) -> i32 {
             status,
             pending,
         } => weir_return(d, length, thread, function, result, status, pending),
+        Handed::Declare { class, superclass } => weir_declare(d, length, class, superclass),
+        Handed::State {
+            thread,
+            handle,
+            class,
+        } => weir_state(d, length, thread, handle, class),
         Handed::End => weir_end(d, length),
     }
 }

@@ -10,7 +10,7 @@ use plain::foreign::{self, a_z, is_over, line, of_list, Foreign};
 use plain::lent::book::{CLOSED, WHOLE};
 use plain::lent::reply::{list_reply, reply, MOST_NUMBERS, SHORT_FOUND};
 use plain::lent::slices::Slices;
-use plain::limits::{Number, Word, MOST_ROOM};
+use plain::limits::{Number, Word, MOST_CLASSES, MOST_ROOM};
 use plain::make::{make, PROFILES};
 use plain::random::Random;
 use plain::report::report;
@@ -31,7 +31,7 @@ const LONG_TRACE: usize = 4_000;
 const LONG_REPORT: usize = 4_096;
 
 type Guarded<T> = common::Guarded<T, GUARD>;
-/// Five slices, each guarded.
+/// Six slices, each guarded.
 type Tables = Slices<Guarded<Number>, Guarded<Word>>;
 
 /// What came up.
@@ -39,11 +39,12 @@ struct Seen {
     steps_and_lists: Coverage,
     /// Steps not taken, as there was no room for the most findings of a line.
     short_found: u64,
-    /// Whole traces: their reports written, the long ones among them, slices short for them, and books short.
+    /// Whole traces: their reports written, the long ones among them, slices short for them, books short, and class tables short beside whole books.
     reports: u64,
     long_reports: u64,
     short_slices: u64,
     short_books: u64,
+    short_classes: u64,
 }
 
 impl Seen {
@@ -55,6 +56,7 @@ impl Seen {
             long_reports: 0,
             short_slices: 0,
             short_books: 0,
+            short_classes: 0,
         }
     }
 
@@ -65,6 +67,7 @@ impl Seen {
             self.long_reports,
             self.short_slices,
             self.short_books,
+            self.short_classes,
         ];
         self.steps_and_lists.is_whole() && !told.contains(&0)
     }
@@ -77,7 +80,8 @@ impl Display for Seen {
         write!(out, "; whole traces: reports {}", self.reports)?;
         write!(out, " (long {})", self.long_reports)?;
         write!(out, ", short slices {}", self.short_slices)?;
-        write!(out, ", short books {}", self.short_books)
+        write!(out, ", short books {}", self.short_books)?;
+        write!(out, ", short class tables {}", self.short_classes)
     }
 }
 
@@ -119,6 +123,7 @@ fn compare(seed: u64, seen: &mut Seen) -> Result<(), String> {
         pins: Guarded::new(slices.pins, &mut random),
         pin_marks: Guarded::new(slices.pin_marks, &mut random),
         book: Guarded::new(slices.book, &mut random),
+        classes: Guarded::new(slices.classes, &mut random),
     };
     let mut proved = plain.clone();
     let steps = if random.percent(20) {
@@ -227,6 +232,9 @@ fn compare_reports(
     let wanted = if plain.book.len() < WHOLE {
         seen.short_books += 1;
         0
+    } else if plain.classes.len() < MOST_CLASSES {
+        seen.short_classes += 1;
+        0
     } else {
         plain.start();
         let mut lines = trace.split_inclusive(|&byte| byte == b'\n');
@@ -281,5 +289,6 @@ fn compare_slices(given: &Tables, wanted: &Tables) -> Result<(), String> {
     given.marks.compare("marks", &wanted.marks)?;
     given.pins.compare("pins", &wanted.pins)?;
     given.pin_marks.compare("pin marks", &wanted.pin_marks)?;
-    given.book.compare("book", &wanted.book)
+    given.book.compare("book", &wanted.book)?;
+    given.classes.compare("classes", &wanted.classes)
 }

@@ -295,7 +295,7 @@ impl Seen {
                     self.add(What::BelowZero(letter));
                 }
             }
-            Handed::Leave { .. } | Handed::End => {}
+            Handed::Leave { .. } | Handed::Declare { .. } | Handed::State { .. } | Handed::End => {}
         }
     }
 

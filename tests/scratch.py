@@ -7,7 +7,7 @@ import os, pathlib, re, shutil, subprocess, tempfile
 
 ROOT = pathlib.Path(__file__).resolve().parent.parent
 HISTORY = ['words', 'facts', 'numbers', 'lines', 'history']
-DEFINITIONS = HISTORY + ['rows', 'book', 'tables', 'demands']
+DEFINITIONS = HISTORY + ['rows', 'classes', 'book', 'tables', 'demands']
 TYPE = re.compile(r'^pub type [^\n]*\n|^(?:pub(?:\(crate\))? )?(?:enum|struct) .*?^}\n', re.M | re.S)
 USE = re.compile(r'^use ([\w:]+)::(?:(\w+)|\{([^}]*)\});$', re.M)
 

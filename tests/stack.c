@@ -23,14 +23,15 @@
 
 #include "weir.h"
 
-enum { ENTER, LEAVE, CALL, RETURN, END, READ, FUNCTIONS, PROBE = FUNCTIONS, PROBE_OF_NINE, CALLEES };
+enum { ENTER, LEAVE, CALL, RETURN, DECLARE, STATE, END, READ, FUNCTIONS, PROBE = FUNCTIONS, PROBE_OF_NINE, CALLEES };
 
 /* The bounds: the deepest byte, rounded up to a multiple of 16, and 16 more. */
 static const struct {
     const char *name;
     size_t bound;
 } functions[FUNCTIONS] = {
-    {"weir_enter", 224}, {"weir_leave", 256}, {"weir_call", 288}, {"weir_return", 288}, {"weir_end", 256}, {"weir_read", 208},
+    {"weir_enter", 224}, {"weir_leave", 256}, {"weir_call", 288}, {"weir_return", 288},
+    {"weir_declare", 256}, {"weir_state", 256}, {"weir_end", 256}, {"weir_read", 208},
 };
 
 /* ---- what went wrong, said once the threads have ended */
@@ -90,7 +91,7 @@ static struct input {
     int callee;
     size_t length; /* of the line, or of the buffer */
     uint8_t line[256];
-    uint32_t thread, env, count, function, a, b, c, result, pending;
+    uint32_t thread, env, count, function, a, b, c, result, pending, handle, class_number, super_number;
     int32_t n, status;
     uint32_t handles[WEIR_HANDLES];
 } now;
@@ -107,11 +108,14 @@ static volatile struct {
     int32_t (*leave)(uint8_t *, size_t, uint32_t, uint32_t);
     int32_t (*call)(uint8_t *, size_t, uint32_t, uint32_t, uint32_t, uint32_t, uint32_t, uint32_t, int32_t);
     int32_t (*give)(uint8_t *, size_t, uint32_t, uint32_t, uint32_t, int32_t, uint32_t);
+    int32_t (*declare)(uint8_t *, size_t, uint32_t, uint32_t);
+    int32_t (*state)(uint8_t *, size_t, uint32_t, uint32_t, uint32_t);
     int32_t (*end)(uint8_t *, size_t);
     int32_t (*read)(const uint8_t *, size_t, uint32_t *, uint32_t *);
     int32_t (*probe)(void);
     int32_t (*probe_of_nine)(int, int, int, int, int, int, int, int, int);
-} weir = {weir_enter, weir_leave, weir_call, weir_return, weir_end, weir_read, weir_probe, weir_probe_of_nine};
+} weir = {weir_enter, weir_leave, weir_call, weir_return, weir_declare, weir_state, weir_end, weir_read, weir_probe,
+          weir_probe_of_nine};
 
 /* The deepest byte that the call of `now` leaves unlike the paint. Nothing else is called from here. */
 __attribute__((noinline)) static size_t depth(void)
@@ -131,6 +135,8 @@ __attribute__((noinline)) static size_t depth(void)
     case LEAVE: reply = weir.leave(d, now.length, now.thread, now.result); break;
     case CALL: reply = weir.call(d, now.length, now.thread, now.env, now.function, now.a, now.b, now.c, now.n); break;
     case RETURN: reply = weir.give(d, now.length, now.thread, now.function, now.result, now.status, now.pending); break;
+    case DECLARE: reply = weir.declare(d, now.length, now.class_number, now.super_number); break;
+    case STATE: reply = weir.state(d, now.length, now.thread, now.handle, now.class_number); break;
     case END: reply = weir.end(d, now.length); break;
     case READ: reply = weir.read(line, now.length, numbers, &number_count); break;
     case PROBE: reply = weir.probe(); break;
@@ -199,6 +205,7 @@ static void probes(void)
 #define LOWEST (-2147483647 - 1)
 
 static const uint32_t bad_threads[] = {0, 17, HIGHEST};
+static const uint32_t bad_classes[] = {0, 4096, HIGHEST};
 static const int32_t signs[] = {0, LOWEST, 2147483647};
 /* the highest of each kind, and null */
 static const uint32_t results[] = {0, 4294967293u, 4294967294u, 4294967295u, 4294967292u};
@@ -254,6 +261,25 @@ static int32_t measure_return(size_t length, uint32_t thread, uint32_t function,
     return measure();
 }
 
+static int32_t measure_declare(size_t length, uint32_t class_number, uint32_t super_number)
+{
+    now.callee = DECLARE;
+    now.length = length;
+    now.class_number = class_number;
+    now.super_number = super_number;
+    return measure();
+}
+
+static int32_t measure_state(size_t length, uint32_t thread, uint32_t handle, uint32_t class_number)
+{
+    now.callee = STATE;
+    now.length = length;
+    now.thread = thread;
+    now.handle = handle;
+    now.class_number = class_number;
+    return measure();
+}
+
 static int32_t measure_end(size_t length)
 {
     now.callee = END;
@@ -286,6 +312,8 @@ static void inputs_of_every_length(void)
                "R with the highest buffer is written where it has room");
         expect((measure_return(length, 16, 218, 0, LOWEST, 1) > 0) == (length >= 23),
                "R with the lowest status is written where it has room");
+        expect((measure_declare(length, 4095, 4095) > 0) == (length >= 12), "the longest K is written where it has room");
+        expect((measure_state(length, 16, HIGHEST, 4095) > 0) == (length >= 21), "the longest O is written where it has room");
         expect((measure_end(length) > 0) == (length >= 2), "Z is written where it has room");
     }
     for (i = 0, x = 1; i < 10; i++, x *= 10) {
@@ -297,6 +325,10 @@ static void inputs_of_every_length(void)
         measure_call(WEIR_LINE, 1, x, 19, 0, 0, 0, -(int32_t)x);
         measure_return(WEIR_LINE, 1, 217, 0, (int32_t)x, 0);
         measure_return(WEIR_LINE, 1, 217, 0, -(int32_t)x, 0);
+        measure_declare(WEIR_LINE, x, 1);
+        measure_declare(WEIR_LINE, 1, x);
+        measure_state(WEIR_LINE, 1, x, 1);
+        measure_state(WEIR_LINE, 1, 0, x);
     }
 }
 
@@ -311,6 +343,12 @@ static void bad_inputs(size_t length)
         expect(measure_leave(length, bad_threads[i], HIGHEST) == WEIR_BAD, "X of a bad thread is bad");
         expect(measure_call(length, bad_threads[i], HIGHEST, 6, 0, 0, 0, 0) == WEIR_BAD, "C of a bad thread is bad");
         expect(measure_return(length, bad_threads[i], 6, 0, 0, 0) == WEIR_BAD, "R of a bad thread is bad");
+        expect(measure_state(length, bad_threads[i], HIGHEST, 4095) == WEIR_BAD, "O of a bad thread is bad");
+    }
+    for (i = 0; i < COUNT(bad_classes); i++) {
+        expect(measure_declare(length, bad_classes[i], 1) == WEIR_BAD, "K of a bad class is bad");
+        expect(measure_declare(length, 4095, bad_classes[i]) == WEIR_BAD, "K under a bad class is bad");
+        expect(measure_state(length, 16, HIGHEST, bad_classes[i]) == WEIR_BAD, "O of a bad class is bad");
     }
     expect(measure_enter(length, 16, 0, 8, highest) == WEIR_BAD, "N of env 0 is bad");
     expect(measure_call(length, 16, 0, 6, 0, 0, 0, 0) == WEIR_BAD, "C of env 0 is bad");
@@ -358,7 +396,7 @@ static void inputs_of_every_function(void)
 
 /* ---- inputs of the reader */
 
-static const char *const letters[] = {"N", "X", "C", "R", "Z"};
+static const char *const letters[] = {"N", "X", "C", "R", "K", "O", "Z"};
 
 /* each kind of line at its longest */
 static const char *const longest[] = {
@@ -370,6 +408,8 @@ static const char *const longest[] = {
     "R\t16\t169\t4294967295\t1\n",
     "R\t16\t218\t-2147483648\t1\n",
     "R\t16\t218\t2147483647\t1\n",
+    "K\t4095\t4095\n",
+    "O\t16\t4294967295\t4095\n",
     "Z\n"};
 
 static void start(void)
@@ -453,7 +493,7 @@ static void longest_and_like_them(void)
  * length up to two over the most */
 static void fillings(void)
 {
-    static const char *const starts[] = {"", "N\t", "X\t", "C\t", "R\t", "Z\t"};
+    static const char *const starts[] = {"", "N\t", "X\t", "C\t", "R\t", "K\t", "O\t", "Z\t"};
     static const char *const patterns[] = {"\t", "-", "0", "9", "1234567890", "\t0", "\t9", "\t-", "\t-1", "\t4294967295"};
     size_t i, k, length;
     int byte;
@@ -489,13 +529,15 @@ static void fields(void)
         {"C", "16", "4294967295", "26", "0", "0", "0", "-5"},
         {"R", "16", "31", "13", "0"},
         {"R", "16", "26", "-1", "1"},
+        {"K", "4095", "4095"},
+        {"O", "16", "4294967295", "4095"},
         {"Z"}};
     static const char *const others[] = {
         /* thirty digits */
         "999999999999999999999999999999", "-999999999999999999999999999999", "100000000000000000000000000000",
         /* numbers in range here and out of it there */
-        "-1", "0", "1", "2", "3", "4", "5", "17", "233", "4294967295", "4294967296", "2147483648", "-2147483648", "-2147483649",
-        "9999999999", "-9999999999", "18446744073709551615", "18446744073709551617",
+        "-1", "0", "1", "2", "3", "4", "5", "17", "233", "4095", "4096", "4294967295", "4294967296", "2147483648", "-2147483648",
+        "-2147483649", "9999999999", "-9999999999", "18446744073709551615", "18446744073709551617",
         /* no numbers */
         "-0", "00", "01", "-01", "-", "--1", "+1", "", "x", " 1", "1 ", "\n", "1\n", "\t", "1\t1"};
     size_t i, k, at, field;
@@ -650,7 +692,7 @@ static void print_input(const struct input *input)
         return;
     }
     printf("length %lu", (unsigned long)input->length);
-    if (input->callee != END)
+    if (input->callee != DECLARE && input->callee != END)
         printf(", thread %u", input->thread);
     if (input->callee == ENTER || input->callee == CALL)
         printf(", env %u", input->env);
@@ -667,6 +709,12 @@ static void print_input(const struct input *input)
         printf(", a %u, b %u, c %u, n %d", input->a, input->b, input->c, input->n);
     if (input->callee == RETURN)
         printf(", status %d, pending %u", input->status, input->pending);
+    if (input->callee == STATE)
+        printf(", handle %u", input->handle);
+    if (input->callee == DECLARE || input->callee == STATE)
+        printf(", class %u", input->class_number);
+    if (input->callee == DECLARE)
+        printf(", super %u", input->super_number);
 }
 
 int main(void)

@@ -1,5 +1,6 @@
 //! The maker of big traces to measure judges on: every line accepted, some condemned.
 
+use crate::class::{CLASS, FIRST_DECLARED, OBJECT};
 use crate::facts::*;
 use crate::judge::Judge;
 use crate::lent::book::Top;
@@ -20,6 +21,8 @@ const ASKED: i32 = 400;
 
 /// Functions that use handles and make nothing.
 const USES: [u32; 12] = [24, 32, 40, 50, 70, 80, 97, 104, 108, 154, 164, 171];
+/// Of such functions those that take a class.
+const CLASS_USES: [u32; 12] = [14, 32, 33, 70, 80, 94, 113, 120, 141, 144, 150, 216];
 
 /// A kind of big trace; chances are in percent.
 #[derive(Clone, Copy, Debug)]
@@ -38,9 +41,11 @@ pub struct Kind {
     alive: usize,
     /// The outstanding buffers about which gets and releases keep balance.
     outstanding: usize,
+    /// Where it is not 0, handles come from N alone, and each call judges one by a chain of so many classes.
+    chain: usize,
 }
 
-pub const KINDS: [Kind; 5] = [
+pub const KINDS: [Kind; 6] = [
     Kind {
         name: "steady",
         threads: THREADS,
@@ -50,6 +55,7 @@ pub const KINDS: [Kind; 5] = [
         used: 60,
         alive: 2_000,
         outstanding: 0,
+        chain: 0,
     },
     Kind {
         name: "threads",
@@ -60,6 +66,7 @@ pub const KINDS: [Kind; 5] = [
         used: 60,
         alive: 400,
         outstanding: 10,
+        chain: 0,
     },
     Kind {
         name: "nest",
@@ -70,6 +77,7 @@ pub const KINDS: [Kind; 5] = [
         used: 80,
         alive: 600,
         outstanding: 0,
+        chain: 0,
     },
     Kind {
         name: "buffers",
@@ -80,6 +88,7 @@ pub const KINDS: [Kind; 5] = [
         used: 30,
         alive: 200,
         outstanding: 240,
+        chain: 0,
     },
     Kind {
         name: "uses",
@@ -90,6 +99,18 @@ pub const KINDS: [Kind; 5] = [
         used: 97,
         alive: 1_000,
         outstanding: 0,
+        chain: 0,
+    },
+    Kind {
+        name: "classes",
+        threads: THREADS,
+        deepest: 2,
+        nested: 0,
+        left: 0,
+        used: 100,
+        alive: 0,
+        outstanding: 0,
+        chain: 50,
     },
 ];
 
@@ -104,6 +125,7 @@ pub fn big(kind: &Kind, lines: usize, output: &mut impl Write) -> io::Result<()>
         random: Random::new(lines as u64),
         judge: Judge::new(REFERENCE_ROWS, PIN_ROWS),
         threads: Default::default(),
+        declared: 0,
         globals_and_weaks: Vec::new(),
         buffers: Vec::new(),
         output,
@@ -128,6 +150,8 @@ pub fn natives(lines: usize, output: &mut impl Write) -> io::Result<()> {
 struct Held {
     /// The alive locals, those of inner natives last.
     locals: Vec<Handle>,
+    /// How many of them a class was stated of.
+    stated: usize,
     /// For each native, how many locals were alive before it.
     before: Vec<usize>,
     /// The critical buffers outstanding.
@@ -141,6 +165,7 @@ struct Big<'a, W: Write> {
     random: Random,
     judge: Judge,
     threads: [Held; THREADS as usize],
+    declared: usize,
     globals_and_weaks: Vec<Handle>,
     /// The outstanding buffers that are not critical, with their families.
     buffers: Vec<(Family, Handle)>,
@@ -149,6 +174,9 @@ struct Big<'a, W: Write> {
 
 impl<W: Write> Big<'_, W> {
     fn line(&mut self) -> io::Result<()> {
+        if self.declared < 2 * self.kind.chain {
+            return self.declare();
+        }
         let thread = self.random.between(1, self.kind.threads);
         let book = self.judge.tables().book;
         let (depth, top) = (book.items(thread), book.top(thread));
@@ -161,15 +189,67 @@ impl<W: Write> Big<'_, W> {
         match top {
             Top::Nothing => self.enter(thread),
             Top::Native if self.random.percent(left) => self.leave(thread),
+            Top::Native if self.kind.chain > 0 => self.state_or_use(thread),
             Top::Native => self.call(thread),
             Top::Call { .. } if self.random.percent(nested) => self.enter(thread),
             Top::Call { function, .. } => self.answer(thread, function),
         }
     }
 
+    /// Two chains of classes, the first below class and the other below object.
+    fn declare(&mut self) -> io::Result<()> {
+        let class = FIRST_DECLARED + self.declared as Class;
+        let superclass = match self.declared {
+            0 => CLASS,
+            first if first == self.kind.chain => OBJECT,
+            _ => class - 1,
+        };
+        self.declared += 1;
+        self.put(Event::K { class, superclass })
+    }
+
+    /// The next handle of the thread gets its class, the foot of the first chain, or for its last handle that of the other; then they are used.
+    fn state_or_use(&mut self, thread: u32) -> io::Result<()> {
+        let (chain, held) = (self.kind.chain as Class, self.held(thread));
+        let Some(&handle) = held.locals.get(held.stated) else {
+            return self.use_classes(thread);
+        };
+        held.stated += 1;
+        let is_last = held.stated == held.locals.len();
+        let foot = FIRST_DECLARED - 1 + chain;
+        let class = if is_last { foot + chain } else { foot };
+        self.put(Event::O {
+            thread,
+            handle,
+            class,
+        })
+    }
+
+    /// A call that takes a class, now and then with the handle that is none.
+    fn use_classes(&mut self, thread: u32) -> io::Result<()> {
+        let function = self.random.pick(&CLASS_USES);
+        let facts = known(function);
+        let (none, classes) = {
+            let locals = &self.threads[thread as usize - 1].locals;
+            let (none, classes) = locals.split_last().expect("handles of N");
+            (*none, classes.to_vec())
+        };
+        let places = [0, 1, 2].map(|index| match (facts.places[index], facts.classes[index]) {
+            (PlaceKind::Unused, _) => 0,
+            (PlaceKind::Identity, _) => self.number(0),
+            (_, Some(_)) if self.random.below(300) == 0 => none,
+            _ => self.random.pick(&classes),
+        });
+        self.put_call(thread, function, places, 0)
+    }
+
     fn enter(&mut self, thread: u32) -> io::Result<()> {
         let mut handles = [0; MOST_HANDLES];
-        let count = 1 + self.random.below(3);
+        let count = if self.kind.chain > 0 {
+            MOST_HANDLES
+        } else {
+            1 + self.random.below(3)
+        };
         for index in 0..count {
             handles[index] = self.fresh(thread, LOCAL, &handles);
         }
@@ -313,7 +393,7 @@ impl<W: Write> Big<'_, W> {
             }
             _ => 0,
         };
-        let pending = self.random.below(300) == 0;
+        let pending = self.kind.chain == 0 && self.random.below(300) == 0;
         self.put(Event::R {
             thread,
             function,

@@ -2,7 +2,7 @@
 
 use crate::facts::{facts, ResultKind};
 use crate::form::MOST_NUMBERS;
-use crate::limits::{Handle, Number, MOST_HANDLES};
+use crate::limits::{Class, Handle, Number, MOST_HANDLES};
 use crate::line::{self, Event};
 use crate::refusal::{Refusal, OUT_OF_RANGE};
 
@@ -48,6 +48,15 @@ pub enum Handed {
         status: i32,
         pending: u32,
     },
+    Declare {
+        class: Class,
+        superclass: Class,
+    },
+    State {
+        thread: u32,
+        handle: Handle,
+        class: Class,
+    },
     End,
 }
 
@@ -87,6 +96,12 @@ impl Handed {
                     pending,
                 }
             }
+            (b'K', &[class, superclass]) => Handed::Declare { class, superclass },
+            (b'O', &[thread, handle, class]) => Handed::State {
+                thread,
+                handle,
+                class,
+            },
             (b'Z', &[]) => Handed::End,
             _ => return None,
         };
@@ -99,6 +114,8 @@ impl Handed {
             Handed::Leave { .. } => b'X',
             Handed::Call { .. } => b'C',
             Handed::Return { .. } => b'R',
+            Handed::Declare { .. } => b'K',
+            Handed::State { .. } => b'O',
             Handed::End => b'Z',
         }
     }
@@ -158,6 +175,16 @@ impl Handed {
                     _ => return None,
                 },
                 pending,
+            },
+            Handed::Declare { class, superclass } => Event::K { class, superclass },
+            Handed::State {
+                thread,
+                handle,
+                class,
+            } => Event::O {
+                thread,
+                handle,
+                class,
             },
             Handed::End => Event::Z,
         };

@@ -1,21 +1,26 @@
-//! What a set of steps brings up: lines accepted, functions called, numbers in unused places, each refusal by its cause, each
-//! rule by line letter and place; and what leak lists bring up: each rule by the kind of leak, refusals, what orders two leaks.
+//! What a set of steps brings up: lines accepted, functions called, numbers in unused places, handles of each standing in places
+//! that have a class, each refusal by its cause, each rule by line letter and place; and what leak lists bring up: each rule by the kind of leak, refusals, what orders two leaks.
 
+use crate::class::{CLASS, STRING, THROWABLE};
 use crate::facts::*;
 use crate::findings::Findings;
 use crate::form::{form, with_fields, Form, FORMS};
 use crate::judge::Judge;
 use crate::lent::book::{Fault, Top};
+use crate::lent::classes::is_reserved;
 use crate::lent::leaks::Leak;
+use crate::lent::references::HANDLE;
+use crate::lent::rows::THREAD;
 use crate::lent::Tables;
-use crate::limits::{Handle, Word, MOST_BYTES, MOST_FRAMES, MOST_ITEMS, THREADS};
+use crate::limits::{Class, Handle, Number, Word, MOST_BYTES, MOST_FRAMES, MOST_ITEMS, THREADS};
 use crate::line::{self, Event};
 use crate::refusal::*;
+use crate::standing::Standing;
 use std::collections::BTreeMap;
 use std::fmt;
 
 /// The causes of refusals from a start, but for those that every line has.
-const CAUSES: [(Refusal, &str); 19] = [
+const CAUSES: [(Refusal, &str); 32] = [
     (NO_LINE, "long"),
     (NO_LINE, "no LF"),
     (MALFORMED, NO_LETTER),
@@ -29,6 +34,19 @@ const CAUSES: [(Refusal, &str); 19] = [
     (ALREADY_ALIVE, "N alive"),
     (ALREADY_ALIVE, "N twice"),
     (ALREADY_ALIVE, "R"),
+    (WRONG_CLASS, "K declared"),
+    (WRONG_CLASS, "K reserved"),
+    (WRONG_CLASS, "K of itself"),
+    (WRONG_CLASS, "K super"),
+    (WRONG_CLASS, "O class"),
+    (NOT_ALIVE, "O null"),
+    (NOT_ALIVE, "O identity"),
+    (NOT_ALIVE, "O another's local"),
+    (NOT_ALIVE, "O local"),
+    (NOT_ALIVE, "O global"),
+    (NOT_ALIVE, "O weak"),
+    (OUT_OF_STEP, "K after Z"),
+    (OUT_OF_STEP, "O after Z"),
     (NO_ROOM, "N handles"),
     (NO_ROOM, "N items"),
     (NO_ROOM, "N frames"),
@@ -38,16 +56,17 @@ const CAUSES: [(Refusal, &str); 19] = [
 ];
 
 /// Those that come up over foreign tables alone; line 1,000,001 from a start is left to a trace of its own.
-const FOREIGN_CAUSES: [(Refusal, &str); 9] = [
+const FOREIGN_CAUSES: [(Refusal, &str); 10] = [
     (NO_LINE, "lines"),
     (NO_ROOM, "C items"),
-    (UNFIT_BOOK, "short"),
-    (UNFIT_BOOK, "lines"),
-    (UNFIT_BOOK, "items"),
-    (UNFIT_BOOK, "frames"),
-    (UNFIT_BOOK, "natives"),
-    (UNFIT_BOOK, "no frame"),
-    (UNFIT_BOOK, "monitors"),
+    (UNFIT_TABLES, "short"),
+    (UNFIT_TABLES, "classes"),
+    (UNFIT_TABLES, "lines"),
+    (UNFIT_TABLES, "items"),
+    (UNFIT_TABLES, "frames"),
+    (UNFIT_TABLES, "natives"),
+    (UNFIT_TABLES, "no frame"),
+    (UNFIT_TABLES, "monitors"),
 ];
 
 /// The cause of a refusal that has several; it need not come up.
@@ -85,6 +104,12 @@ const BREACHES: [(u8, u8, &str); 26] = [
     (11, 3, "C"),
 ];
 
+/// How the class stated of a handle can stand to that of its place from a start.
+const STANDINGS: [&str; 4] = ["unstated", "itself", "below", "another"];
+
+/// How it can stand to it over foreign tables alone.
+const FOREIGN_STANDINGS: [&str; 2] = ["lost", "circle"];
+
 /// The rules and kinds of leaks from a start.
 const LEAKS: [(u8, &str); 4] = [
     (8, "ordinary"),
@@ -108,6 +133,10 @@ enum What {
     Called(u32),
     /// A function, and an unused place of it that had a number, for which the line was refused.
     Unused(u32, usize),
+    /// A function, a place of it for which a class is fixed, and how that stated of a handle alive there stands to it.
+    Classed(u32, usize, &'static str),
+    /// The same by the fixed class, whatever the place.
+    OfClass(Class, &'static str),
     Refused(Refusal, &'static str),
     /// A rule, a place and a line letter.
     Found(u8, u8, &'static str),
@@ -139,8 +168,13 @@ impl Coverage {
     pub fn of_foreign() -> Coverage {
         let causes = FOREIGN_CAUSES.map(|(refusal, cause)| What::Refused(refusal, cause));
         let leaks = [&LEAKS[..], &[FOREIGN_LEAK]].concat();
-        let in_lists = in_lists(&leaks, &ORDERS, &[UNFIT_BOOK, OUT_OF_STEP, NO_ROOM]);
-        Coverage::of([What::Start].into_iter().chain(causes).chain(in_lists))
+        let in_lists = in_lists(&leaks, &ORDERS, &[UNFIT_TABLES, OUT_OF_STEP, NO_ROOM]);
+        let classes = [CLASS, STRING, THROWABLE].into_iter().flat_map(|class| {
+            let standings = STANDINGS.into_iter().chain(FOREIGN_STANDINGS);
+            standings.map(move |standing| What::OfClass(class, standing))
+        });
+        let also = [What::Start].into_iter().chain(causes).chain(classes);
+        Coverage::of(also.chain(in_lists))
     }
 
     /// What can come up everywhere, and this.
@@ -168,8 +202,15 @@ impl Coverage {
         match stepped {
             Ok(findings) => {
                 self.count(What::Accepted(letter(line)));
-                if let Ok(Event::C { function, .. }) = line::read(line) {
+                if let Ok(Event::C {
+                    thread,
+                    function,
+                    places,
+                    ..
+                }) = line::read(line)
+                {
                     self.count(What::Called(function));
+                    self.add_classes(tables, thread, function, places);
                 }
                 for found in findings.iter() {
                     self.count(What::Found(found.rule, found.place, letter(line)));
@@ -178,11 +219,22 @@ impl Coverage {
             // A refused line has left the tables as they were.
             Err(refusal) => {
                 self.count(What::Refused(*refusal, cause(tables, line, *refusal)));
-                let unused =
-                    sole_unused(line).map(|(function, place)| What::Unused(function, place));
-                if let Some(count) = unused.and_then(|unused| self.0.get_mut(&unused)) {
-                    *count += 1;
+                if let Some((function, place)) = sole_unused(line) {
+                    self.count_wanted(What::Unused(function, place));
                 }
+            }
+        }
+    }
+
+    /// Adds the standings of the handles alive in places that have a class; no call of a function with such places ends a handle.
+    fn add_classes(&mut self, tables: &Tables, thread: u32, function: u32, places: [Handle; 3]) {
+        for (place, class) in known(function).classes.into_iter().enumerate() {
+            let stated = tables.references.stated_class(thread, places[place]);
+            if let (Some(class), Some(stated)) = (class, stated.filter(|_| places[place] % 4 != 0))
+            {
+                let standing = Standing::of(&tables.classes, stated, class).name();
+                self.count_wanted(What::Classed(function, place, standing));
+                self.count_wanted(What::OfClass(class, standing));
             }
         }
     }
@@ -226,6 +278,13 @@ impl Coverage {
     fn count(&mut self, what: What) {
         *self.0.entry(what).or_default() += 1;
     }
+
+    /// Counts it where it is of what can come up here.
+    fn count_wanted(&mut self, what: What) {
+        if let Some(count) = self.0.get_mut(&what) {
+            *count += 1;
+        }
+    }
 }
 
 impl fmt::Display for Coverage {
@@ -239,6 +298,11 @@ impl fmt::Display for Coverage {
                 What::Accepted(letter) => ("accepted".to_string(), Some(letter.to_string())),
                 What::Called(_) => ("called".to_string(), None),
                 What::Unused(..) => ("in unused places".to_string(), None),
+                What::Classed(..) => ("in places with a class".to_string(), None),
+                What::OfClass(class, standing) => {
+                    let sort = format!("in places with class {class}");
+                    (sort, Some(standing.to_string()))
+                }
                 What::Refused(refusal, cause) => {
                     (format!("refusal {refusal}"), Some(cause.to_string()))
                 }
@@ -283,7 +347,20 @@ fn in_traces() -> impl Iterator<Item = What> {
         let unused = places.filter(|place| place.1 == PlaceKind::Unused);
         unused.map(move |(place, _)| What::Unused(function, place))
     });
-    unused.chain([What::Ended("open"), What::Ended("closed")])
+    let ended = [What::Ended("open"), What::Ended("closed")];
+    unused.chain(classed()).chain(ended)
+}
+
+/// Each place that has a class, with a handle of each standing from a start.
+fn classed() -> impl Iterator<Item = What> {
+    let functions = FIRST_FUNCTION..=LAST_FUNCTION;
+    functions.flat_map(|function| {
+        let classes = known(function).classes.into_iter().enumerate();
+        let places = classes.filter(|(_, class)| class.is_some());
+        places.flat_map(move |(place, _)| {
+            STANDINGS.map(|standing| What::Classed(function, place, standing))
+        })
+    })
 }
 
 /// What comes up in leak lists: these kinds of leaks, orders and refusals.
@@ -345,7 +422,7 @@ fn sole_unused(line: &[u8]) -> Option<(u32, usize)> {
 /// Why the line is refused with this number over these tables.
 fn cause(tables: &Tables, line: &[u8], refusal: Refusal) -> &'static str {
     match (refusal, line::read(line)) {
-        (UNFIT_BOOK, _) => fault(&tables.book.faults()),
+        (UNFIT_TABLES, _) => fault(&tables.book.faults(), tables.classes.is_short()),
         (NO_LINE, _) if line.len() > MOST_BYTES + 1 => "long",
         (NO_LINE, Err(NO_LINE)) => "no LF",
         (NO_LINE, _) => "lines",
@@ -354,7 +431,7 @@ fn cause(tables: &Tables, line: &[u8], refusal: Refusal) -> &'static str {
     }
 }
 
-/// All that speaks against an event over these tables: refusals 4 to 7 with their causes.
+/// All that speaks against an event over these tables: refusals 4 to 7, 9 and 10 with their causes, in the order in which they are tested.
 pub fn grounds(tables: &Tables, event: &Event) -> Vec<(Refusal, &'static str)> {
     let (book, references) = (&tables.book, &tables.references);
     let is_native = |thread| book.top(thread) == Top::Native;
@@ -415,18 +492,79 @@ pub fn grounds(tables: &Tables, event: &Event) -> Vec<(Refusal, &'static str)> {
                 (NO_ROOM, "R frames", pushes && is_full),
             ]
         }
+        Event::K { class, superclass } => against_declaration(tables, class, superclass),
+        Event::O {
+            thread,
+            handle,
+            class,
+        } => against_statement(tables, thread, handle, class),
         Event::Z => Vec::new(),
     };
     if book.is_closed() {
         grounds.retain(|ground| ground.0 != OUT_OF_STEP);
-        grounds.push((OUT_OF_STEP, "after Z", true));
+        let cause = match event {
+            Event::K { .. } => "K after Z",
+            Event::O { .. } => "O after Z",
+            _ => "after Z",
+        };
+        grounds.insert(0, (OUT_OF_STEP, cause, true));
     }
     let held = grounds.into_iter().filter(|ground| ground.2);
     held.map(|(refusal, cause, _)| (refusal, cause)).collect()
 }
 
-fn fault(faults: &[Fault]) -> &'static str {
+fn against_declaration(
+    tables: &Tables,
+    class: Class,
+    superclass: Class,
+) -> Vec<(Refusal, &'static str, bool)> {
+    let is_known = |class| tables.classes.is_known(class);
+    let is_reserved = is_reserved(class.into());
+    let is_of_itself = class == superclass;
+    let is_below_nothing = !is_known(superclass);
+    vec![
+        (WRONG_CLASS, "K declared", is_known(class) && !is_reserved),
+        (WRONG_CLASS, "K reserved", is_reserved),
+        (WRONG_CLASS, "K of itself", is_below_nothing && is_of_itself),
+        (WRONG_CLASS, "K super", is_below_nothing && !is_of_itself),
+    ]
+}
+
+fn against_statement(
+    tables: &Tables,
+    thread: u32,
+    handle: Handle,
+    class: Class,
+) -> Vec<(Refusal, &'static str, bool)> {
+    let references = &tables.references;
+    let own = Number::from(thread);
+    let is_others = references
+        .rows
+        .has(|row| row[HANDLE] == handle && row[THREAD] != own);
+    let (cause, is_alive) = match handle % 4 {
+        _ if handle == 0 => ("O null", false),
+        0 => ("O identity", false),
+        kind => {
+            let cause = match kind {
+                LOCAL if is_others => "O another's local",
+                LOCAL => "O local",
+                GLOBAL => "O global",
+                _ => "O weak",
+            };
+            (cause, references.is_alive(thread, handle))
+        }
+    };
+    vec![
+        (WRONG_CLASS, "O class", !tables.classes.is_known(class)),
+        (NOT_ALIVE, cause, !is_alive),
+    ]
+}
+
+/// What makes the tables unfit: these faults of the book, or a short class table.
+fn fault(faults: &[Fault], is_short: bool) -> &'static str {
     match faults {
+        [] => "classes",
+        _ if is_short => SEVERAL,
         [Fault::Short] => "short",
         [Fault::Lines] => "lines",
         [Fault::Items] => "items",

@@ -11,7 +11,7 @@ pub const MALFORMED: [&str; 16] = [
 ];
 
 /// Numbers at the ends of ranges, just past them, or far beyond, some of which wrap to small ones.
-pub const NUMBERS: [&str; 28] = [
+pub const NUMBERS: [&str; 30] = [
     "-1",
     "-2",
     "0",
@@ -24,6 +24,8 @@ pub const NUMBERS: [&str; 28] = [
     "17",
     "232",
     "233",
+    "4095",
+    "4096",
     "2147483647",
     "2147483648",
     "-2147483648",
@@ -42,7 +44,7 @@ pub const NUMBERS: [&str; 28] = [
     "340282366920938463463374607431768211457",
 ];
 
-const ODD_LINES: [&[u8]; 24] = [
+const ODD_LINES: [&[u8]; 29] = [
     b"\n",
     b"\r\n",
     b"\t\n",
@@ -64,7 +66,12 @@ const ODD_LINES: [&[u8]; 24] = [
     b"C\t1\t0\t4\t0\t0\t0\t0\n",
     b"R\t1\t4\t0\t0\n",
     b"A\t1\t100\n",
+    b"M\t8\t1\t2\t0\t0\n",
+    b"K\t5\t1\n",
+    b"K\t5\n",
+    b"K\t1\t5\t1\n",
     b"O\t1\t5\t2\n",
+    b"O\t1\t5\n",
     b"\0\n",
     b"\xef\xbb\xbfZ\n",
 ];

@@ -19,6 +19,11 @@ pub fn edge_line(random: &mut Random) -> Vec<u8> {
         }
         b'X' => vec![thread, 0],
         b'C' => call_fields(thread, env, random),
+        b'K' => vec![random.between(5, 20).into(), random.between(1, 20).into()],
+        b'O' => {
+            let handle = random.between(0, 20).into();
+            vec![thread, handle, random.between(1, 20).into()]
+        }
         _ => answer_fields(thread, random),
     };
     let mut kinds: Vec<Kind> = form.kinds().collect();

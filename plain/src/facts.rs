@@ -1,6 +1,7 @@
 //! The facts of the 229 JNI functions: the places and result of each, and where it is allowed.
 
-use crate::limits::Handle;
+use crate::class::{CLASS, STRING, THROWABLE};
+use crate::limits::{Class, Handle};
 
 pub const FIRST_FUNCTION: u32 = 4;
 pub const LAST_FUNCTION: u32 = 232;
@@ -12,6 +13,7 @@ pub const DELETE_GLOBAL_REF: u32 = 22;
 pub const DELETE_LOCAL_REF: u32 = 23;
 pub const IS_SAME_OBJECT: u32 = 24;
 pub const ENSURE_LOCAL_CAPACITY: u32 = 26;
+pub const GET_OBJECT_CLASS: u32 = 31;
 pub const MONITOR_ENTER: u32 = 217;
 pub const MONITOR_EXIT: u32 = 218;
 pub const DELETE_WEAK_GLOBAL_REF: u32 = 227;
@@ -83,6 +85,8 @@ pub enum ResultKind {
 #[derive(Clone, Copy, Debug, PartialEq, Eq)]
 pub struct Facts {
     pub places: [PlaceKind; 3],
+    /// The class that is fixed for each place, if there is one.
+    pub classes: [Option<Class>; 3],
     pub result: ResultKind,
     pub uses_capacity: bool,
     pub allowed_pending: bool,
@@ -114,6 +118,17 @@ impl Facts {
         (self.places.map(place).iter().collect(), result)
     }
 
+    /// The classes that are fixed for the places: `c` class, `s` string, `t` throwable.
+    pub fn class_letters(&self) -> String {
+        let letter = |class| match class {
+            Some(CLASS) => 'c',
+            Some(STRING) => 's',
+            Some(THROWABLE) => 't',
+            _ => '-',
+        };
+        self.classes.map(letter).iter().collect()
+    }
+
     /// The family of a get or a release.
     pub fn family(&self) -> Option<Family> {
         match (self.result, self.places[1]) {
@@ -122,6 +137,20 @@ impl Facts {
         }
     }
 }
+
+/// The functions with a place for which a class is fixed.
+pub const WITH_CLASS: [u32; 106] = {
+    let mut functions = [0; 106];
+    let (mut count, mut function) = (0, FIRST_FUNCTION);
+    while function <= LAST_FUNCTION {
+        if let [Some(_), ..] | [_, Some(_), _] = facts_of(function).classes {
+            functions[count] = function;
+            count += 1;
+        }
+        function += 1;
+    }
+    functions
+};
 
 /// The facts of a function, if there is one of that number.
 pub fn facts(function: u32) -> Option<&'static Facts> {
@@ -178,6 +207,7 @@ const fn facts_of(function: u32) -> Facts {
             place_kind(places[1], function),
             place_kind(places[2], function),
         ],
+        classes: [class_of_first(function), class_of_second(function), None],
         result: result_kind(result, function),
         uses_capacity: matches!(function, PUSH_LOCAL_FRAME | ENSURE_LOCAL_CAPACITY),
         allowed_pending: matches!(
@@ -199,6 +229,22 @@ const fn place_kind(letter: u8, function: u32) -> PlaceKind {
         b'i' => PlaceKind::Identity,
         b'b' => PlaceKind::Buffer(family(function)),
         _ => panic!("no such place kind"),
+    }
+}
+
+const fn class_of_first(function: u32) -> Option<Class> {
+    match function {
+        9..=12 | 14 | 27..=30 | 33 | 94 | 113..=162 | 172 | 215 | 216 => Some(CLASS),
+        164..=166 | 168..=170 | 220 | 221 | 224 | 225 => Some(STRING),
+        13 => Some(THROWABLE),
+        _ => None,
+    }
+}
+
+const fn class_of_second(function: u32) -> Option<Class> {
+    match function {
+        11 | 32 | 64..=93 => Some(CLASS),
+        _ => None,
     }
 }
 

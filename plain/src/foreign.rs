@@ -1,5 +1,6 @@
 //! Foreign tables made from a seed, the lines to step over them, and the lists to ask of them.
 
+mod classes;
 mod contents;
 mod lengths;
 mod lines;

@@ -1,7 +1,7 @@
 //! The forms of lines: the letter and the fields of each, and the range of each kind of field.
 
 use crate::facts::{FIRST_FUNCTION, LAST_FUNCTION};
-use crate::limits::{Field, Handle, MOST_HANDLES, THREADS};
+use crate::limits::{Field, Handle, MOST_CLASSES, MOST_HANDLES, THREADS};
 
 /// A kind of field: the least and the greatest number it may be.
 #[derive(Clone, Copy, Debug, PartialEq, Eq)]
@@ -16,6 +16,7 @@ pub const CAPACITY: Kind = Kind(i32::MIN as Field, i32::MAX as Field);
 /// What the function's facts say: a status or what a handle may be.
 pub const RESULT: Kind = Kind(CAPACITY.0, HANDLE.1);
 pub const PENDING: Kind = Kind(0, 1);
+pub const CLASS: Kind = Kind(1, MOST_CLASSES as Field);
 
 #[derive(Debug)]
 pub struct Form {
@@ -25,7 +26,7 @@ pub struct Form {
     pub handles: usize,
 }
 
-pub static FORMS: [Form; 5] = [
+pub static FORMS: [Form; 7] = [
     Form {
         letter: b'N',
         fields: &[THREAD, ENV],
@@ -44,6 +45,16 @@ pub static FORMS: [Form; 5] = [
     Form {
         letter: b'R',
         fields: &[THREAD, FUNCTION, RESULT, PENDING],
+        handles: 0,
+    },
+    Form {
+        letter: b'K',
+        fields: &[CLASS, CLASS],
+        handles: 0,
+    },
+    Form {
+        letter: b'O',
+        fields: &[THREAD, HANDLE, CLASS],
         handles: 0,
     },
     Form {

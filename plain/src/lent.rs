@@ -4,6 +4,7 @@
 //! of the proved judge make of them; a comment says so at each such place.
 
 pub mod book;
+pub mod classes;
 pub mod leaks;
 pub mod pins;
 pub mod references;
@@ -13,12 +14,14 @@ pub mod slices;
 mod step;
 
 use book::Book;
+use classes::Classes;
 use pins::Pins;
 use references::References;
 
-/// What is seen in the five lent slices.
+/// What is seen in the six lent slices.
 pub struct Tables<'a> {
     pub references: References<'a>,
     pub pins: Pins<'a>,
     pub book: Book<'a>,
+    pub classes: Classes<'a>,
 }

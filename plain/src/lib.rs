@@ -6,6 +6,7 @@
 pub mod big;
 pub mod called;
 pub mod chosen;
+pub mod class;
 pub mod coverage;
 pub mod damage;
 pub mod edge;
@@ -24,4 +25,5 @@ pub mod report;
 pub mod shrink;
 pub mod sights;
 pub mod single;
+pub mod standing;
 pub mod walk;

@@ -6,6 +6,8 @@ pub type Handle = u32;
 pub type Number = Handle;
 /// A number of the thread book, or the marks of as many rows as it has bits.
 pub type Word = u64;
+/// The number of a class.
+pub type Class = u32;
 /// A number on a line, wider than the range of every field.
 pub type Field = i64;
 
@@ -23,8 +25,11 @@ pub const MOST_FRAMES: usize = 64;
 /// The room for new locals in a native's frame; the handles on its N line come on top.
 pub const NEW_LOCALS: u32 = 16;
 
+/// The greatest number of a class, and so the numbers of a whole class table.
+pub const MOST_CLASSES: usize = 4_095;
+
 /// The numbers of a reference row and of a pin row.
-pub const REFERENCE_NUMBERS: usize = 4;
+pub const REFERENCE_NUMBERS: usize = 5;
 pub const PIN_NUMBERS: usize = 4;
 /// The most rows that count as room.
 pub const MOST_ROOM: usize = 65_536;

@@ -1,8 +1,8 @@
-//! A line of a trace: the five events, the reader and the writer of one line.
+//! A line of a trace: the seven events, the reader and the writer of one line.
 
 use crate::facts::{known, PlaceKind, ResultKind, GLOBAL, LOCAL, WEAK};
 use crate::form::{form, MOST_NUMBERS};
-use crate::limits::{Field, Handle, MOST_BYTES, MOST_HANDLES};
+use crate::limits::{Class, Field, Handle, MOST_BYTES, MOST_HANDLES};
 use crate::refusal::{Refusal, MALFORMED, NO_LINE, NO_ROOM, OUT_OF_RANGE};
 use std::ops::Deref;
 
@@ -34,6 +34,14 @@ pub enum Event {
         function: u32,
         result: Field,
         pending: u32,
+    },
+    /// A class is declared, directly below its super.
+    K { class: Class, superclass: Class },
+    /// The class of a handle is stated.
+    O {
+        thread: u32,
+        handle: Handle,
+        class: Class,
     },
     /// End of the run.
     Z,
@@ -71,6 +79,15 @@ impl Event {
                 function: function as u32,
                 result,
                 pending: pending as u32,
+            },
+            (b'K', &[class, superclass]) => Event::K {
+                class: class as Class,
+                superclass: superclass as Class,
+            },
+            (b'O', &[thread, handle, class]) => Event::O {
+                thread: thread as u32,
+                handle: handle as Handle,
+                class: class as Class,
             },
             (b'Z', &[]) => Event::Z,
             _ => return None,
@@ -121,6 +138,17 @@ impl Event {
                 let numbers = [thread.into(), function.into(), result, pending.into()];
                 (b'R', Numbers::of(numbers))
             }
+            Event::K { class, superclass } => {
+                (b'K', Numbers::of([class.into(), superclass.into()]))
+            }
+            Event::O {
+                thread,
+                handle,
+                class,
+            } => {
+                let numbers = [thread.into(), handle.into(), class.into()];
+                (b'O', Numbers::of(numbers))
+            }
             Event::Z => (b'Z', Numbers::of([])),
         };
         Some(parts)
@@ -146,7 +174,7 @@ impl Event {
             Event::R {
                 function, result, ..
             } => is_result(known(function).result, result),
-            Event::X { .. } | Event::Z => true,
+            Event::X { .. } | Event::K { .. } | Event::O { .. } | Event::Z => true,
         }
     }
 }

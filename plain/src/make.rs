@@ -1,5 +1,7 @@
 //! The maker of traces: from a seed and a profile, lines that a judge mostly accepts and often condemns.
 
+mod classes;
+
 use crate::damage::{damage_bytes, damage_fields, disorder, odd_line};
 use crate::edge::edge_line;
 use crate::facts::*;
@@ -53,6 +55,8 @@ pub struct Profile {
     crowded: u32,
     /// Any other N names fewer than so many.
     handles: usize,
+    /// A class is declared, or stated of a handle, and a place that has a class gets a handle by that.
+    classed: u32,
     /// An exception is pending after an R.
     pending: u32,
     /// A call is of a favoured function.
@@ -88,6 +92,7 @@ const MIXED: Profile = Profile {
     left: 8,
     crowded: 5,
     handles: 4,
+    classed: 5,
     pending: 6,
     favoured: 40,
     functions: &[
@@ -96,11 +101,11 @@ const MIXED: Profile = Profile {
     ],
     refused: 45,
     closed: 40,
-    refusals: &[4, 5, 6],
+    refusals: &[4, 5, 6, 9, 10],
     harm: Harm::None,
 };
 
-pub const PROFILES: [Profile; 19] = [
+pub const PROFILES: [Profile; 21] = [
     MIXED,
     Profile {
         name: "breaches",
@@ -246,6 +251,34 @@ pub const PROFILES: [Profile; 19] = [
         ..MIXED
     },
     Profile {
+        name: "classes",
+        usual_lines: (100, 400),
+        threads: (1, 4),
+        numbers: 8,
+        spoilt: 3,
+        classed: 25,
+        pending: 2,
+        favoured: 85,
+        functions: &WITH_CLASS,
+        refusals: &[9, 9, 10],
+        ..MIXED
+    },
+    Profile {
+        name: "copies",
+        usual_lines: (20, 300),
+        threads: (1, 3),
+        numbers: 4,
+        spoilt: 3,
+        classed: 20,
+        pending: 2,
+        favoured: 95,
+        functions: &[
+            6, 11, 13, 13, 19, 20, 21, 22, 23, 25, 31, 31, 32, 64, 164, 168, 226, 227,
+        ],
+        refusals: &[9, 10, 10],
+        ..MIXED
+    },
+    Profile {
         name: "bytes",
         usual_lines: (1, 80),
         left: 20,
@@ -281,7 +314,7 @@ pub const PROFILES: [Profile; 19] = [
         left: 15,
         pending: 10,
         favoured: 90,
-        refusals: &[4, 5, 6, 7],
+        refusals: &[4, 5, 6, 7, 9, 10],
         ..MIXED
     },
 ];
@@ -296,13 +329,14 @@ const FEW: Profile = Profile {
     stale: 40,
     nested: 20,
     left: 12,
+    classed: 0,
     favoured: 97,
     refusals: &[4, 5, 6, 7],
     ..MIXED
 };
 
 /// Profiles of short traces in which the same few things come up again and again.
-pub const DENSE: [Profile; 7] = [
+pub const DENSE: [Profile; 9] = [
     Profile {
         name: "locals",
         functions: &[6, 6, 6, 19, 19, 20, 20, 23, 23, 24, 26],
@@ -355,6 +389,37 @@ pub const DENSE: [Profile; 7] = [
         ],
         refused: 0,
         closed: 10,
+        ..FEW
+    },
+    Profile {
+        name: "stated",
+        spoilt: 5,
+        stale: 10,
+        classed: 35,
+        pending: 0,
+        functions: &[
+            6, 11, 13, 13, 19, 20, 20, 21, 21, 22, 23, 25, 31, 31, 32, 64, 164, 164, 168, 172, 226,
+            227,
+        ],
+        refused: 40,
+        closed: 10,
+        refusals: &[9, 9, 10, 10],
+        ..FEW
+    },
+    Profile {
+        name: "restated",
+        threads: (1, 2),
+        numbers: 1,
+        spoilt: 2,
+        stale: 30,
+        classed: 30,
+        pending: 0,
+        functions: &[
+            6, 13, 19, 19, 20, 20, 21, 21, 22, 22, 23, 164, 164, 226, 226, 227, 227,
+        ],
+        refused: 50,
+        closed: 5,
+        refusals: &[10],
         ..FEW
     },
     Profile {
@@ -502,6 +567,10 @@ impl Maker<'_> {
         if self.random.percent(astray) {
             return self.astray(thread);
         }
+        // No number is drawn where there is no chance, here and below, so that a seed makes what it made before there was this one.
+        if self.profile.classed > 0 && self.random.percent(self.profile.classed) {
+            return self.class_event(thread);
+        }
         match self.top(thread) {
             Top::Nothing => self.enter(thread),
             Top::Native if self.random.percent(self.profile.left) => self.leave(thread),
@@ -511,8 +580,11 @@ impl Maker<'_> {
         }
     }
 
-    /// An event that the step order, the env rule or the alive handles likely forbid.
+    /// An event that the step order, the env rule, the alive handles or the classes likely forbid.
     fn astray(&mut self, thread: u32) -> Event {
+        if self.profile.classed > 0 && self.random.percent(40) {
+            return self.doubtful_class_event(thread);
+        }
         match self.random.below(8) {
             0 => self.enter(thread),
             1 => self.leave(thread),
@@ -607,7 +679,7 @@ impl Maker<'_> {
     fn leave(&mut self, thread: u32) -> Event {
         Event::X {
             thread,
-            result: self.place(thread, PlaceKind::HandleOrNull),
+            result: self.place(thread, PlaceKind::HandleOrNull, None),
         }
     }
 
@@ -619,7 +691,7 @@ impl Maker<'_> {
         } else {
             env_of(thread)
         };
-        let places = facts.places.map(|kind| self.place(thread, kind));
+        let places = [0, 1, 2].map(|at| self.place(thread, facts.places[at], facts.classes[at]));
         let capacity = if facts.uses_capacity {
             self.capacity()
         } else {
@@ -682,7 +754,7 @@ impl Maker<'_> {
     }
 
     /// A value for a place, a good one where there is one and it is not spoilt.
-    fn place(&mut self, thread: u32, kind: PlaceKind) -> Handle {
+    fn place(&mut self, thread: u32, kind: PlaceKind, fixed: Option<Class>) -> Handle {
         if kind != PlaceKind::Unused && self.random.percent(self.profile.spoilt) {
             return self.spoilt_value(thread);
         }
@@ -690,10 +762,15 @@ impl Maker<'_> {
             kind,
             PlaceKind::Unused | PlaceKind::Identity | PlaceKind::Buffer(_)
         );
-        // No number is drawn where there is no chance, so that a seed makes what it made before there was this one.
         if self.profile.stale > 0 && is_handle && self.random.percent(self.profile.stale) {
             let kind = self.random.pick(&[LOCAL, LOCAL, GLOBAL, WEAK]);
             return self.number(kind);
+        }
+        let classed = fixed.filter(|_| self.profile.classed > 0);
+        if let Some(fixed) = classed.filter(|_| self.random.percent(70)) {
+            if let Some(handle) = self.alive_by_class(thread, fixed) {
+                return handle;
+            }
         }
         let good = match kind {
             PlaceKind::Unused => Some(0),

@@ -1,4 +1,4 @@
-//! The numbers given instead of an event, in the order in which they are tested but for 8, which is first.
+//! The numbers given instead of an event. They are tested in the order 8, 1 to 6, 9, 10, 7.
 
 pub type Refusal = u8;
 
@@ -13,5 +13,9 @@ pub const WRONG_ENV: Refusal = 5;
 /// It makes a handle already alive, or names one twice.
 pub const ALREADY_ALIVE: Refusal = 6;
 pub const NO_ROOM: Refusal = 7;
-/// The lent thread book is unfit.
-pub const UNFIT_BOOK: Refusal = 8;
+/// The lent thread book is unfit, or the lent class table short.
+pub const UNFIT_TABLES: Refusal = 8;
+/// K of a class declared or reserved, or a super or a stated class that is neither.
+pub const WRONG_CLASS: Refusal = 9;
+/// O on a handle not alive.
+pub const NOT_ALIVE: Refusal = 10;

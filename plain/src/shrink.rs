@@ -1,6 +1,8 @@
 //! The shrinker: it looks for the smallest part of a trace on which two judges still differ.
 
-/// Shrinks a trace while `differs` holds of it: drops lines, then shortens fields.
+use crate::limits::THREADS;
+
+/// Shrinks a trace while `differs` holds of it: drops lines, lowers threads, then shortens fields.
 pub fn shrink(trace: &[u8], mut differs: impl FnMut(&[u8]) -> bool) -> Vec<u8> {
     let mut lines: Vec<Vec<u8>> = trace
         .split_inclusive(|&byte| byte == b'\n')
@@ -10,6 +12,7 @@ pub fn shrink(trace: &[u8], mut differs: impl FnMut(&[u8]) -> bool) -> Vec<u8> {
         let before = lines.clone();
         drop_runs(&mut lines, &mut differs);
         drop_pairs(&mut lines, &mut differs);
+        lower_threads(&mut lines, &mut differs);
         shorten_fields(&mut lines, &mut differs);
         if lines == before {
             return lines.concat();
@@ -76,6 +79,27 @@ fn partners(lines: &[Vec<u8>], first: usize) -> Vec<usize> {
     let answers = |line: &[u8]| line.first() == Some(&answer) && thread(line) == own;
     let later = (first + 1..lines.len()).filter(|&second| answers(&lines[second]));
     later.take(4).collect()
+}
+
+/// Gives all lines of a thread a lower number for it.
+fn lower_threads(lines: &mut Vec<Vec<u8>>, differs: &mut impl FnMut(&[u8]) -> bool) {
+    for thread in 2..=THREADS {
+        for lower in 1..thread {
+            let (old, new) = (thread.to_string(), lower.to_string());
+            let renamed = lines.iter().map(|line| {
+                let mut fields = fields_of(line);
+                let has_thread = line.first().is_some_and(|letter| b"NXCRO".contains(letter));
+                if has_thread && fields.get(1).is_some_and(|field| *field == old.as_bytes()) {
+                    fields[1] = new.clone().into_bytes();
+                }
+                line_of(line, fields)
+            });
+            let other: Vec<Vec<u8>> = renamed.collect();
+            if other != *lines && try_instead(lines, other, differs) {
+                break;
+            }
+        }
+    }
 }
 
 /// Puts shorter fields in place of fields, everywhere at once and then one by one.

@@ -3,6 +3,7 @@
 //! Of two traces that show the same one is enough, where a trace costs much to judge. An act shows only where a later line
 //! is judged by it: so what last happened to a handle, a buffer, a thread or a frame is told when it is looked at.
 
+mod classes;
 mod fields;
 mod leaks;
 mod past;
@@ -13,15 +14,18 @@ use crate::findings::{Finding, Findings};
 use crate::judge::Judge;
 use crate::lent::book::Top;
 use crate::lent::pins::{self, BUFFER, FAMILY};
-use crate::lent::references::{self, FRAME, HANDLE};
+use crate::lent::references::{self, Reference, FRAME, HANDLE};
 use crate::lent::rows::{Rows, THREAD};
+use crate::lent::Tables;
 use crate::limits::*;
 use crate::line::{self, Event};
-use crate::refusal::{Refusal, ALREADY_ALIVE};
+use crate::refusal::{Refusal, ALREADY_ALIVE, NOT_ALIVE, WRONG_CLASS};
+use classes::Classed;
 use past::{Frame, Past};
 use std::collections::BTreeSet;
 
-type Reference = [Number; REFERENCE_NUMBERS];
+/// What makes a handle alive: a reference row without its class.
+type Life = [Number; 4];
 type Pin = [Number; PIN_NUMBERS];
 /// What makes buffers equal: a pin row without its making line.
 type Buffer = [Number; 3];
@@ -31,6 +35,7 @@ pub fn sights(trace: &[u8], reference_rows: usize, pin_rows: usize) -> BTreeSet<
     let mut watch = Watch {
         judge: Judge::new(reference_rows, pin_rows),
         past: Past::default(),
+        classed: Classed::default(),
         findings: 0,
         sights: BTreeSet::new(),
     };
@@ -43,6 +48,7 @@ pub fn sights(trace: &[u8], reference_rows: usize, pin_rows: usize) -> BTreeSet<
 struct Watch {
     judge: Judge,
     past: Past,
+    classed: Classed,
     findings: usize,
     sights: BTreeSet<String>,
 }
@@ -61,14 +67,15 @@ impl Watch {
             }
         };
         let against = grounds(&self.judge.tables(), &event);
-        if let Some(&(refusal, _)) = against.iter().min() {
+        if let Some(&(refusal, _)) = against.first() {
             self.refused(&event, refusal, &against);
             return Err(refusal);
         }
         self.sights.extend(fields::of_read(&event));
         self.judged(&event);
         let tables = self.judge.tables();
-        let before = (used(&tables.references.rows), used(&tables.pins.rows));
+        let before = (lives(&tables), used(&tables.pins.rows));
+        self.classed.add(&tables, &event);
         let findings = self.judge.step(line).expect("nothing is against it");
         self.found(letter(&event), &findings);
         self.past
@@ -118,6 +125,15 @@ impl Watch {
         if refusal == ALREADY_ALIVE {
             self.already_alive(&letter, event);
         }
+        if let (NOT_ALIVE, &Event::O { thread, handle, .. }) = (refusal, event) {
+            let rows = self.judge.tables().references.rows;
+            let elsewhere = rows.has(|row| row[HANDLE] == handle);
+            let fate = self.past.of_handle(thread, handle);
+            self.show(format!("10: {fate}, elsewhere {elsewhere}"));
+        }
+        if let (WRONG_CLASS, [(_, cause)]) = (refusal, against) {
+            self.show(format!("9: {cause} alone"));
+        }
         let book = self.judge.tables().book;
         let is_sharer = |other: &u32| match *event {
             Event::N { thread, env, .. } => *other != thread && book.env(*other) == Word::from(env),
@@ -129,7 +145,7 @@ impl Watch {
         for &(other, cause) in against {
             self.show(match cause {
                 _ if other != refusal => format!("{refusal} before {other}: {letter}"),
-                "after Z" => format!("{refusal}: {letter} after Z"),
+                _ if cause.ends_with("after Z") => format!("{refusal}: {letter} after Z"),
                 "shared" => {
                     format!("{refusal}: {letter} shared, sharer idle {is_idle}, lower {is_lower}")
                 }
@@ -175,6 +191,7 @@ impl Watch {
                 self.show(format!("X: {pushed} pushed of {frames} frames"));
                 self.critical("X", thread, false);
                 self.place("X", thread, PlaceKind::HandleOrNull, result);
+                self.class_of(event, "X", 0, result);
             }
             Event::C {
                 thread,
@@ -188,6 +205,7 @@ impl Watch {
                 for (index, letter) in facts.letters().0.char_indices() {
                     let (kind, value) = (facts.places[index], places[index]);
                     self.place(&letter.to_string(), thread, kind, value);
+                    self.class_of(event, &letter.to_string(), index, value);
                 }
             }
             Event::R {
@@ -196,8 +214,18 @@ impl Watch {
                 result,
                 pending,
             } => self.answer(thread, function, result, pending),
+            Event::K { .. } | Event::O { .. } => {
+                let shown = self.classed.class_event(&self.judge.tables(), event);
+                self.sights.extend(shown);
+            }
             Event::Z => self.close(),
         }
+    }
+
+    fn class_of(&mut self, event: &Event, letter: &str, index: usize, value: Handle) {
+        let tables = self.judge.tables();
+        let shown = self.classed.place(&tables, event, letter, index, value);
+        self.sights.extend(shown);
     }
 
     fn enter(&mut self, event: &Event, thread: u32, handles: &[Handle]) {
@@ -441,14 +469,15 @@ fn letter(event: &Event) -> char {
     letter.into()
 }
 
-/// The thread of an event; Z is of none.
+/// The thread of an event; K and Z are of none.
 fn thread(event: &Event) -> u32 {
     match *event {
         Event::N { thread, .. }
         | Event::X { thread, .. }
         | Event::C { thread, .. }
-        | Event::R { thread, .. } => thread,
-        Event::Z => 0,
+        | Event::R { thread, .. }
+        | Event::O { thread, .. } => thread,
+        Event::K { .. } | Event::Z => 0,
     }
 }
 
@@ -464,6 +493,12 @@ fn few(count: usize) -> &'static str {
         1 => "one",
         _ => "more",
     }
+}
+
+fn lives(tables: &Tables) -> Vec<Life> {
+    let rows = tables.references.rows.all_used();
+    rows.map(|&[thread, handle, frame, line, _]| [thread, handle, frame, line])
+        .collect()
 }
 
 fn buffer_of(&[thread, family, buffer, _]: &Pin) -> Buffer {

@@ -1,6 +1,7 @@
-//! The walk: traces that show all facts of each function, which buffers each release ends, what each byte is, and how deep a
-//! thread may go.
+//! The walk: traces that show all facts of each function, which buffers each release ends, what each byte is, how deep a
+//! thread may go, and a long chain of classes.
 
+use crate::class::{FIRST_DECLARED, OBJECT, STRING};
 use crate::facts::*;
 use crate::form::FORMS;
 use crate::limits::{MOST_FRAMES, MOST_ITEMS, PIN_ROWS, REFERENCE_ROWS};
@@ -8,13 +9,16 @@ use crate::line;
 use crate::make::Made;
 use crate::refusal::OUT_OF_RANGE;
 
-/// After these lines a local 5, a global 6 and a weak 7 are alive.
-const OPENING: [&str; 5] = [
+/// After these lines a local 5, a global 6 and a weak 7 are alive, stated to be a class, a string and a throwable.
+const OPENING: [&str; 8] = [
     "N 1 100 5",
     "C 1 100 21 5 0 0 0",
     "R 1 21 6 0",
     "C 1 100 226 5 0 0 0",
     "R 1 226 7 0",
+    "O 1 5 2",
+    "O 1 6 3",
+    "O 1 7 4",
 ];
 /// Null, an identity, a local and a global that are not alive; then those that are, which a delete may end.
 const VALUES: [u32; 7] = [0, 8, 9, 10, 5, 6, 7];
@@ -22,10 +26,16 @@ const VALUES: [u32; 7] = [0, 8, 9, 10, 5, 6, 7];
 const RESULTS: [i64; 5] = [1_001, 1_002, 1_003, 1_004, -1];
 /// A critical region with an exception pending.
 const REGION: [&str; 2] = ["C 1 100 222 5 0 0 0", "R 1 222 8000 1"];
+/// A function that takes a string.
+const GET_STRING_LENGTH: u32 = 164;
+/// A function that takes a throwable.
+const THROW: u32 = 13;
+/// The classes of the long chain.
+const CHAIN: u32 = 40;
 
 /// Of each function a trace that is accepted and one for each line that must be refused; a trace of each release; of each byte
 /// three lines, in which it stands for a letter, for a digit and for the tab between two fields; of each letter a line of one
-/// number too many, all out of range; traces to the deepest.
+/// number too many, all out of range; traces to the deepest; a long chain of classes.
 pub fn walk() -> Vec<Made> {
     let mut walk = Vec::new();
     for function in FIRST_FUNCTION..=LAST_FUNCTION {
@@ -51,10 +61,12 @@ pub fn walk() -> Vec<Made> {
     for (what, lines) in deep() {
         walk.push(made(format!("deep {what}"), &lines));
     }
+    walk.push(made("chain".to_string(), &chain()));
     walk
 }
 
-/// Calls with each value in all places that are used, results of each kind that there may be, and a call in the region.
+/// Calls with each value in all places that are used, results of each kind that there may be, whether a class is stated of a
+/// result, and a call in the region.
 fn accepted(function: u32) -> Vec<String> {
     let facts = known(function);
     let used = facts.places.map(|kind| kind != PlaceKind::Unused);
@@ -75,6 +87,12 @@ fn accepted(function: u32) -> Vec<String> {
     for places in [[5, 6, 0], [7, result, 0]] {
         lines.push(call(IS_SAME_OBJECT, places, 0));
         lines.push(answer(IS_SAME_OBJECT, 0));
+    }
+    if let ResultKind::Local | ResultKind::Global | ResultKind::Weak = facts.result {
+        for function in [GET_STRING_LENGTH, THROW] {
+            lines.push(call(function, [result, 0, 0], 0));
+            lines.push(answer(function, 0));
+        }
     }
     lines.extend(owned(&REGION));
     lines.push(call(function, [0; 3], 0));
@@ -142,6 +160,22 @@ fn deep() -> [(&'static str, Vec<String>); 3] {
         ("frames", [frames.clone(), push(0).to_vec()].concat()),
         ("native", [frames, vec![open(), enter()]].concat()),
     ]
+}
+
+/// Classes each below the one before it, from a string down, and handles of the last, of the first, and of one beside it.
+fn chain() -> Vec<String> {
+    let first = FIRST_DECLARED;
+    let last = first + CHAIN - 1;
+    let mut lines = vec!["N 1 100 5 9 13".to_string(), format!("K {first} {STRING}")];
+    lines.extend((first..last).map(|class| format!("K {} {class}", class + 1)));
+    lines.push(format!("K {} {OBJECT}", last + 1));
+    for (handle, class) in [(5, last), (9, first), (13, last + 1)] {
+        lines.push(format!("O 1 {handle} {class}"));
+        lines.push(call(GET_STRING_LENGTH, [handle, 0, 0], 0));
+        lines.push(answer(GET_STRING_LENGTH, 0));
+    }
+    lines.push(call(THROW, [5, 0, 0], 0));
+    lines
 }
 
 /// The results that the function may have.

@@ -1,6 +1,7 @@
-//! Prints the facts of each function: its number, its places and its result in the paper's letters, its marks and its family.
+//! Prints the facts of each function: its number, its places and its result in the paper's letters, its marks, its family and the classes of its places.
 //!
 //! The marks: `n` it uses the capacity, `p` it is allowed with an exception pending, `c` inside a critical region.
+//! The classes: `c` a class, `s` a string, `t` a throwable.
 
 use plain::facts::{known, FIRST_FUNCTION, LAST_FUNCTION};
 
@@ -21,9 +22,10 @@ fn main() {
         let family = facts.family().map(|family| family.0.to_string());
         let or_none = |text: String| if text.is_empty() { "-".into() } else { text };
         println!(
-            "{function}\t{places}\t{result}\t{}\t{}",
+            "{function}\t{places}\t{result}\t{}\t{}\t{}",
             or_none(marks),
-            or_none(family.unwrap_or_default())
+            or_none(family.unwrap_or_default()),
+            facts.class_letters()
         );
     }
 }

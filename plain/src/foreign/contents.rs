@@ -1,9 +1,10 @@
 //! What foreign tables hold: any numbers, numbers that fit each other in part, or what a judge left with some numbers changed.
 
-use super::lengths::{great, of_book, of_rows};
-use crate::facts::{FIRST_FUNCTION, GLOBAL, LAST_FUNCTION};
+use super::classes;
+use super::lengths::{great, of_book, of_classes, of_rows};
+use crate::facts::{FIRST_FUNCTION, GLOBAL, LAST_FUNCTION, LOCAL, WEAK};
 use crate::lent::book::*;
-use crate::lent::references::HANDLE;
+use crate::lent::references::{Reference, CLASS, HANDLE};
 use crate::lent::rows::{LINE, WORD};
 use crate::lent::slices::Slices;
 use crate::limits::*;
@@ -38,17 +39,19 @@ pub fn make(random: &mut Random) -> Foreign {
     }
 }
 
-/// Five empty slices.
+/// Six empty slices.
 fn nothing() -> Slices {
     let mut slices = Slices::new(0, 0);
     slices.book.clear();
+    slices.classes.clear();
     slices
 }
 
 /// Any numbers.
 fn wild(random: &mut Random) -> Slices {
     let mut slices = lengths(random);
-    for number in slices.rows.iter_mut().chain(&mut slices.pins) {
+    let numbers = slices.rows.iter_mut().chain(&mut slices.pins);
+    for number in numbers.chain(&mut slices.classes) {
         *number = random.number() as Number;
     }
     let words = slices.marks.iter_mut().chain(&mut slices.pin_marks);
@@ -66,6 +69,7 @@ fn small(random: &mut Random) -> Slices {
     fill(&mut slices.pins, || small_pin(random, threads));
     some_marks(random, &mut slices.marks);
     some_marks(random, &mut slices.pin_marks);
+    classes::small(random, &mut slices.classes);
     small_book(random, &mut slices.book, threads);
     if random.percent(15) && slices.book.len() >= WHOLE {
         spoil_book(random, &mut slices.book);
@@ -91,6 +95,7 @@ fn full(random: &mut Random) -> Slices {
         marks[last - 1] >>= random.below(5);
         marks[last] = random.number();
     }
+    classes::small(random, &mut slices.classes);
     small_book(random, &mut slices.book, 2);
     slices
 }
@@ -106,8 +111,10 @@ fn started(random: &mut Random) -> Slices {
 fn damaged(random: &mut Random, follow: &mut Vec<Vec<u8>>) -> Slices {
     let mut slices = traced(random, follow);
     for _ in 0..random.below(7) {
-        match random.below(9) {
+        match random.below(13) {
             0 => damage_row(random, &mut slices.rows),
+            9 | 10 => damage_class(random, &mut slices.rows),
+            11 | 12 => classes::damage(random, &mut slices.classes),
             1 => damage_row(random, &mut slices.pins),
             2 => damage_marks(random, &mut slices.marks),
             3 => damage_marks(random, &mut slices.pin_marks),
@@ -121,6 +128,9 @@ fn damaged(random: &mut Random, follow: &mut Vec<Vec<u8>>) -> Slices {
 fn traced(random: &mut Random, follow: &mut Vec<Vec<u8>>) -> Slices {
     let mut slices = lengths(random);
     slices.book.resize(WHOLE, 0);
+    slices
+        .classes
+        .resize(slices.classes.len().max(MOST_CLASSES), 0);
     let tables = slices.tables();
     let (references, pins) = (tables.references.rows.room(), tables.pins.rows.room());
     let profile = &make::PROFILES[random.below(make::PROFILES.len())];
@@ -148,6 +158,7 @@ fn lengths(random: &mut Random) -> Slices {
         pins: vec![0; pins],
         pin_marks: vec![0; pin_marks],
         book: vec![0; of_book(random)],
+        classes: vec![0; of_classes(random)],
     }
 }
 
@@ -164,16 +175,24 @@ fn small_number(random: &mut Random) -> u32 {
     random.between(0, 20)
 }
 
-fn small_reference(random: &mut Random, threads: u32) -> [Number; REFERENCE_NUMBERS] {
+fn small_reference(random: &mut Random, threads: u32) -> Reference {
     let frame = match random.below(8) {
         0 => random.pick(&[63, 64, 65, Number::MAX]),
         _ => alike(random, 4),
     };
+    let (owner, handle) = (owner(random, threads), alike(random, 60));
+    // A handle of any kind may stand in any row; mostly it is one that can be alive there.
+    let handle = match owner {
+        _ if random.percent(40) => handle,
+        0 => handle / 4 * 4 + random.pick(&[GLOBAL, WEAK]),
+        _ => handle / 4 * 4 + LOCAL,
+    };
     [
-        owner(random, threads),
-        alike(random, 60),
+        owner,
+        handle,
         frame,
         making_line(random),
+        classes::stated(random),
     ]
 }
 
@@ -255,6 +274,15 @@ fn damage_row(random: &mut Random, rows: &mut [Number]) {
         2 => rows[random.below(rows.len())],
         _ => Number::from(small_number(random)),
     };
+}
+
+/// Changes the class of some row, mostly of one of the first.
+fn damage_class(random: &mut Random, rows: &mut [Number]) {
+    let rows = rows.as_chunks_mut::<REFERENCE_NUMBERS>().0;
+    let span = if random.percent(70) { 12 } else { rows.len() };
+    if !rows.is_empty() {
+        rows[random.below(span.min(rows.len()))][CLASS] = classes::stated(random);
+    }
 }
 
 fn damage_marks(random: &mut Random, marks: &mut [Word]) {

@@ -3,7 +3,7 @@
 use crate::lent::book::WHOLE;
 use crate::lent::leaks::RECORD;
 use crate::lent::rows::WORD;
-use crate::limits::MOST_ROOM;
+use crate::limits::{MOST_CLASSES, MOST_ROOM};
 use crate::random::Random;
 
 /// How many numbers of rows, so many to a row, and how many words of marks are lent.
@@ -39,6 +39,16 @@ pub fn of_book(random: &mut Random) -> usize {
         1 => random.below(WHOLE),
         2..=5 => WHOLE + 1 + random.below(600),
         _ => WHOLE,
+    }
+}
+
+/// How many numbers of a class table are lent: mostly a whole one.
+pub fn of_classes(random: &mut Random) -> usize {
+    match random.below(40) {
+        0 => random.pick(&[0, 1, MOST_CLASSES - 1, MOST_CLASSES / 2]),
+        1 => random.below(MOST_CLASSES),
+        2..=9 => MOST_CLASSES + 1 + random.below(300),
+        _ => MOST_CLASSES,
     }
 }
 

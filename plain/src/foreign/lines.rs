@@ -1,21 +1,27 @@
 //! Lines to step over foreign tables: those of a trace, damaged and odd ones, and lines aimed at what stands in the tables.
 
+use super::classes;
+use crate::class::{OBJECT, THROWABLE};
 use crate::damage::{damage_bytes, damage_fields, odd_line};
 use crate::edge::edge_line;
 use crate::facts::*;
 use crate::lent::book::Top;
 use crate::lent::pins::{self, BUFFER, FAMILY};
-use crate::lent::references::HANDLE;
+use crate::lent::references::{self, Reference, CLASS, HANDLE};
 use crate::lent::rows::{Rows, THREAD};
 use crate::lent::Tables;
 use crate::limits::*;
 use crate::line::{write, Event};
 use crate::random::Random;
+use crate::standing::Standing;
+
+/// The most rows that are looked at for a class.
+const MOST_LOOKS: usize = 200;
 
 /// Whether every line is refused over these tables, whatever it says.
 pub fn is_over(tables: &Tables) -> bool {
     let book = &tables.book;
-    book.is_unfit() || book.is_closed() || book.lines() == MOST_LINES.into()
+    tables.is_unfit() || book.is_closed() || book.lines() == MOST_LINES.into()
 }
 
 /// The next line: of the lines that may follow the first is taken out, as long as there are any.
@@ -46,7 +52,7 @@ fn aimed(tables: &Tables, random: &mut Random) -> Vec<u8> {
     }
     let aim = Aim {
         tables,
-        is_unfit: tables.book.is_unfit(),
+        is_unfit: tables.is_unfit(),
     };
     let thread = aim.thread(random);
     let mut written = [0; MOST_BYTES + 1];
@@ -61,7 +67,7 @@ fn aimed(tables: &Tables, random: &mut Random) -> Vec<u8> {
 
 struct Aim<'a, 'b> {
     tables: &'a Tables<'b>,
-    /// Nothing is asked of the book then.
+    /// Nothing is asked of the book and of the classes then.
     is_unfit: bool,
 }
 
@@ -88,6 +94,7 @@ impl Aim<'_, '_> {
     fn event(&self, thread: u32, random: &mut Random) -> Event {
         let choice = random.below(100);
         match self.top(thread) {
+            _ if random.percent(8) => self.class_event(thread, random),
             _ if choice < 4 => self.enter(thread, random),
             _ if choice < 7 => self.leave(thread, random),
             _ if choice < 10 => self.call(thread, random),
@@ -133,12 +140,14 @@ impl Aim<'_, '_> {
         let family = pin.and_then(|pin| FAMILIES.get(pin[FAMILY] as usize % 256));
         let function = family.map_or_else(|| a_function(random), |&(_, release)| release);
         let facts = known(function);
-        let places = facts.places.map(|kind| match (kind, pin) {
+        let places = [0, 1, 2].map(|index| match (facts.places[index], pin) {
             (PlaceKind::Unused, _) => 0,
             (PlaceKind::Identity, _) if random.percent(60) => 8,
             (PlaceKind::Buffer(_), Some(pin)) => pin[BUFFER],
             (PlaceKind::Buffer(family), None) => self.buffer(thread, family, random),
-            _ => self.handle(thread, random),
+            _ => self
+                .classed(thread, facts.classes[index], random)
+                .unwrap_or_else(|| self.handle(thread, random)),
         });
         let capacity = if facts.uses_capacity {
             random.pick(&[i32::MIN, -1, 0, 1, 2, 16, i32::MAX])
@@ -175,6 +184,31 @@ impl Aim<'_, '_> {
         }
     }
 
+    /// A K, or more often an O.
+    fn class_event(&self, thread: u32, random: &mut Random) -> Event {
+        if random.percent(40) {
+            let class = classes::one(random);
+            let superclass = match random.below(8) {
+                0 => class,
+                _ => classes::one(random),
+            };
+            return Event::K { class, superclass };
+        }
+        let alive = if random.percent(60) {
+            self.alive(thread, random, |_| true)
+        } else {
+            None
+        };
+        Event::O {
+            thread,
+            handle: alive.unwrap_or_else(|| self.handle(thread, random)),
+            class: match random.below(3) {
+                0 => random.between(OBJECT, THROWABLE),
+                _ => classes::one(random),
+            },
+        }
+    }
+
     /// Mostly the thread's own, as far as a line can name it.
     fn env(&self, thread: u32, random: &mut Random) -> Handle {
         let other = random.between(1, THREADS);
@@ -186,6 +220,37 @@ impl Aim<'_, '_> {
             0 => 100 * Handle::from(thread),
             env => env,
         }
+    }
+
+    /// For a place that has a class mostly a handle alive with some class, of each way to stand to it.
+    fn classed(&self, thread: u32, fixed: Option<Class>, random: &mut Random) -> Option<Handle> {
+        let fixed = fixed.filter(|_| !self.is_unfit && random.percent(80))?;
+        let wished = random.pick(&[
+            "itself", "below", "below", "another", "lost", "circle", "circle",
+        ]);
+        let standing = |class| Standing::of(&self.tables.classes, class, fixed);
+        self.alive(thread, random, |class| standing(class).name() == wished)
+            .or_else(|| self.alive(thread, random, |class| class != 0))
+    }
+
+    /// A handle alive whose class is such, if some of the rows have one.
+    fn alive(
+        &self,
+        thread: u32,
+        random: &mut Random,
+        is_such: impl Fn(Number) -> bool,
+    ) -> Option<Handle> {
+        let rows = &self.tables.references.rows;
+        let start = random.below(rows.room().max(1));
+        let mut around = (start..rows.room()).chain(0..start).take(MOST_LOOKS);
+        let is_alive = |row: &Reference| {
+            row[THREAD] == references::owner(thread, row[HANDLE]) && row[HANDLE] % 4 != 0
+        };
+        let index = around.find(|&index| {
+            let row = &rows.all()[index];
+            rows.is_used(index) && is_alive(row) && is_such(row[CLASS])
+        });
+        index.map(|index| rows.all()[index][HANDLE])
     }
 
     /// A handle that stands in some row, or a small number.
@@ -219,6 +284,9 @@ impl Aim<'_, '_> {
 fn a_function(random: &mut Random) -> u32 {
     if random.percent(40) {
         return random.between(FIRST_FUNCTION, LAST_FUNCTION);
+    }
+    if random.percent(45) {
+        return random.pick(&[11, 13, 13, 13, 13, 13, 31, 32, 64, 113, 164, 164, 168, 170]);
     }
     random.pick(&[
         6, 19, 20, 20, 20, 21, 22, 22, 23, 23, 24, 26, 64, 104, 154, 165, 166, 170, 191, 218, 222,

@@ -63,7 +63,7 @@ impl<'a> Book<'a> {
         Book(book)
     }
 
-    /// Refusal 8. All that is asked below is asked of a book that is fit.
+    /// Refusal 8 for its sake. All that is asked below is asked of a book that is fit.
     pub fn is_unfit(&self) -> bool {
         !self.faults().is_empty()
     }

@@ -5,7 +5,7 @@ use super::references::HANDLE;
 use super::rows::{LINE, THREAD};
 use super::Tables;
 use crate::limits::Number;
-use crate::refusal::{Refusal, NO_ROOM, OUT_OF_STEP, UNFIT_BOOK};
+use crate::refusal::{Refusal, NO_ROOM, OUT_OF_STEP, UNFIT_TABLES};
 
 /// Numbers to a record: rule, thread, value, line.
 pub const RECORD: usize = 4;
@@ -22,10 +22,10 @@ pub struct Leak {
 }
 
 impl Tables<'_> {
-    /// The leaks after Z, ordered by making line, then by rule and row.
+    /// The leaks after Z, ordered by making line, then by rule and row. No class is looked at, so the class table may be short.
     pub fn leaks(&self) -> Result<Vec<Leak>, Refusal> {
         if self.book.is_unfit() {
-            return Err(UNFIT_BOOK);
+            return Err(UNFIT_TABLES);
         }
         if !self.book.is_closed() {
             return Err(OUT_OF_STEP);

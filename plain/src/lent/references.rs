@@ -2,11 +2,16 @@
 
 use super::rows::{Rows, THREAD};
 use crate::facts::LOCAL;
-use crate::limits::{Handle, Number, REFERENCE_NUMBERS};
+use crate::limits::{Class, Handle, Number, REFERENCE_NUMBERS};
 
 /// The columns of a row between the thread and the making line; a global or weak has thread and frame 0.
 pub const HANDLE: usize = 1;
 pub const FRAME: usize = 2;
+/// The column of the stated class, the last; 0 where none is stated.
+pub const CLASS: usize = 4;
+
+/// A row: thread, handle, frame, making line, stated class.
+pub type Reference = [Number; REFERENCE_NUMBERS];
 
 pub struct References<'a> {
     pub rows: Rows<'a, REFERENCE_NUMBERS>,
@@ -18,16 +23,30 @@ impl References<'_> {
         self.rows.has(is_handle(thread, handle))
     }
 
+    /// The class stated of such a handle, or 0, if it is alive; that of its lowest row, should there be several.
+    pub fn stated_class(&self, thread: u32, handle: Handle) -> Option<Number> {
+        let row = self.rows.find(is_handle(thread, handle));
+        row.map(|row| row[CLASS])
+    }
+
+    /// States the class of such a handle that is alive, in its lowest row.
+    pub fn state(&mut self, thread: u32, handle: Handle, class: Class) {
+        if let Some(row) = self.rows.find_mut(is_handle(thread, handle)) {
+            row[CLASS] = class.into();
+        }
+    }
+
     /// Ends such a handle if it is alive: its lowest row, should there be several.
     pub fn end(&mut self, thread: u32, handle: Handle) {
         self.rows.end_lowest(is_handle(thread, handle));
     }
 
-    /// Makes a local in a frame of the thread, or a global or weak, by the line of this number.
+    /// Makes a local in a frame of the thread, or a global or weak, by the line of this number; no class is stated of it.
     pub fn make(&mut self, thread: u32, handle: Handle, frame: usize, line: u32) {
         let owner = owner(thread, handle);
         let frame = if owner == 0 { 0 } else { frame as Number };
-        self.rows.take([owner, handle, frame, Number::from(line)]);
+        self.rows
+            .take([owner, handle, frame, Number::from(line), 0]);
     }
 
     /// Ends the locals of the thread's frames from this one up.
@@ -57,7 +76,7 @@ pub fn owner(thread: u32, handle: Handle) -> Number {
     }
 }
 
-fn is_handle(thread: u32, handle: Handle) -> impl Fn(&[Number; REFERENCE_NUMBERS]) -> bool {
+fn is_handle(thread: u32, handle: Handle) -> impl Fn(&Reference) -> bool {
     let owner = owner(thread, handle);
     move |row| row[HANDLE] == handle && row[THREAD] == owner
 }

@@ -65,6 +65,19 @@ impl<'a, const NUMBERS: usize> Rows<'a, NUMBERS> {
         self.lowest(matches).is_some()
     }
 
+    /// The lowest used row that matches, if there is one.
+    pub fn find(&self, matches: impl Fn(&[Number; NUMBERS]) -> bool) -> Option<&[Number; NUMBERS]> {
+        self.lowest(matches).map(|index| &self.rows[index])
+    }
+
+    /// The same, to be changed.
+    pub fn find_mut(
+        &mut self,
+        matches: impl Fn(&[Number; NUMBERS]) -> bool,
+    ) -> Option<&mut [Number; NUMBERS]> {
+        self.lowest(matches).map(|index| &mut self.rows[index])
+    }
+
     /// How many used rows match.
     pub fn count(&self, matches: impl Fn(&[Number; NUMBERS]) -> bool) -> usize {
         let words = self.rows.chunks(WORD).zip(self.marks.iter());
@@ -76,7 +89,7 @@ impl<'a, const NUMBERS: usize> Rows<'a, NUMBERS> {
         counts.sum()
     }
 
-    /// The lowest used row that matches.
+    /// The index of the lowest used row that matches.
     fn lowest(&self, matches: impl Fn(&[Number; NUMBERS]) -> bool) -> Option<usize> {
         // Four rows at a time: how fast a shorter loop is depends on where it is linked.
         let (fours, _) = self.rows.as_chunks::<4>();

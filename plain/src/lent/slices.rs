@@ -1,16 +1,17 @@
-//! The five slices that are lent, by whatever holds them.
+//! The six slices that are lent, by whatever holds them.
 
 use super::book::{Book, WHOLE};
+use super::classes::Classes;
 use super::pins::Pins;
 use super::references::References;
 use super::rows::{Rows, WORD};
 use super::Tables;
 use crate::findings::Findings;
-use crate::limits::{Number, Word, PIN_NUMBERS, REFERENCE_NUMBERS};
+use crate::limits::{Number, Word, MOST_CLASSES, PIN_NUMBERS, REFERENCE_NUMBERS};
 use crate::refusal::Refusal;
 use std::ops::DerefMut;
 
-/// Five slices; their numbers are owned if nothing else is said.
+/// Six slices; their numbers are owned if nothing else is said.
 #[derive(Clone, Debug, PartialEq, Eq)]
 pub struct Slices<Numbers = Vec<Number>, Words = Vec<Word>> {
     pub rows: Numbers,
@@ -18,13 +19,14 @@ pub struct Slices<Numbers = Vec<Number>, Words = Vec<Word>> {
     pub pins: Numbers,
     pub pin_marks: Words,
     pub book: Words,
+    pub classes: Numbers,
 }
 
-/// Five slices as they are lent.
+/// Six slices as they are lent.
 pub type Lent<'a> = Slices<&'a mut [Number], &'a mut [Word]>;
 
 impl Slices {
-    /// Slices of so many rows and a whole book, as a start leaves them.
+    /// Slices of so many rows, a whole book and a whole class table, as a start leaves them.
     pub fn new(reference_rows: usize, pin_rows: usize) -> Slices {
         Slices {
             rows: vec![0; reference_rows * REFERENCE_NUMBERS],
@@ -32,6 +34,7 @@ impl Slices {
             pins: vec![0; pin_rows * PIN_NUMBERS],
             pin_marks: vec![0; pin_rows.div_ceil(WORD)],
             book: vec![0; WHOLE],
+            classes: vec![0; MOST_CLASSES],
         }
     }
 }
@@ -48,6 +51,7 @@ where
             pins: &mut self.pins,
             pin_marks: &mut self.pin_marks,
             book: &mut self.book,
+            classes: &mut self.classes,
         }
     }
 
@@ -61,6 +65,7 @@ where
                 rows: Rows::new(lent.pins, lent.pin_marks),
             },
             book: Book::new(lent.book),
+            classes: Classes::new(lent.classes),
         }
     }
 
@@ -72,6 +77,7 @@ where
         lent.pins.fill(0);
         lent.pin_marks.fill(0);
         lent.book.fill(0);
+        lent.classes.fill(0);
     }
 
     /// Judges one lent line; a refused line changes nothing.
@@ -79,7 +85,7 @@ where
         self.tables().step(line)
     }
 
-    /// Lists the leaks in another lent slice; these five stay as they are.
+    /// Lists the leaks in another lent slice; these six stay as they are.
     pub fn list_leaks(&mut self, list: &mut [Number]) -> Result<usize, Refusal> {
         self.tables().list_leaks(list)
     }

@@ -2,6 +2,7 @@
 
 use super::book::Top;
 use super::Tables;
+use crate::class::CLASS;
 use crate::facts::*;
 use crate::findings::Findings;
 use crate::limits::*;
@@ -11,13 +12,18 @@ use crate::refusal::*;
 impl Tables<'_> {
     /// Judges one lent line; a refused line changes nothing.
     pub fn step(&mut self, line: &[u8]) -> Result<Findings, Refusal> {
-        if self.book.is_unfit() {
-            return Err(UNFIT_BOOK);
+        if self.is_unfit() {
+            return Err(UNFIT_TABLES);
         }
         self.step_from_start(line)
     }
 
-    /// The same over a book that is fit, as every book is from a start.
+    /// Refusal 8.
+    pub fn is_unfit(&self) -> bool {
+        self.book.is_unfit() || self.classes.is_short()
+    }
+
+    /// The same over tables that are fit, as all are from a start.
     pub(crate) fn step_from_start(&mut self, line: &[u8]) -> Result<Findings, Refusal> {
         if self.book.lines() == MOST_LINES.into() {
             return Err(NO_LINE);
@@ -48,6 +54,12 @@ impl Tables<'_> {
                 result,
                 pending,
             } => self.answer(thread, function, result, pending, &mut findings)?,
+            Event::K { class, superclass } => self.declare(class, superclass)?,
+            Event::O {
+                thread,
+                handle,
+                class,
+            } => self.state(thread, handle, class)?,
             Event::Z => self.close(&mut findings),
         }
         self.book.count_line();
@@ -111,7 +123,7 @@ impl Tables<'_> {
         if self.pins.has_critical(thread) {
             findings.add(3, 0, 0);
         }
-        if let Some(rule) = self.breach(thread, PlaceKind::HandleOrNull, result) {
+        if let Some(rule) = self.breach(thread, PlaceKind::HandleOrNull, None, result) {
             findings.add(rule, 1, result);
         }
 
@@ -155,9 +167,10 @@ impl Tables<'_> {
         if function == POP_LOCAL_FRAME && !top_is_pushed {
             findings.add(11, 0, 0);
         }
-        for (place, (kind, value)) in (1..).zip(facts.places.into_iter().zip(places)) {
-            if let Some(rule) = self.breach(thread, kind, value) {
-                findings.add(rule, place, value);
+        for (index, value) in places.into_iter().enumerate() {
+            let (kind, fixed) = (facts.places[index], facts.classes[index]);
+            if let Some(rule) = self.breach(thread, kind, fixed, value) {
+                findings.add(rule, index as u8 + 1, value);
             }
         }
 
@@ -209,6 +222,9 @@ impl Tables<'_> {
                 }
                 let line = self.line_number();
                 self.references.make(thread, made, frame, line);
+                if function == GET_OBJECT_CLASS {
+                    self.references.state(thread, made, CLASS);
+                }
             }
             ResultKind::Buffer(family) if made != 0 => {
                 if self.pins.rows.free() == 0 {
@@ -251,6 +267,28 @@ impl Tables<'_> {
         Ok(())
     }
 
+    /// K: a class is declared.
+    fn declare(&mut self, class: Class, superclass: Class) -> Result<(), Refusal> {
+        if self.classes.is_known(class) || !self.classes.is_known(superclass) {
+            return Err(WRONG_CLASS);
+        }
+        self.classes.declare(class, superclass);
+        Ok(())
+    }
+
+    /// O: the class of a handle is stated.
+    fn state(&mut self, thread: u32, handle: Handle, class: Class) -> Result<(), Refusal> {
+        if !self.classes.is_known(class) {
+            return Err(WRONG_CLASS);
+        }
+        // Null and identities are no handles, also where a foreign row has such a number.
+        if handle.is_multiple_of(4) || !self.references.is_alive(thread, handle) {
+            return Err(NOT_ALIVE);
+        }
+        self.references.state(thread, handle, class);
+        Ok(())
+    }
+
     /// Z: end of the run.
     fn close(&mut self, findings: &mut Findings) {
         let buffers = self.pins.rows.used() as Word;
@@ -270,8 +308,14 @@ impl Tables<'_> {
         self.book.set_frames(thread, frame - 1);
     }
 
-    /// The rule a value breaks in a place, the first that fits.
-    fn breach(&self, thread: u32, kind: PlaceKind, value: Handle) -> Option<u8> {
+    /// The rule a value breaks in a place, for which a class may be fixed: the first that fits.
+    fn breach(
+        &self,
+        thread: u32,
+        kind: PlaceKind,
+        fixed: Option<Class>,
+        value: Handle,
+    ) -> Option<u8> {
         match kind {
             PlaceKind::Unused => None,
             PlaceKind::Handle | PlaceKind::Identity | PlaceKind::Buffer(_) if value == 0 => Some(7),
@@ -284,9 +328,16 @@ impl Tables<'_> {
             PlaceKind::Local if value % 4 != LOCAL => Some(4),
             PlaceKind::Global if value % 4 != GLOBAL => Some(4),
             PlaceKind::Weak if value % 4 != WEAK => Some(4),
-            _ if self.references.is_alive(thread, value) => None,
-            _ if value % 4 == LOCAL => Some(11),
-            _ => Some(10),
+            _ => match self.references.stated_class(thread, value) {
+                None if value % 4 == LOCAL => Some(11),
+                None => Some(10),
+                Some(stated) => self.is_of_another_class(stated, fixed?).then_some(4),
+            },
         }
+    }
+
+    /// Whether a class is stated that is neither the fixed one nor below it.
+    fn is_of_another_class(&self, stated: Number, fixed: Class) -> bool {
+        stated != 0 && !self.classes.is_within(stated, fixed)
     }
 }

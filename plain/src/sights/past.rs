@@ -1,6 +1,6 @@
 //! What last happened to each handle, buffer and thread, and to the frames of a thread.
 
-use super::{buffer_of, few, letter, thread, used, Buffer, Pin, Reference};
+use super::{buffer_of, few, letter, lives, thread, used, Buffer, Life, Pin};
 use crate::facts::*;
 use crate::lent::pins::BUFFER;
 use crate::lent::references::{self, FRAME, HANDLE};
@@ -116,7 +116,7 @@ impl Past {
         &mut self,
         event: &Event,
         condemned: bool,
-        before: (Vec<Reference>, Vec<Pin>),
+        before: (Vec<Life>, Vec<Pin>),
         after: &Tables,
     ) {
         self.add_to_handles(event, condemned, &before.0, after);
@@ -124,13 +124,7 @@ impl Past {
         self.add_to_thread(event, after);
     }
 
-    fn add_to_handles(
-        &mut self,
-        event: &Event,
-        condemned: bool,
-        before: &[Reference],
-        after: &Tables,
-    ) {
+    fn add_to_handles(&mut self, event: &Event, condemned: bool, before: &[Life], after: &Tables) {
         let own = thread(event);
         let depth = if own == 0 { 0 } else { after.book.frames(own) };
         let happened = self.threads.entry(own).or_default();
@@ -139,7 +133,7 @@ impl Past {
             Event::X { .. } => format!("X of {} frames", few(happened.frames.len() - depth)),
             _ => letter(event).to_string(),
         };
-        let after = used(&after.references.rows);
+        let after = lives(after);
         for row in &after {
             let might_end = match *event {
                 Event::X { .. } => true,
@@ -263,7 +257,7 @@ impl Past {
                     _ => {}
                 }
             }
-            Event::X { .. } | Event::Z => {}
+            Event::X { .. } | Event::K { .. } | Event::O { .. } | Event::Z => {}
         }
         if let (true, Some(top)) = (is_uncovered, happened.frames.last_mut()) {
             top.since = format!("uncovered by {}", letter(event));

@@ -4,7 +4,9 @@ use crate::called::Handed;
 use crate::damage::{damage_bytes, damage_fields, odd_line, MALFORMED, NUMBERS};
 use crate::edge::edge_line;
 use crate::facts::*;
-use crate::limits::{Field, Handle, Number, MOST_BYTES, MOST_HANDLES, THREADS};
+use crate::limits::{
+    Class, Field, Handle, Number, MOST_BYTES, MOST_CLASSES, MOST_HANDLES, THREADS,
+};
 use crate::random::Random;
 
 /// What lines are put together of, which then may be numbers and lines.
@@ -12,8 +14,8 @@ const PIECES: [&str; 20] = [
     "\t", "\t", "\t0", "\t1", "\t5", "\t8", "\t16", "\t19", "\t232", "\t-", "0", "1", "7", "-",
     "\n", "\r", " ", "N", "Z", "x",
 ];
-const BYTES: &[u8] = b"NXCRZAOnz\t\t\t\t\t0123456789--+ \n\r\0\xff";
-const LETTERS: &[u8] = b"NXCRZ";
+const BYTES: &[u8] = b"NXCRZKOAMnz\t\t\t\t\t0123456789--+ \n\r\0\xff";
+const LETTERS: &[u8] = b"NXCRZKO";
 
 /// A line that is good, damaged, at an edge, several in one, or any bytes.
 pub fn line(random: &mut Random) -> Vec<u8> {
@@ -119,8 +121,17 @@ fn good(random: &mut Random) -> Handed {
         random.between(FIRST_FUNCTION, LAST_FUNCTION)
     };
     let facts = known(function);
-    match random.below(20) {
+    match random.below(24) {
         0 => Handed::End,
+        20..22 => Handed::Declare {
+            class: class(random),
+            superclass: class(random),
+        },
+        22..24 => Handed::State {
+            thread,
+            handle: number(random),
+            class: class(random),
+        },
         1..7 => {
             let count = random.below(MOST_HANDLES + 1);
             let mut handles = [0; MOST_HANDLES];
@@ -221,6 +232,19 @@ fn spoil(handed: &mut Handed, random: &mut Random) {
                 3 => *status = number(random) as i32,
                 _ => *pending = number(random),
             },
+            Handed::Declare { class, superclass } => match random.below(2) {
+                0 => *class = other_class(random),
+                _ => *superclass = other_class(random),
+            },
+            Handed::State {
+                thread,
+                handle,
+                class,
+            } => match random.below(3) {
+                0 => *thread = other_thread(random),
+                1 => *handle = number(random),
+                _ => *class = other_class(random),
+            },
             Handed::End => {}
         }
     }
@@ -239,6 +263,27 @@ fn other_thread(random: &mut Random) -> u32 {
         2 => THREADS + 1,
         3 => one + (1 << 8),
         4 => one + (1 << 16),
+        _ => number(random),
+    }
+}
+
+fn class(random: &mut Random) -> Class {
+    const LAST: Class = MOST_CLASSES as Class;
+    match random.below(3) {
+        0 => random.between(1, 20),
+        1 => random.between(LAST - 2, LAST),
+        _ => random.between(1, LAST),
+    }
+}
+
+/// Classes about both ends, and such as would be one if they were cut to 12 or 16 bits.
+fn other_class(random: &mut Random) -> Class {
+    let one = class(random);
+    match random.below(5) {
+        0 => 0,
+        1 => MOST_CLASSES as Class + random.between(0, 2),
+        2 => one + (1 << 12),
+        3 => one + (1 << 16),
         _ => number(random),
     }
 }

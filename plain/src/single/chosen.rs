@@ -2,19 +2,19 @@
 
 use crate::called::Handed;
 use crate::damage::{MALFORMED, NUMBERS};
-use crate::limits::{Handle, MOST_BYTES, MOST_HANDLES, THREADS};
+use crate::limits::{Class, Handle, MOST_BYTES, MOST_HANDLES, THREADS};
 
 /// Of which all lines of up to four bytes are made.
-const DOZEN: [u8; 12] = *b"NXCRZ\t\n\r-019";
-/// Of which all lines of five bytes and an LF are made; X has good ones.
-const FEW: [u8; 7] = *b"XZ\t\n-01";
+const SOME: [u8; 14] = *b"NXCRKOZ\t\n\r-019";
+/// Of which all lines of five bytes and an LF are made; X and K have good ones.
+const FEW: [u8; 8] = *b"XKZ\t\n-01";
 /// The functions that are tried, those that are none among them.
 const FUNCTIONS: u32 = 301;
 /// The most numbers that a letter is tried with.
 const MOST_COUNT: usize = 12;
 
 /// Good lines, written with spaces for tabs.
-const GOOD: [&str; 11] = [
+const GOOD: [&str; 15] = [
     "N 1 100",
     "N 16 4294967295 5 9 4294967293",
     "N 1 100 1 5 9 13 17 21 25 29",
@@ -25,6 +25,10 @@ const GOOD: [&str; 11] = [
     "R 4 217 -1 1",
     "R 1 6 9 0",
     "R 1 165 4294967294 1",
+    "K 5 1",
+    "K 4095 4094",
+    "O 1 5 2",
+    "O 16 4294967295 4095",
     "Z",
 ];
 
@@ -61,11 +65,11 @@ pub fn lines() -> Vec<Vec<u8>> {
     lines
 }
 
-/// All lines of at most two bytes, those of three and four over the dozen, and those of five and an LF over the few.
+/// All lines of at most two bytes, those of three and four over some, and those of five and an LF over the few.
 fn short() -> Vec<Vec<u8>> {
     let bytes: Vec<u8> = (0..=u8::MAX).collect();
     let mut lines: Vec<Vec<u8>> = (0..=2).flat_map(|length| all(&bytes, length)).collect();
-    lines.extend((3..=4).flat_map(|length| all(&DOZEN, length)));
+    lines.extend((3..=4).flat_map(|length| all(&SOME, length)));
     for mut line in all(&FEW, 5) {
         line.push(b'\n');
         lines.push(line);
@@ -118,7 +122,19 @@ fn counted() -> Vec<Vec<u8>> {
 
 /// Good lines with each odd field in each place, and with two of a few.
 fn of_fields() -> Vec<Vec<u8>> {
-    const TWO: [&str; 9] = ["-1", "-0", "01", "0", "2", "17", "233", "4294967296", ""];
+    const TWO: [&str; 11] = [
+        "-1",
+        "-0",
+        "01",
+        "0",
+        "2",
+        "17",
+        "233",
+        "4095",
+        "4096",
+        "4294967296",
+        "",
+    ];
     let mut lines = Vec::new();
     for good in GOOD {
         let fields: Vec<&str> = good.split(' ').collect();
@@ -207,6 +223,23 @@ pub fn handed() -> Vec<Handed> {
         Handle::MAX - 1,
         Handle::MAX,
     ];
+    const CLASSES: [Class; 15] = [
+        0,
+        1,
+        4,
+        5,
+        9,
+        255,
+        256,
+        4_094,
+        4_095,
+        4_096,
+        4_097,
+        4_096 + 5,
+        65_536 + 5,
+        0x8000_0005,
+        Class::MAX,
+    ];
     const SIGNED: [i32; 6] = [0, 1, -1, 5, i32::MIN, i32::MAX];
     let threads = (0..=THREADS + 2).chain([256, 257, 65_537, u32::MAX]);
     let mut all = vec![Handed::End];
@@ -220,6 +253,17 @@ pub fn handed() -> Vec<Handed> {
             all.push(call(thread, number, 19, [0; 3], 0));
         }
         all.push(answer(thread, 19, 0, 0, 0));
+        for class in CLASSES {
+            all.push(state(thread, 5, class));
+        }
+    }
+    for class in CLASSES {
+        for superclass in CLASSES {
+            all.push(Handed::Declare { class, superclass });
+        }
+        for handle in HANDLES {
+            all.push(state(1, handle, class));
+        }
     }
     for count in (0..=10).chain([256, 264, 65_536, u32::MAX]) {
         for given in 0..=MOST_HANDLES {
@@ -252,6 +296,14 @@ pub fn handed() -> Vec<Handed> {
         }
     }
     all
+}
+
+fn state(thread: u32, handle: Handle, class: Class) -> Handed {
+    Handed::State {
+        thread,
+        handle,
+        class,
+    }
 }
 
 fn enter(thread: u32, env: Handle, count: u32, handles: [Handle; MOST_HANDLES]) -> Handed {

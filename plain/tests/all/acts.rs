@@ -230,7 +230,7 @@ fn twentys_result_is_made_in_the_frame_below_and_overflow_judged_there() {
     ];
     let (mut judge, found) = judged(&lines);
     assert_eq!(found, ["7 11 0 5"]);
-    assert_eq!(judge.tables().references.rows.all()[0], [1, 5, 2, 7]);
+    assert_eq!(judge.tables().references.rows.all()[0], [1, 5, 2, 7, 0]);
 }
 
 #[test]
@@ -528,18 +528,19 @@ fn a_new_row_is_the_lowest_free_one_and_an_ended_row_is_zero() {
     assert_eq!(
         judge.tables().references.rows.all(),
         [
-            [1, 5, 1, 1],
-            [0, 6, 0, 5],
-            [1, 13, 1, 1],
-            [2, 9, 1, 6],
-            [1, 9, 2, 10],
-            [0; 4]
+            [1, 5, 1, 1, 0],
+            [0, 6, 0, 5, 0],
+            [1, 13, 1, 1, 0],
+            [2, 9, 1, 6, 0],
+            [1, 9, 2, 10, 0],
+            [0; 5]
         ]
     );
     judge.step(&line("X 1 0")).unwrap();
+    let (unused, global, local) = ([0; 5], [0, 6, 0, 5, 0], [2, 9, 1, 6, 0]);
     assert_eq!(
         judge.tables().references.rows.all(),
-        [[0; 4], [0, 6, 0, 5], [0; 4], [2, 9, 1, 6], [0; 4], [0; 4]]
+        [unused, global, unused, local, unused, unused]
     );
 }
 
@@ -553,14 +554,20 @@ fn rows_past_the_first_word_of_marks_are_taken_in_order() {
         judge.step(&line(&text)).unwrap();
     }
     assert_eq!(judge.tables().references.rows.used(), 128);
-    assert_eq!(judge.tables().references.rows.all()[64], [9, 257, 1, 9]);
+    assert_eq!(judge.tables().references.rows.all()[64], [9, 257, 1, 9, 0]);
     judge.step(&line("C 3 300 23 65 0 0 0")).unwrap();
     judge.step(&line("C 9 900 6 0 0 0 0")).unwrap();
     judge.step(&line("R 9 6 1001 0")).unwrap();
-    assert_eq!(judge.tables().references.rows.all()[16], [9, 1001, 1, 19]);
+    assert_eq!(
+        judge.tables().references.rows.all()[16],
+        [9, 1001, 1, 19, 0]
+    );
     judge.step(&line("C 9 900 6 0 0 0 0")).unwrap();
     judge.step(&line("R 9 6 1005 0")).unwrap();
-    assert_eq!(judge.tables().references.rows.all()[128], [9, 1005, 1, 21]);
+    assert_eq!(
+        judge.tables().references.rows.all()[128],
+        [9, 1005, 1, 21, 0]
+    );
     judge.step(&line("C 9 900 6 0 0 0 0")).unwrap();
     judge.step(&line("R 9 6 1009 0")).unwrap();
     judge.step(&line("C 9 900 6 0 0 0 0")).unwrap();

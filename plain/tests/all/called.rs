@@ -29,6 +29,8 @@ fn numbers_are_left_in_their_order_and_0_past_them() {
         ),
         ("R 4 165 4294967295 1", b'R', &[4, 165, u32::MAX, 1]),
         ("R 4 217 -2147483648 0", b'R', &[4, 217, 0x8000_0000, 0]),
+        ("K 4095 5", b'K', &[4_095, 5]),
+        ("O 16 4294967295 4095", b'O', &[16, u32::MAX, 4_095]),
         ("Z", b'Z', &[]),
     ] {
         let mut ten = [0; 10];
@@ -57,6 +59,8 @@ fn what_is_read_is_what_the_writer_is_handed() {
         "C 3 300 26 0 0 0 -2147483648",
         "R 4 218 -1 1",
         "R 4 6 4294967293 0",
+        "K 5 1",
+        "O 1 0 2",
         "Z",
     ] {
         let (letter, numbers, count) = said(text);
@@ -69,6 +73,8 @@ fn what_is_read_is_what_the_writer_is_handed() {
     }
     assert_eq!(Handed::of(b'N', &[1; 11]), None);
     assert_eq!(Handed::of(b'X', &[1; 3]), None);
+    assert_eq!(Handed::of(b'K', &[1; 3]), None);
+    assert_eq!(Handed::of(b'O', &[1; 2]), None);
     assert_eq!(Handed::of(b'A', &[]), None);
 }
 

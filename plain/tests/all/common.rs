@@ -3,6 +3,7 @@
 use plain::findings::Findings;
 use plain::judge::Judge;
 use plain::lent::book::WIDTH;
+use plain::lent::references::CLASS;
 use plain::lent::reply::list_reply;
 use plain::lent::rows::WORD;
 use plain::lent::slices::Slices;
@@ -101,8 +102,14 @@ pub trait Lent {
     /// A number of the book.
     fn at(&mut self, row: usize, column: usize) -> &mut u64;
 
-    /// Writes a reference row and marks it.
-    fn put_reference(&mut self, index: usize, row: [Number; REFERENCE_NUMBERS]);
+    /// Writes a reference row without a class and marks it.
+    fn put_reference(&mut self, index: usize, row: [Number; REFERENCE_NUMBERS - 1]);
+
+    /// The class in a reference row.
+    fn class_in(&mut self, index: usize) -> &mut Number;
+
+    /// The super of a class.
+    fn superclass(&mut self, class: usize) -> &mut Number;
 
     /// Writes a pin row and marks it.
     fn put_pin(&mut self, index: usize, row: [Number; PIN_NUMBERS]);
@@ -157,9 +164,18 @@ impl Lent for Slices {
         &mut self.book[row * WIDTH + column]
     }
 
-    fn put_reference(&mut self, index: usize, row: [Number; REFERENCE_NUMBERS]) {
-        self.rows.as_chunks_mut().0[index] = row;
+    fn put_reference(&mut self, index: usize, row: [Number; REFERENCE_NUMBERS - 1]) {
+        let [thread, handle, frame, line] = row;
+        self.rows.as_chunks_mut().0[index] = [thread, handle, frame, line, 0];
         self.marks[index / WORD] |= 1 << (index % WORD);
+    }
+
+    fn class_in(&mut self, index: usize) -> &mut Number {
+        &mut self.rows[index * REFERENCE_NUMBERS + CLASS]
+    }
+
+    fn superclass(&mut self, class: usize) -> &mut Number {
+        &mut self.classes[class - 1]
     }
 
     fn put_pin(&mut self, index: usize, row: [Number; PIN_NUMBERS]) {

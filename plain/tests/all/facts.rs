@@ -1,8 +1,11 @@
 //! The 229 functions against the paper's table of ranges.
 
-use plain::facts::{facts, Facts, Family, PlaceKind, ResultKind, FIRST_FUNCTION, LAST_FUNCTION};
+use plain::class::{CLASS, STRING, THROWABLE};
+use plain::facts::{
+    facts, Facts, Family, PlaceKind, ResultKind, FIRST_FUNCTION, LAST_FUNCTION, WITH_CLASS,
+};
 
-const RANGES: [(&str, &str); 28] = [
+const RANGES: [(&str, &str); 32] = [
     ("4, 16-18, 219, 228, 232", "--- -"),
     ("6, 15, 163, 167, 175-182, 229", "--- L"),
     ("5, 20, 25", "o-- L"),
@@ -37,6 +40,13 @@ const RANGES: [(&str, &str); 28] = [
         "pending",
     ),
     ("222-225", "critical"),
+    (
+        "9-12, 14, 27-30, 33, 94, 113-162, 172, 215, 216",
+        "class-first",
+    ),
+    ("11, 32, 64-93", "class-second"),
+    ("164-166, 168-170, 220, 221, 224, 225", "string-first"),
+    ("13", "throwable-first"),
 ];
 
 fn numbers(ranges: &str) -> Vec<u32> {
@@ -91,6 +101,37 @@ fn capacity_pending_and_critical_marks() {
     assert_eq!(marked(|facts| facts.allowed_pending), listed("pending"));
     assert_eq!(marked(|facts| facts.allowed_critical), listed("critical"));
     assert_eq!(listed("pending").len(), 22);
+}
+
+#[test]
+fn classes_of_places() {
+    let with = |place: usize, class: u32| -> Vec<u32> {
+        let with = functions().filter(|(_, facts)| facts.classes[place] == Some(class));
+        with.map(|(function, _)| function).collect()
+    };
+    for (name, place, class) in [
+        ("class-first", 0, CLASS),
+        ("class-second", 1, CLASS),
+        ("string-first", 0, STRING),
+        ("throwable-first", 0, THROWABLE),
+    ] {
+        let (ranges, _) = RANGES.iter().find(|(_, row)| *row == name).unwrap();
+        assert_eq!(with(place, class), numbers(ranges), "{name}");
+    }
+    for (function, facts) in functions() {
+        assert_eq!(facts.classes[2], None);
+        let classes = facts.classes.into_iter().zip(facts.places);
+        let mut with_class = classes.filter(|(class, _)| class.is_some());
+        assert!(
+            with_class.all(|(_, place)| place == PlaceKind::Handle),
+            "{function}"
+        );
+    }
+    let places = functions().flat_map(|(_, facts)| facts.classes);
+    assert_eq!(places.flatten().count(), 107);
+    assert!(WITH_CLASS
+        .iter()
+        .all(|&function| facts(function).unwrap().classes != [None; 3]));
 }
 
 #[test]

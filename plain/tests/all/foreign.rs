@@ -188,7 +188,7 @@ fn marks_longer_than_rows_leave_the_room_to_the_rows() {
     lent.accepts("C 1 100 6 0 0 0 0");
     lent.accepts("R 1 6 5 0");
     assert_eq!(lent.marks, [0xff, u64::MAX, u64::MAX, u64::MAX, u64::MAX]);
-    assert_eq!(lent.rows[7 * REFERENCE_NUMBERS..], [1, 5, 1, 3]);
+    assert_eq!(lent.rows[7 * REFERENCE_NUMBERS..], [1, 5, 1, 3, 0]);
     lent.accepts("C 1 100 6 0 0 0 0");
     assert_eq!(lent.refuses("R 1 6 9 0"), 7);
 }
@@ -198,13 +198,13 @@ fn rows_longer_than_marks_leave_the_room_to_the_marks() {
     let mut lent = in_native();
     lent.rows = vec![5; 100 * REFERENCE_NUMBERS];
     lent.marks = vec![u64::MAX >> 1];
-    lent.rows[64 * REFERENCE_NUMBERS..][..REFERENCE_NUMBERS].copy_from_slice(&[1, 9, 1, 7]);
+    lent.rows[64 * REFERENCE_NUMBERS..][..REFERENCE_NUMBERS].copy_from_slice(&[1, 9, 1, 7, 4]);
     assert_eq!(lent.clone().accepts("C 1 100 31 9 0 0 0"), ["2 11 1 9"]);
     lent.accepts("C 1 100 6 0 0 0 0");
     lent.accepts("R 1 6 9 0");
     assert_eq!(
         lent.rows[63 * REFERENCE_NUMBERS..][..REFERENCE_NUMBERS],
-        [1, 9, 1, 3]
+        [1, 9, 1, 3, 0]
     );
     assert_eq!(lent.marks, [u64::MAX]);
     lent.accepts("C 1 100 6 0 0 0 0");
@@ -213,11 +213,11 @@ fn rows_longer_than_marks_leave_the_room_to_the_marks() {
     lent.accepts("X 1 0");
     assert_eq!(
         lent.rows[63 * REFERENCE_NUMBERS..][..REFERENCE_NUMBERS],
-        [0, 0, 0, 0]
+        [0; REFERENCE_NUMBERS]
     );
     assert_eq!(
         lent.rows[64 * REFERENCE_NUMBERS..][..REFERENCE_NUMBERS],
-        [1, 9, 1, 7]
+        [1, 9, 1, 7, 4]
     );
     assert_eq!(
         lent.rows[65 * REFERENCE_NUMBERS..],
@@ -227,10 +227,10 @@ fn rows_longer_than_marks_leave_the_room_to_the_marks() {
 
 #[test]
 fn numbers_past_the_last_whole_row_are_no_row() {
-    for odd in [1, 2, 3] {
+    for odd in [1, 2, 3, 4] {
         let mut lent = in_native();
         lent.rows.extend(vec![1; odd]);
-        lent.pins.extend(vec![1; odd]);
+        lent.pins.extend(vec![1; odd % PIN_NUMBERS]);
         lent.marks[0] = 0xff;
         lent.pin_marks[0] = 0xff;
         lent.accepts("C 1 100 6 0 0 0 0");
@@ -238,7 +238,7 @@ fn numbers_past_the_last_whole_row_are_no_row() {
         assert_eq!(lent.accepts("R 1 6 0 0"), [] as [&str; 0]);
         lent.accepts("X 1 0");
         assert_eq!(lent.rows[8 * REFERENCE_NUMBERS..], vec![1; odd]);
-        assert_eq!(lent.pins[8 * PIN_NUMBERS..], vec![1; odd]);
+        assert_eq!(lent.pins[8 * PIN_NUMBERS..], vec![1; odd % PIN_NUMBERS]);
     }
 }
 
@@ -253,7 +253,7 @@ fn over_65536_rows_the_room_is_65536() {
     lent.accepts("R 1 6 5 0");
     assert_eq!(
         lent.rows[65_535 * REFERENCE_NUMBERS..][..REFERENCE_NUMBERS],
-        [1, 5, 1, 3]
+        [1, 5, 1, 3, 0]
     );
     lent.accepts("C 1 100 6 0 0 0 0");
     assert_eq!(lent.refuses("R 1 6 9 0"), 7);
@@ -289,15 +289,15 @@ fn rows_without_marks_and_marks_without_rows_are_no_room() {
 #[test]
 fn an_unmarked_row_is_free_whatever_it_holds() {
     let mut lent = in_native();
-    lent.rows = [1, 5, 1, 7].repeat(8);
+    lent.rows = [1, 5, 1, 7, 3].repeat(8);
     lent.pins = [1, 10, 8, 7].repeat(8);
     assert_eq!(lent.clone().accepts("X 1 5"), ["2 11 1 5"]);
     lent.accepts("C 1 100 6 0 0 0 0");
     lent.accepts("R 1 6 5 0");
     assert_eq!(lent.marks, [1]);
     lent.accepts("X 1 0");
-    assert_eq!(lent.rows[..REFERENCE_NUMBERS], [0; 4]);
-    assert_eq!(lent.rows[REFERENCE_NUMBERS..], [1, 5, 1, 7].repeat(7));
+    assert_eq!(lent.rows[..REFERENCE_NUMBERS], [0; REFERENCE_NUMBERS]);
+    assert_eq!(lent.rows[REFERENCE_NUMBERS..], [1, 5, 1, 7, 3].repeat(7));
 }
 
 #[test]
@@ -619,7 +619,7 @@ fn frames_may_be_left_without_items() {
     assert_eq!(lent.refuses("N 1 100"), 7);
     *lent.at(1, FRAMES) = 63;
     lent.accepts("N 1 100 5");
-    assert_eq!(lent.rows[..REFERENCE_NUMBERS], [1, 5, 64, 1]);
+    assert_eq!(lent.rows[..REFERENCE_NUMBERS], [1, 5, 64, 1, 0]);
     lent.accepts("C 1 100 19 0 0 0 1");
     assert_eq!(lent.refuses("R 1 19 0 0"), 7);
     lent.accepts("R 1 19 -1 0");
@@ -635,16 +635,17 @@ fn a_start_clears_every_number() {
         pins: vec![7; 1],
         pin_marks: vec![7; 2],
         book: vec![7; WHOLE + 3],
+        classes: vec![7; 4_097],
     };
-    for length in [WHOLE + 3, WHOLE - 1, 1] {
+    for (length, classes) in [(WHOLE + 3, 4_097), (WHOLE - 1, 4_094), (1, 1)] {
         lent.book.truncate(length);
         lent.book.fill(7);
+        lent.classes.truncate(classes);
+        lent.classes.fill(7);
         lent.start();
-        assert!(lent
-            .rows
-            .iter()
-            .chain(&lent.pins)
-            .all(|&number| number == 0));
+        assert_eq!(lent.classes.len(), classes);
+        let numbers = lent.rows.iter().chain(&lent.pins).chain(&lent.classes);
+        assert!(numbers.into_iter().all(|&number| number == 0));
         assert!(lent
             .marks
             .iter()
@@ -687,7 +688,7 @@ fn words_of_marks_have_64_rows() {
     lent.accepts("N 1 100 5");
     assert_eq!(
         lent.rows[WORD * REFERENCE_NUMBERS..][..REFERENCE_NUMBERS],
-        [1, 5, 1, 1]
+        [1, 5, 1, 1, 0]
     );
     assert_eq!(lent.marks, [u64::MAX, 1]);
 }

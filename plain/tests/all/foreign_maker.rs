@@ -72,9 +72,10 @@ fn no_step_looks_at_a_making_line() {
 /// The tables with other making lines in their whole rows.
 fn with_lines(slices: &Slices, mut line: impl FnMut() -> Number) -> Slices {
     let mut slices = slices.clone();
-    let references = slices.rows.as_chunks_mut::<REFERENCE_NUMBERS>().0;
-    let pins = slices.pins.as_chunks_mut::<PIN_NUMBERS>().0;
-    for row in references.iter_mut().chain(pins) {
+    for row in slices.rows.as_chunks_mut::<REFERENCE_NUMBERS>().0 {
+        row[LINE] = line();
+    }
+    for row in slices.pins.as_chunks_mut::<PIN_NUMBERS>().0 {
         row[LINE] = line();
     }
     slices

@@ -199,7 +199,10 @@ fn a_handle_ended_and_made_again_has_its_new_line() {
         "R 1 21 6 0",
     ];
     let mut lent = Slices::after(8, 8, &lines);
-    assert_eq!(lent.rows[..12], [1, 5, 1, 1, 0, 6, 0, 9, 0, 7, 0, 5]);
+    assert_eq!(
+        lent.rows[..15],
+        [1, 5, 1, 1, 0, 0, 6, 0, 9, 0, 0, 7, 0, 5, 0]
+    );
     lent.accepts("Z");
     assert_eq!(leaks(&mut lent), ["10 0 7 5", "10 0 6 9"]);
 }
@@ -226,14 +229,14 @@ fn critical_buffers_of_two_threads() {
 #[test]
 fn rows_carry_their_making_line_and_n_s_handles_that_of_n() {
     let mut lent = Slices::after(8, 8, &["N 2 200", "N 1 100 5 9"]);
-    assert_eq!(lent.rows[..8], [1, 5, 1, 2, 1, 9, 1, 2]);
+    assert_eq!(lent.rows[..10], [1, 5, 1, 2, 0, 1, 9, 1, 2, 0]);
     lent.accepts("C 1 100 222 5 0 0 0");
     lent.accepts("R 1 222 8 0");
     assert_eq!(lent.pins[..4], [1, 10, 8, 4]);
     lent.accepts("C 1 100 223 5 8 0 0");
     lent.accepts("R 1 223 0 0");
     lent.accepts("X 1 0");
-    assert_eq!((lent.rows, lent.pins), (vec![0; 32], vec![0; 32]));
+    assert_eq!((lent.rows, lent.pins), (vec![0; 40], vec![0; 32]));
 }
 
 // ---- refusals and the slice
@@ -378,7 +381,7 @@ fn every_used_pin_row_leaks_and_every_used_reference_row_of_thread_0() {
 #[test]
 fn rows_that_are_free_or_past_the_room_do_not_leak() {
     let mut lent = closed();
-    lent.rows = [0, 6, 0, 1].repeat(8);
+    lent.rows = [0, 6, 0, 1, 9].repeat(8);
     lent.pins = [0, 0, 8, 1].repeat(8);
     assert_eq!(leaks(&mut lent), NONE);
     lent.marks[0] = !0xff;
@@ -386,7 +389,7 @@ fn rows_that_are_free_or_past_the_room_do_not_leak() {
     assert_eq!(leaks(&mut lent), NONE);
     lent.marks[0] = u64::MAX;
     lent.pin_marks[0] = u64::MAX;
-    lent.rows.truncate(2 * 4 + 3);
+    lent.rows.truncate(2 * 5 + 4);
     lent.pins.truncate(4 + 3);
     assert_eq!(leaks(&mut lent), ["8 0 8 1", "10 0 6 1", "10 0 6 1"]);
     lent.marks.clear();
@@ -398,7 +401,7 @@ fn rows_that_are_free_or_past_the_room_do_not_leak() {
 fn a_room_of_65536_rows_leaks_as_many() {
     let mut lent = closed();
     lent.rows = (0..65_538)
-        .flat_map(|row| [0, row, 0, 65_537 - row])
+        .flat_map(|row| [0, row, 0, 65_537 - row, row])
         .collect();
     lent.marks = vec![u64::MAX; 1_025];
     assert_eq!(lent.lists(4 * 65_536 - 1).0, -7);

@@ -67,6 +67,21 @@ fn every_event_is_read() {
             pending: 1,
         })
     );
+    assert_eq!(
+        read(b"K\t4095\t5\n"),
+        Ok(Event::K {
+            class: 4_095,
+            superclass: 5,
+        })
+    );
+    assert_eq!(
+        read(b"O\t16\t7\t4095\n"),
+        Ok(Event::O {
+            thread: 16,
+            handle: 7,
+            class: 4_095,
+        })
+    );
     assert_eq!(read(b"Z\n"), Ok(Event::Z));
 }
 
@@ -126,6 +141,12 @@ fn field_counts_are_exact() {
         "C 1 100 4 0 0 0 0 0",
         "R 1 4 0",
         "R 1 4 0 0 0",
+        "K",
+        "K 5",
+        "K 1 5 1",
+        "O",
+        "O 1 5",
+        "O 1 5 2 0",
         "Z 0",
     ] {
         assert_eq!(said(wrong), 2, "{wrong}");
@@ -197,6 +218,11 @@ fn minus_one_is_a_number_in_every_field() {
         "R 1 6 -1 0",
         "R 1 165 -1 0",
         "R 1 4 0 -1",
+        "K -1 1",
+        "K 5 -1",
+        "O -1 5 2",
+        "O 1 -1 2",
+        "O 1 5 -1",
     ] {
         assert_eq!(said(line), 3, "{line}");
     }
@@ -228,12 +254,12 @@ fn an_lf_inside_a_lent_line_is_2_unless_1_comes_first() {
 
 #[test]
 fn other_letters_are_2() {
-    for letter in (0..=255).filter(|letter| !b"NXCRZ".contains(letter)) {
+    for letter in (0..=255).filter(|letter| !b"NXCRKOZ".contains(letter)) {
         assert_eq!(read(&[letter, b'\n']), Err(2));
         assert_eq!(read(&[letter, b'\t', b'1', b'\n']), Err(2));
     }
     for other in [
-        "n 1 100", "A 1 100", "D 1", "O 1 5 2", "K 5 1", "M 8 1", "NN 1 100", "ZZ",
+        "n 1 100", "A 1 100", "D 1", "o 1 5 2", "k 5 1", "M 8 1", "NN 1 100", "KK 5 1", "ZZ",
     ] {
         assert_eq!(said(other), 2, "{other}");
     }
@@ -378,6 +404,19 @@ fn both_ends_of_all_ranges() {
         ("R 1 232 0 0", 0),
         ("R 1 233 0 0", 3),
         ("R 1 4 0 2", 3),
+        ("K 0 1", 3),
+        ("K 1 0", 3),
+        ("K 1 1", 0),
+        ("K 4095 4095", 0),
+        ("K 4096 1", 3),
+        ("K 5 4096", 3),
+        ("O 0 5 2", 3),
+        ("O 1 0 1", 0),
+        ("O 16 4294967295 4095", 0),
+        ("O 17 5 2", 3),
+        ("O 1 4294967296 2", 3),
+        ("O 1 5 0", 3),
+        ("O 1 5 4096", 3),
     ] {
         assert_eq!(said(line), expected, "{line}");
     }
@@ -403,6 +442,12 @@ fn the_writer_refuses_what_the_reader_would() {
         function,
         result,
         pending,
+    };
+    let k = |class, superclass| Event::K { class, superclass };
+    let o = |thread, handle, class| Event::O {
+        thread,
+        handle,
+        class,
     };
     for bad in [
         n(0, 1, 0, [0; 8]),
@@ -438,6 +483,14 @@ fn the_writer_refuses_what_the_reader_would() {
         r(217, i64::MIN, 0),
         r(4, 0, 2),
         r(3, 0, 0),
+        k(0, 1),
+        k(4_096, 1),
+        k(5, 0),
+        k(5, u32::MAX),
+        o(0, 5, 2),
+        o(17, 5, 2),
+        o(1, 5, 0),
+        o(1, 5, 4_096),
     ] {
         let mut buffer = [b'?'; 200];
         assert_eq!(write(&bad, &mut buffer), Err(3), "{bad:?}");
@@ -521,7 +574,16 @@ fn any_event_the_writer_takes_is_read_back() {
         };
         let thread = random.between(0, 17);
         let function = random.between(0, 240);
-        let event = match random.below(4) {
+        let event = match random.below(6) {
+            4 => Event::K {
+                class: random.between(0, 4_096),
+                superclass: random.between(0, 4_096),
+            },
+            5 => Event::O {
+                thread,
+                handle: number(&mut random),
+                class: random.between(0, 4_096),
+            },
             0 => {
                 let count = random.below(10);
                 let mut handles = [0; 8];

@@ -2,9 +2,11 @@
 
 mod acts;
 mod called;
+mod classes;
 mod common;
 mod facts;
 mod foreign;
+mod foreign_classes;
 mod foreign_maker;
 mod leaks;
 mod lent;

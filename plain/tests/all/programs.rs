@@ -146,7 +146,7 @@ fn traces_prints_several_with_their_reports_and_leaks() {
     let printed = run(TRACES, &["--walk"]).stdout;
     let made = &walk()[0];
     let report = report_and_leaks(&made.trace, REFERENCE_ROWS, PIN_ROWS);
-    assert!(report.ends_with(b"leak\t10\t0\t7\t5\nleak\t8\t1\t8000\t13\n"));
+    assert!(report.ends_with(b"leak\t10\t0\t7\t5\nleak\t8\t1\t8000\t16\n"));
     let head = format!(
         "2048 256 {} {} {}\n",
         made.trace.len(),
@@ -162,9 +162,13 @@ fn facts_prints_the_facts_of_each_function() {
     let lines: Vec<&str> = printed.lines().collect();
     assert_eq!(lines.len(), 229);
     for line in [
-        "19\t---\tS\tnp\t-",
-        "223\trb-\t-\tpc\t10",
-        "229\t---\tL\t-\t-",
+        "11\trr-\t-\t-\t-\tcc-",
+        "13\tr--\t-\t-\t-\tt--",
+        "19\t---\tS\tnp\t-\t---",
+        "32\tor-\t-\t-\t-\t-c-",
+        "223\trb-\t-\tpc\t10\t---",
+        "225\trb-\t-\tpc\t11\ts--",
+        "229\t---\tL\t-\t-\t---",
     ] {
         assert!(lines.contains(&line), "{line}");
     }
@@ -177,12 +181,12 @@ fn compare_finds_no_difference_from_itself() {
             &["--seed", "9", "--count", "34"][..],
             "compared 34 traces, ",
         ),
-        (&["--walk"], "compared 2363 traces, "),
+        (&["--walk"], "compared 2366 traces, "),
         (
             &["--leaks", "--seed", "9", "--count", "34"],
             "compared 34 traces, ",
         ),
-        (&["--leaks", "--walk"], "compared 2363 traces, "),
+        (&["--leaks", "--walk"], "compared 2366 traces, "),
     ] {
         let output = run(COMPARE, &[options, &["--", PLAIN]].concat());
         let printed = String::from_utf8(output.stdout).unwrap();
