@@ -2,8 +2,10 @@
 
 use crate::class::{CLASS, FIRST_DECLARED, OBJECT};
 use crate::facts::*;
+use crate::indexed::Indexes;
 use crate::judge::Judge;
 use crate::lent::book::Top;
+use crate::lent::lookup::{Buffers, Handles};
 use crate::limits::*;
 use crate::line::{self, Event};
 use crate::random::Random;
@@ -123,7 +125,7 @@ pub fn big(kind: &Kind, lines: usize, output: &mut impl Write) -> io::Result<()>
     let mut big = Big {
         kind,
         random: Random::new(lines as u64),
-        judge: Judge::new(REFERENCE_ROWS, PIN_ROWS),
+        judge: Judge::indexed(REFERENCE_ROWS, PIN_ROWS),
         threads: Default::default(),
         declared: 0,
         globals_and_weaks: Vec::new(),
@@ -163,7 +165,7 @@ struct Held {
 struct Big<'a, W: Write> {
     kind: &'a Kind,
     random: Random,
-    judge: Judge,
+    judge: Judge<Indexes>,
     threads: [Held; THREADS as usize],
     declared: usize,
     globals_and_weaks: Vec<Handle>,
@@ -316,7 +318,7 @@ impl<W: Write> Big<'_, W> {
     }
 
     fn make_or_delete(&mut self, thread: u32) -> io::Result<()> {
-        let alive = self.judge.tables().references.rows.used();
+        let alive = self.judge.tables().references.used();
         let spread = self.kind.alive / 100 + 1;
         let few = self.held(thread).locals.len() < 4;
         let makes = if few || alive + spread < self.kind.alive {
@@ -344,7 +346,7 @@ impl<W: Write> Big<'_, W> {
 
     fn get_or_release(&mut self, thread: u32) -> io::Result<()> {
         let array = self.handle(thread);
-        let outstanding = self.judge.tables().pins.rows.used();
+        let outstanding = self.judge.tables().pins.used();
         if outstanding < PIN_ROWS - THREADS as usize && self.random.percent(4) {
             return self.put_call(thread, CRITICAL_ARRAY.get(), [array, 0, 0], 0);
         }
@@ -365,7 +367,7 @@ impl<W: Write> Big<'_, W> {
     fn answer(&mut self, thread: u32, function: u32) -> io::Result<()> {
         let kind = known(function).result;
         let tables = self.judge.tables();
-        let (rows_left, pins_left) = (tables.references.rows.free(), tables.pins.rows.free());
+        let (rows_left, pins_left) = (tables.references.free(), tables.pins.free());
         let result = match kind {
             ResultKind::Local if rows_left > 0 => {
                 let handle = self.fresh(thread, LOCAL, &[]);

@@ -9,6 +9,7 @@ use crate::judge::Judge;
 use crate::lent::book::{Fault, Top};
 use crate::lent::classes::is_reserved;
 use crate::lent::leaks::Leak;
+use crate::lent::lookup::Handles;
 use crate::lent::references::HANDLE;
 use crate::lent::rows::THREAD;
 use crate::lent::Tables;

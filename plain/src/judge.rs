@@ -2,25 +2,41 @@
 
 use crate::findings::Findings;
 use crate::lent::leaks::Leak;
+use crate::lent::lookup::{Lookup, Scan};
 use crate::lent::slices::Slices;
 use crate::lent::Tables;
 use crate::refusal::Refusal;
 
+/// A judge that finds rows by a scan if nothing else is said.
 #[derive(Clone, Debug, PartialEq, Eq)]
-pub struct Judge {
+pub struct Judge<L = Scan> {
     slices: Slices,
+    lookup: L,
 }
 
 impl Judge {
     pub fn new(reference_rows: usize, pin_rows: usize) -> Judge {
+        Judge::with(Scan, reference_rows, pin_rows)
+    }
+}
+
+impl<L: Lookup> Judge<L> {
+    /// A judge that finds rows in this way.
+    pub fn with(lookup: L, reference_rows: usize, pin_rows: usize) -> Judge<L> {
         Judge {
             slices: Slices::new(reference_rows, pin_rows),
+            lookup,
         }
     }
 
     /// What the judge knows.
-    pub fn tables(&mut self) -> Tables<'_> {
-        self.slices.tables()
+    pub fn tables(&mut self) -> Tables<'_, L::Handles<'_>, L::Buffers<'_>> {
+        self.lookup.tables(self.slices.lend())
+    }
+
+    /// The same as it stands in its slices.
+    pub fn slices(&self) -> &Slices {
+        &self.slices
     }
 
     /// Judges one lent line; a refused line changes nothing.
@@ -30,6 +46,6 @@ impl Judge {
 
     /// The leaks, if Z has come.
     pub fn leaks(&mut self) -> Result<Vec<Leak>, Refusal> {
-        self.tables().leaks()
+        self.slices.tables().leaks()
     }
 }

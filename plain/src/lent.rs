@@ -6,6 +6,7 @@
 pub mod book;
 pub mod classes;
 pub mod leaks;
+pub mod lookup;
 pub mod pins;
 pub mod references;
 pub mod reply;
@@ -18,10 +19,10 @@ use classes::Classes;
 use pins::Pins;
 use references::References;
 
-/// What is seen in the six lent slices.
-pub struct Tables<'a> {
-    pub references: References<'a>,
-    pub pins: Pins<'a>,
+/// What is seen in the six lent slices; rows are scanned if nothing else is said.
+pub struct Tables<'a, H = References<'a>, B = Pins<'a>> {
+    pub references: H,
+    pub pins: B,
     pub book: Book<'a>,
     pub classes: Classes<'a>,
 }

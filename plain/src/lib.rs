@@ -14,6 +14,7 @@ pub mod facts;
 pub mod findings;
 pub mod foreign;
 pub mod form;
+pub mod indexed;
 pub mod judge;
 pub mod lent;
 pub mod limits;

@@ -7,6 +7,7 @@ use crate::edge::edge_line;
 use crate::facts::*;
 use crate::judge::Judge;
 use crate::lent::book::Top;
+use crate::lent::lookup::{Buffers, Handles};
 use crate::lent::pins::{self, BUFFER, FAMILY};
 use crate::lent::references::{self, HANDLE};
 use crate::lent::rows::{Rows, THREAD};

@@ -13,6 +13,7 @@ use crate::facts::*;
 use crate::findings::{Finding, Findings};
 use crate::judge::Judge;
 use crate::lent::book::Top;
+use crate::lent::lookup::{Buffers, Handles};
 use crate::lent::pins::{self, BUFFER, FAMILY};
 use crate::lent::references::{self, Reference, FRAME, HANDLE};
 use crate::lent::rows::{Rows, THREAD};

@@ -1,6 +1,7 @@
-//! Measures the plain reader alone and the plain judge on a trace held in memory.
+//! Measures the plain reader alone, the plain judge and the indexed one on a trace held in memory.
 
 use plain::judge::Judge;
+use plain::lent::lookup::Lookup;
 use plain::limits::{PIN_ROWS, REFERENCE_ROWS};
 use plain::line::read;
 use std::hint::black_box;
@@ -30,15 +31,22 @@ fn main() -> ExitCode {
         }
     });
     let judge = best(lines.len(), || {
-        let mut judge = Judge::new(REFERENCE_ROWS, PIN_ROWS);
-        for line in &lines {
-            let _ = black_box(judge.step(black_box(line)));
-        }
+        judge_all(Judge::new(REFERENCE_ROWS, PIN_ROWS), &lines);
+    });
+    let indexed = best(lines.len(), || {
+        judge_all(Judge::indexed(REFERENCE_ROWS, PIN_ROWS), &lines);
     });
     println!("{} lines, {} bytes", lines.len(), trace.len());
     println!("reader {reader:.1} ns/line");
     println!("judge {judge:.1} ns/line");
+    println!("indexed {indexed:.1} ns/line");
     ExitCode::SUCCESS
+}
+
+fn judge_all<L: Lookup>(mut judge: Judge<L>, lines: &[&[u8]]) {
+    for line in lines {
+        let _ = black_box(judge.step(black_box(line)));
+    }
 }
 
 /// The nanoseconds a line takes in the best round.

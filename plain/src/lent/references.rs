@@ -1,5 +1,6 @@
 //! The alive handles in lent rows. A row of thread 0 is a global or weak whatever its handle, any other row a local.
 
+use super::lookup::Handles;
 use super::rows::{Rows, THREAD};
 use crate::facts::LOCAL;
 use crate::limits::{Class, Handle, Number, REFERENCE_NUMBERS};
@@ -17,54 +18,60 @@ pub struct References<'a> {
     pub rows: Rows<'a, REFERENCE_NUMBERS>,
 }
 
-impl References<'_> {
-    /// Whether a nonzero handle of kind 1 to 3 is alive; a local, in this thread.
-    pub fn is_alive(&self, thread: u32, handle: Handle) -> bool {
+impl Handles for References<'_> {
+    fn used(&self) -> usize {
+        self.rows.used()
+    }
+
+    fn free(&self) -> usize {
+        self.rows.free()
+    }
+
+    fn is_alive(&self, thread: u32, handle: Handle) -> bool {
         self.rows.has(is_handle(thread, handle))
     }
 
-    /// The class stated of such a handle, or 0, if it is alive; that of its lowest row, should there be several.
-    pub fn stated_class(&self, thread: u32, handle: Handle) -> Option<Number> {
+    fn stated_class(&self, thread: u32, handle: Handle) -> Option<Number> {
         let row = self.rows.find(is_handle(thread, handle));
         row.map(|row| row[CLASS])
     }
 
-    /// States the class of such a handle that is alive, in its lowest row.
-    pub fn state(&mut self, thread: u32, handle: Handle, class: Class) {
+    fn state(&mut self, thread: u32, handle: Handle, class: Class) {
         if let Some(row) = self.rows.find_mut(is_handle(thread, handle)) {
             row[CLASS] = class.into();
         }
     }
 
-    /// Ends such a handle if it is alive: its lowest row, should there be several.
-    pub fn end(&mut self, thread: u32, handle: Handle) {
+    fn end(&mut self, thread: u32, handle: Handle) {
         self.rows.end_lowest(is_handle(thread, handle));
     }
 
-    /// Makes a local in a frame of the thread, or a global or weak, by the line of this number; no class is stated of it.
-    pub fn make(&mut self, thread: u32, handle: Handle, frame: usize, line: u32) {
-        let owner = owner(thread, handle);
-        let frame = if owner == 0 { 0 } else { frame as Number };
-        self.rows
-            .take([owner, handle, frame, Number::from(line), 0]);
+    fn make(&mut self, thread: u32, handle: Handle, frame: usize, line: u32) {
+        self.rows.take(made(thread, handle, frame, line));
     }
 
-    /// Ends the locals of the thread's frames from this one up.
-    pub fn end_locals_from(&mut self, thread: u32, first: usize) {
+    fn end_locals_from(&mut self, thread: u32, first: usize) {
         let (thread, first) = (Number::from(thread), first as Number);
         self.rows
             .end_all(|row| row[THREAD] == thread && row[FRAME] >= first);
     }
 
-    pub fn locals_alive_in(&self, thread: u32, frame: usize) -> usize {
+    fn locals_alive_in(&self, thread: u32, frame: usize) -> usize {
         let (thread, frame) = (Number::from(thread), frame as Number);
         self.rows
             .count(|row| row[THREAD] == thread && row[FRAME] == frame)
     }
 
-    pub fn globals_and_weaks_alive(&self) -> usize {
+    fn globals_and_weaks_alive(&self) -> usize {
         self.rows.count(|row| row[THREAD] == 0)
     }
+}
+
+/// The row of a local made in a frame of the thread, or of a global or weak, by the line of this number; no class is stated of it.
+pub fn made(thread: u32, handle: Handle, frame: usize, line: u32) -> Reference {
+    let owner = owner(thread, handle);
+    let frame = if owner == 0 { 0 } else { frame as Number };
+    [owner, handle, frame, Number::from(line), 0]
 }
 
 /// The thread in the row of a handle: that of a local, or 0.

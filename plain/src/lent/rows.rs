@@ -38,6 +38,16 @@ impl<'a, const NUMBERS: usize> Rows<'a, NUMBERS> {
         self.rows
     }
 
+    /// A row of the room, to be changed.
+    pub fn row_mut(&mut self, index: usize) -> &mut [Number; NUMBERS] {
+        &mut self.rows[index]
+    }
+
+    /// The marks of the room, the lowest row's the lowest bit.
+    pub fn marks(&self) -> &[Word] {
+        self.marks
+    }
+
     /// The used rows of the room, the lowest first.
     pub fn all_used(&self) -> impl Iterator<Item = &[Number; NUMBERS]> {
         let rows = self.rows.iter().enumerate();
@@ -103,8 +113,13 @@ impl<'a, const NUMBERS: usize> Rows<'a, NUMBERS> {
         let word = self.marks.iter().position(|&word| word != Word::MAX);
         let word = word.expect("a free row");
         let bit = self.marks[word].trailing_ones();
-        self.marks[word] |= 1 << bit;
-        self.rows[word * WORD + bit as usize] = row;
+        self.put(word * WORD + bit as usize, row);
+    }
+
+    /// Writes a row and marks it.
+    pub fn put(&mut self, index: usize, row: [Number; NUMBERS]) {
+        self.marks[index / WORD] |= 1 << (index % WORD);
+        self.rows[index] = row;
     }
 
     /// Ends the lowest used row that matches, if there is one.
@@ -124,7 +139,7 @@ impl<'a, const NUMBERS: usize> Rows<'a, NUMBERS> {
     }
 
     /// Zeroes a row and takes its mark away.
-    fn end(&mut self, index: usize) {
+    pub fn end(&mut self, index: usize) {
         self.rows[index] = [0; NUMBERS];
         self.marks[index / WORD] &= !(1 << (index % WORD));
     }

@@ -39,6 +39,22 @@ impl Slices {
     }
 }
 
+impl<'a> Lent<'a> {
+    /// What is seen in them, their rows being scanned.
+    pub fn scanned(self) -> Tables<'a> {
+        Tables {
+            references: References {
+                rows: Rows::new(self.rows, self.marks),
+            },
+            pins: Pins {
+                rows: Rows::new(self.pins, self.pin_marks),
+            },
+            book: Book::new(self.book),
+            classes: Classes::new(self.classes),
+        }
+    }
+}
+
 impl<Numbers, Words> Slices<Numbers, Words>
 where
     Numbers: DerefMut<Target = [Number]>,
@@ -56,17 +72,7 @@ where
     }
 
     pub fn tables(&mut self) -> Tables<'_> {
-        let lent = self.lend();
-        Tables {
-            references: References {
-                rows: Rows::new(lent.rows, lent.marks),
-            },
-            pins: Pins {
-                rows: Rows::new(lent.pins, lent.pin_marks),
-            },
-            book: Book::new(lent.book),
-            classes: Classes::new(lent.classes),
-        }
+        self.lend().scanned()
     }
 
     /// A start: every number of every slice is 0.

@@ -1,6 +1,7 @@
 //! One step over the tables: a line's findings or the number of its refusal, and what an accepted line leaves.
 
 use super::book::Top;
+use super::lookup::{Buffers, Handles};
 use super::Tables;
 use crate::class::CLASS;
 use crate::facts::*;
@@ -9,7 +10,7 @@ use crate::limits::*;
 use crate::line::{self, Event};
 use crate::refusal::*;
 
-impl Tables<'_> {
+impl<H: Handles, B: Buffers> Tables<'_, H, B> {
     /// Judges one lent line; a refused line changes nothing.
     pub fn step(&mut self, line: &[u8]) -> Result<Findings, Refusal> {
         if self.is_unfit() {
@@ -90,7 +91,7 @@ impl Tables<'_> {
                 return Err(ALREADY_ALIVE);
             }
         }
-        if handles.len() > self.references.rows.free()
+        if handles.len() > self.references.free()
             || self.book.items(thread) == MOST_ITEMS
             || self.book.frames(thread) == MOST_FRAMES
         {
@@ -217,7 +218,7 @@ impl Tables<'_> {
                 if self.references.is_alive(thread, made) {
                     return Err(ALREADY_ALIVE);
                 }
-                if self.references.rows.free() == 0 {
+                if self.references.free() == 0 {
                     return Err(NO_ROOM);
                 }
                 let line = self.line_number();
@@ -227,7 +228,7 @@ impl Tables<'_> {
                 }
             }
             ResultKind::Buffer(family) if made != 0 => {
-                if self.pins.rows.free() == 0 {
+                if self.pins.free() == 0 {
                     return Err(NO_ROOM);
                 }
                 self.pins.get(thread, family, made, self.line_number());
@@ -291,7 +292,7 @@ impl Tables<'_> {
 
     /// Z: end of the run.
     fn close(&mut self, findings: &mut Findings) {
-        let buffers = self.pins.rows.used() as Word;
+        let buffers = self.pins.used() as Word;
         let monitors = (1..=THREADS).map(|thread| self.book.monitors(thread)).sum();
         let globals_and_weaks = self.references.globals_and_weaks_alive() as Word;
         for (rule, count) in [(8, buffers), (9, monitors), (10, globals_and_weaks)] {

@@ -3,6 +3,7 @@
 use super::{few, letter, thread};
 use crate::facts::*;
 use crate::lent::classes::is_reserved;
+use crate::lent::lookup::Handles;
 use crate::lent::references::{self, CLASS, HANDLE};
 use crate::lent::rows::THREAD;
 use crate::lent::Tables;

@@ -2,6 +2,7 @@
 
 use super::{buffer_of, few, letter, lives, thread, used, Buffer, Life, Pin};
 use crate::facts::*;
+use crate::lent::lookup::Handles;
 use crate::lent::pins::BUFFER;
 use crate::lent::references::{self, FRAME, HANDLE};
 use crate::lent::rows::{LINE, THREAD};

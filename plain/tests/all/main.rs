@@ -8,6 +8,7 @@ mod facts;
 mod foreign;
 mod foreign_classes;
 mod foreign_maker;
+mod indexed;
 mod leaks;
 mod lent;
 mod lines;

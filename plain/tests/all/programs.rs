@@ -266,5 +266,5 @@ fn measure_tells_the_time_a_line_takes() {
         printed.starts_with("3 lines, 16 bytes\nreader "),
         "{printed}"
     );
-    assert_eq!(printed.matches(" ns/line\n").count(), 2, "{printed}");
+    assert_eq!(printed.matches(" ns/line\n").count(), 3, "{printed}");
 }
