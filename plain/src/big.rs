@@ -1,141 +1,179 @@
-//! The maker of big traces to measure judges on: every line accepted, some condemned.
+//! Big traces to measure judges on, in kinds: every line accepted, some condemned.
 
-use crate::class::{CLASS, FIRST_DECLARED, OBJECT};
-use crate::facts::*;
-use crate::indexed::Indexes;
+mod accepted;
+mod balanced;
+mod recorded;
+pub mod slot;
+
 use crate::judge::Judge;
-use crate::lent::book::Top;
-use crate::lent::lookup::{Buffers, Handles};
 use crate::limits::*;
-use crate::line::{self, Event};
-use crate::random::Random;
+use accepted::Accepted;
+use balanced::Balance;
 use std::io::{self, Write};
 
-const EXCEPTION_CLEAR: u32 = 17;
-const NEW_GLOBAL_REF: u32 = 21;
-const NEW_LOCAL_REF: u32 = 25;
-const NEW_WEAK_GLOBAL_REF: u32 = 226;
-/// The family of GetPrimitiveArrayCritical.
-const CRITICAL_ARRAY: Family = Family(FIRST_CRITICAL as u8);
-
-/// What a native that is never left asks for by 26.
-const ASKED: i32 = 400;
-
-/// Functions that use handles and make nothing.
-const USES: [u32; 12] = [24, 32, 40, 50, 70, 80, 97, 104, 108, 154, 164, 171];
-/// Of such functions those that take a class.
-const CLASS_USES: [u32; 12] = [14, 32, 33, 70, 80, 94, 113, 120, 141, 144, 150, 216];
-
-/// A kind of big trace; chances are in percent.
+/// A kind of big trace, and the reference rows it takes; all take the pin rows that the program lends.
 #[derive(Clone, Copy, Debug)]
 pub struct Kind {
     pub name: &'static str,
-    threads: u32,
-    /// The most open items of a thread.
-    deepest: usize,
-    /// A native is entered in an open call.
-    nested: u32,
-    /// A native returns rather than calls.
-    left: u32,
-    /// A call uses handles rather than making or ending one.
-    used: u32,
-    /// The alive handles about which makes and deletes keep balance.
-    alive: usize,
-    /// The outstanding buffers about which gets and releases keep balance.
-    outstanding: usize,
-    /// Where it is not 0, handles come from N alone, and each call judges one by a chain of so many classes.
-    chain: usize,
+    pub reference_rows: usize,
+    manner: Manner,
 }
 
-pub const KINDS: [Kind; 6] = [
+#[derive(Clone, Copy, Debug)]
+enum Manner {
+    Balanced(Balance),
+    Recorded,
+}
+
+/// 2,000 handles alive.
+const STEADY: Balance = Balance {
+    threads: THREADS,
+    deepest: 2,
+    nested: 0,
+    left: 0,
+    used: 60,
+    pinned: 60,
+    alive: 2_000,
+    shared: 300,
+    filled: false,
+    slot: None,
+    outstanding: 0,
+    chain: 0,
+};
+
+pub const KINDS: [Kind; 10] = [
+    balanced("steady", STEADY),
+    balanced(
+        "threads",
+        Balance {
+            deepest: 6,
+            nested: 20,
+            left: 15,
+            alive: 400,
+            outstanding: 10,
+            ..STEADY
+        },
+    ),
+    balanced(
+        "nest",
+        Balance {
+            threads: 4,
+            deepest: MOST_ITEMS,
+            nested: 90,
+            left: 2,
+            used: 80,
+            alive: 600,
+            ..STEADY
+        },
+    ),
+    balanced(
+        "buffers",
+        Balance {
+            threads: 8,
+            used: 30,
+            alive: 200,
+            outstanding: 240,
+            ..STEADY
+        },
+    ),
+    balanced(
+        "uses",
+        Balance {
+            used: 97,
+            alive: 1_000,
+            ..STEADY
+        },
+    ),
+    balanced(
+        "classes",
+        Balance {
+            used: 100,
+            alive: 0,
+            chain: 50,
+            ..STEADY
+        },
+    ),
+    // Buffers got and released one by one.
+    balanced(
+        "turns",
+        Balance {
+            threads: 8,
+            used: 20,
+            pinned: 95,
+            alive: 64,
+            shared: 10,
+            outstanding: 4,
+            ..STEADY
+        },
+    ),
+    // As steady, where an index of the handles helps least.
+    balanced(
+        "oneslot",
+        Balance {
+            slot: Some(1),
+            ..STEADY
+        },
+    ),
     Kind {
-        name: "steady",
-        threads: THREADS,
-        deepest: 2,
-        nested: 0,
-        left: 0,
-        used: 60,
-        alive: 2_000,
-        outstanding: 0,
-        chain: 0,
+        reference_rows: 16_384,
+        ..balanced(
+            "crowd",
+            Balance {
+                alive: 16_000,
+                shared: 2_400,
+                filled: true,
+                ..STEADY
+            },
+        )
     },
     Kind {
-        name: "threads",
-        threads: THREADS,
-        deepest: 6,
-        nested: 20,
-        left: 15,
-        used: 60,
-        alive: 400,
-        outstanding: 10,
-        chain: 0,
-    },
-    Kind {
-        name: "nest",
-        threads: 4,
-        deepest: MOST_ITEMS,
-        nested: 90,
-        left: 2,
-        used: 80,
-        alive: 600,
-        outstanding: 0,
-        chain: 0,
-    },
-    Kind {
-        name: "buffers",
-        threads: 8,
-        deepest: 2,
-        nested: 0,
-        left: 0,
-        used: 30,
-        alive: 200,
-        outstanding: 240,
-        chain: 0,
-    },
-    Kind {
-        name: "uses",
-        threads: THREADS,
-        deepest: 2,
-        nested: 0,
-        left: 0,
-        used: 97,
-        alive: 1_000,
-        outstanding: 0,
-        chain: 0,
-    },
-    Kind {
-        name: "classes",
-        threads: THREADS,
-        deepest: 2,
-        nested: 0,
-        left: 0,
-        used: 100,
-        alive: 0,
-        outstanding: 0,
-        chain: 50,
+        name: "recorded",
+        reference_rows: REFERENCE_ROWS,
+        manner: Manner::Recorded,
     },
 ];
 
-pub fn kind(name: &str) -> Option<&'static Kind> {
-    KINDS.iter().find(|kind| kind.name == name)
+const fn balanced(name: &'static str, balance: Balance) -> Kind {
+    Kind {
+        name,
+        reference_rows: REFERENCE_ROWS,
+        manner: Manner::Balanced(balance),
+    }
+}
+
+/// As steady, with so many handles alive over four threads and hardly more rows than that; they are made first.
+fn alive(handles: usize) -> Kind {
+    let balance = Balance {
+        threads: 4,
+        alive: handles,
+        shared: handles * 15 / 100,
+        filled: true,
+        ..STEADY
+    };
+    let rows = handles + handles / 32 + 64;
+    Kind {
+        reference_rows: rows.next_multiple_of(64).min(MOST_ROOM),
+        ..balanced("alive", balance)
+    }
+}
+
+/// The kind of this name: one of `KINDS`, or `alive-N` for so many handles, 16 to 65,536.
+pub fn kind(name: &str) -> Option<Kind> {
+    if let Some(handles) = name.strip_prefix("alive-") {
+        let handles = handles.parse().ok()?;
+        return (16..=MOST_ROOM).contains(&handles).then(|| alive(handles));
+    }
+    KINDS.into_iter().find(|kind| kind.name == name)
 }
 
 /// Writes a trace of this kind and of so many lines, the last a Z; there must be one line at least.
 pub fn big(kind: &Kind, lines: usize, output: &mut impl Write) -> io::Result<()> {
-    let mut big = Big {
-        kind,
-        random: Random::new(lines as u64),
-        judge: Judge::indexed(REFERENCE_ROWS, PIN_ROWS),
-        threads: Default::default(),
-        declared: 0,
-        globals_and_weaks: Vec::new(),
-        buffers: Vec::new(),
-        output,
-    };
-    for _ in 1..lines {
-        big.line()?;
+    let judge = Judge::indexed(kind.reference_rows, PIN_ROWS);
+    let trace = Accepted::new(judge, output);
+    match &kind.manner {
+        Manner::Balanced(balance) => balanced::write(balance, trace, lines),
+        Manner::Recorded => recorded::write(trace, lines),
     }
-    big.put(Event::Z)
 }
 
 /// Writes so many lines that each open or close one native, without a Z, to try the most lines of a trace.
@@ -145,344 +183,4 @@ pub fn natives(lines: usize, output: &mut impl Write) -> io::Result<()> {
         writeln!(output, "{line}")?;
     }
     Ok(())
-}
-
-/// What the maker knows of one thread beside the judge.
-#[derive(Default)]
-struct Held {
-    /// The alive locals, those of inner natives last.
-    locals: Vec<Handle>,
-    /// How many of them a class was stated of.
-    stated: usize,
-    /// For each native, how many locals were alive before it.
-    before: Vec<usize>,
-    /// The critical buffers outstanding.
-    critical: Vec<Handle>,
-    /// On the way out of deep nesting.
-    rising: bool,
-}
-
-struct Big<'a, W: Write> {
-    kind: &'a Kind,
-    random: Random,
-    judge: Judge<Indexes>,
-    threads: [Held; THREADS as usize],
-    declared: usize,
-    globals_and_weaks: Vec<Handle>,
-    /// The outstanding buffers that are not critical, with their families.
-    buffers: Vec<(Family, Handle)>,
-    output: &'a mut W,
-}
-
-impl<W: Write> Big<'_, W> {
-    fn line(&mut self) -> io::Result<()> {
-        if self.declared < 2 * self.kind.chain {
-            return self.declare();
-        }
-        let thread = self.random.between(1, self.kind.threads);
-        let book = self.judge.tables().book;
-        let (depth, top) = (book.items(thread), book.top(thread));
-        let deepest = self.kind.deepest;
-        let held = self.held(thread);
-        held.rising = depth == deepest || held.rising && depth > 0;
-        let rising = held.rising && self.kind.nested > 0;
-        let nested = if rising { 0 } else { self.kind.nested };
-        let left = if rising { 60 } else { self.kind.left };
-        match top {
-            Top::Nothing => self.enter(thread),
-            Top::Native if self.random.percent(left) => self.leave(thread),
-            Top::Native if self.kind.chain > 0 => self.state_or_use(thread),
-            Top::Native => self.call(thread),
-            Top::Call { .. } if self.random.percent(nested) => self.enter(thread),
-            Top::Call { function, .. } => self.answer(thread, function),
-        }
-    }
-
-    /// Two chains of classes, the first below class and the other below object.
-    fn declare(&mut self) -> io::Result<()> {
-        let class = FIRST_DECLARED + self.declared as Class;
-        let superclass = match self.declared {
-            0 => CLASS,
-            first if first == self.kind.chain => OBJECT,
-            _ => class - 1,
-        };
-        self.declared += 1;
-        self.put(Event::K { class, superclass })
-    }
-
-    /// The next handle of the thread gets its class, the foot of the first chain, or for its last handle that of the other; then they are used.
-    fn state_or_use(&mut self, thread: u32) -> io::Result<()> {
-        let (chain, held) = (self.kind.chain as Class, self.held(thread));
-        let Some(&handle) = held.locals.get(held.stated) else {
-            return self.use_classes(thread);
-        };
-        held.stated += 1;
-        let is_last = held.stated == held.locals.len();
-        let foot = FIRST_DECLARED - 1 + chain;
-        let class = if is_last { foot + chain } else { foot };
-        self.put(Event::O {
-            thread,
-            handle,
-            class,
-        })
-    }
-
-    /// A call that takes a class, now and then with the handle that is none.
-    fn use_classes(&mut self, thread: u32) -> io::Result<()> {
-        let function = self.random.pick(&CLASS_USES);
-        let facts = known(function);
-        let (none, classes) = {
-            let locals = &self.threads[thread as usize - 1].locals;
-            let (none, classes) = locals.split_last().expect("handles of N");
-            (*none, classes.to_vec())
-        };
-        let places = [0, 1, 2].map(|index| match (facts.places[index], facts.classes[index]) {
-            (PlaceKind::Unused, _) => 0,
-            (PlaceKind::Identity, _) => self.number(0),
-            (_, Some(_)) if self.random.below(300) == 0 => none,
-            _ => self.random.pick(&classes),
-        });
-        self.put_call(thread, function, places, 0)
-    }
-
-    fn enter(&mut self, thread: u32) -> io::Result<()> {
-        let mut handles = [0; MOST_HANDLES];
-        let count = if self.kind.chain > 0 {
-            MOST_HANDLES
-        } else {
-            1 + self.random.below(3)
-        };
-        for index in 0..count {
-            handles[index] = self.fresh(thread, LOCAL, &handles);
-        }
-        let held = self.held(thread);
-        held.before.push(held.locals.len());
-        held.locals.extend(&handles[..count]);
-        self.put(Event::N {
-            thread,
-            env: env_of(thread),
-            count,
-            handles,
-        })
-    }
-
-    fn leave(&mut self, thread: u32) -> io::Result<()> {
-        let result = if self.random.percent(50) {
-            self.handle(thread)
-        } else {
-            0
-        };
-        let held = self.held(thread);
-        let before = held.before.pop().unwrap_or(0);
-        held.locals.truncate(before);
-        self.put(Event::X { thread, result })
-    }
-
-    fn call(&mut self, thread: u32) -> io::Result<()> {
-        let book = self.judge.tables().book;
-        let is_pending = book.is_pending(thread);
-        let capacity = book.capacity(thread, book.frames(thread));
-        if self.kind.nested == 0 && capacity < ASKED as Word {
-            return self.put_call(thread, ENSURE_LOCAL_CAPACITY, [0; 3], ASKED);
-        }
-        if is_pending && self.random.percent(80) {
-            return self.put_call(thread, EXCEPTION_CLEAR, [0; 3], 0);
-        }
-        if let Some(&buffer) = self.held(thread).critical.last() {
-            if self.random.percent(5) {
-                return self.use_handles(thread);
-            }
-            self.held(thread).critical.pop();
-            let places = [self.handle(thread), buffer, 0];
-            return self.put_call(thread, CRITICAL_ARRAY.release(), places, 0);
-        }
-        if self.random.percent(self.kind.used) {
-            self.use_handles(thread)
-        } else if self.kind.outstanding > 0 && self.random.percent(60) {
-            self.get_or_release(thread)
-        } else {
-            self.make_or_delete(thread)
-        }
-    }
-
-    fn use_handles(&mut self, thread: u32) -> io::Result<()> {
-        let function = self.random.pick(&USES);
-        let kinds = known(function).places;
-        let places = kinds.map(|kind| match kind {
-            PlaceKind::Unused => 0,
-            PlaceKind::Identity => self.number(0),
-            _ if self.random.below(300) == 0 => self.number(LOCAL),
-            _ => self.handle(thread),
-        });
-        self.put_call(thread, function, places, 0)
-    }
-
-    fn make_or_delete(&mut self, thread: u32) -> io::Result<()> {
-        let alive = self.judge.tables().references.used();
-        let spread = self.kind.alive / 100 + 1;
-        let few = self.held(thread).locals.len() < 4;
-        let makes = if few || alive + spread < self.kind.alive {
-            true
-        } else {
-            alive < self.kind.alive + spread && self.random.percent(50)
-        };
-        if makes {
-            let function = match self.random.below(25) {
-                0 | 1 if self.globals_and_weaks.len() < 300 => NEW_GLOBAL_REF,
-                2 if self.globals_and_weaks.len() < 300 => NEW_WEAK_GLOBAL_REF,
-                _ => NEW_LOCAL_REF,
-            };
-            let object = self.handle(thread);
-            return self.put_call(thread, function, [object, 0, 0], 0);
-        }
-        let deleted = self.remove_handle(thread);
-        let function = match deleted % 4 {
-            GLOBAL => DELETE_GLOBAL_REF,
-            WEAK => DELETE_WEAK_GLOBAL_REF,
-            _ => DELETE_LOCAL_REF,
-        };
-        self.put_call(thread, function, [deleted, 0, 0], 0)
-    }
-
-    fn get_or_release(&mut self, thread: u32) -> io::Result<()> {
-        let array = self.handle(thread);
-        let outstanding = self.judge.tables().pins.used();
-        if outstanding < PIN_ROWS - THREADS as usize && self.random.percent(4) {
-            return self.put_call(thread, CRITICAL_ARRAY.get(), [array, 0, 0], 0);
-        }
-        let gets = if outstanding + 10 < self.kind.outstanding {
-            true
-        } else {
-            outstanding < self.kind.outstanding && self.random.percent(50)
-        };
-        if gets || self.buffers.is_empty() {
-            let (get, _) = self.random.pick(&FAMILIES[..FIRST_CRITICAL]);
-            return self.put_call(thread, get, [array, 0, 0], 0);
-        }
-        let index = self.random.below(self.buffers.len());
-        let (family, buffer) = self.buffers.swap_remove(index);
-        self.put_call(thread, family.release(), [array, buffer, 0], 0)
-    }
-
-    fn answer(&mut self, thread: u32, function: u32) -> io::Result<()> {
-        let kind = known(function).result;
-        let tables = self.judge.tables();
-        let (rows_left, pins_left) = (tables.references.free(), tables.pins.free());
-        let result = match kind {
-            ResultKind::Local if rows_left > 0 => {
-                let handle = self.fresh(thread, LOCAL, &[]);
-                self.held(thread).locals.push(handle);
-                handle
-            }
-            ResultKind::Global | ResultKind::Weak if rows_left > 0 => {
-                let remainder = if kind == ResultKind::Global {
-                    GLOBAL
-                } else {
-                    WEAK
-                };
-                let handle = self.fresh(thread, remainder, &[]);
-                self.globals_and_weaks.push(handle);
-                handle
-            }
-            ResultKind::Buffer(family) if pins_left > 0 => {
-                let buffer = 1 + self.random.below(1 << 31) as Handle;
-                if family.is_critical() {
-                    self.held(thread).critical.push(buffer);
-                } else {
-                    self.buffers.push((family, buffer));
-                }
-                buffer
-            }
-            _ => 0,
-        };
-        let pending = self.kind.chain == 0 && self.random.below(300) == 0;
-        self.put(Event::R {
-            thread,
-            function,
-            result: result.into(),
-            pending: pending.into(),
-        })
-    }
-
-    fn put_call(
-        &mut self,
-        thread: u32,
-        function: u32,
-        places: [Handle; 3],
-        capacity: i32,
-    ) -> io::Result<()> {
-        let env = if self.random.below(1_000) == 0 {
-            env_of(thread) + 1
-        } else {
-            env_of(thread)
-        };
-        self.put(Event::C {
-            thread,
-            env,
-            function,
-            places,
-            capacity,
-        })
-    }
-
-    fn put(&mut self, event: Event) -> io::Result<()> {
-        let mut line = [0; MOST_BYTES + 1];
-        let length = line::write(&event, &mut line).expect("an event in range");
-        let line = &line[..length];
-        self.judge.step(line).expect("an accepted line");
-        self.output.write_all(line)
-    }
-
-    fn held(&mut self, thread: u32) -> &mut Held {
-        &mut self.threads[thread as usize - 1]
-    }
-
-    /// A handle the thread may use, or null if it has none.
-    fn handle(&mut self, thread: u32) -> Handle {
-        if self.random.percent(20) && !self.globals_and_weaks.is_empty() {
-            return self.random.pick(&self.globals_and_weaks);
-        }
-        let locals = &self.threads[thread as usize - 1].locals;
-        match locals.len() {
-            0 => 0,
-            alive => locals[self.random.below(alive)],
-        }
-    }
-
-    /// Takes out a handle for the thread to delete: a global or weak, or a local of its top native.
-    fn remove_handle(&mut self, thread: u32) -> Handle {
-        if self.random.percent(8) && !self.globals_and_weaks.is_empty() {
-            let index = self.random.below(self.globals_and_weaks.len());
-            return self.globals_and_weaks.swap_remove(index);
-        }
-        let held = &mut self.threads[thread as usize - 1];
-        let before = held.before.last().copied().unwrap_or(0);
-        match held.locals.len() - before {
-            0 => 0,
-            own => {
-                let index = before + self.random.below(own);
-                held.locals.swap_remove(index)
-            }
-        }
-    }
-
-    /// A handle not alive and not among those named.
-    fn fresh(&mut self, thread: u32, kind: Handle, named: &[Handle]) -> Handle {
-        loop {
-            let handle = self.number(kind);
-            let references = self.judge.tables().references;
-            if !named.contains(&handle) && !references.is_alive(thread, handle) {
-                return handle;
-            }
-        }
-    }
-
-    /// A nonzero number with this remainder by 4.
-    fn number(&mut self, remainder: Handle) -> Handle {
-        4 * Handle::from(self.random.between(1, (1 << 30) - 1)) + remainder
-    }
-}
-
-fn env_of(thread: u32) -> Handle {
-    0x7f00_0000 + 0x100 * Handle::from(thread)
 }

@@ -21,7 +21,7 @@ enum Wish {
         pin_rows: usize,
     },
     Big {
-        kind: &'static big::Kind,
+        kind: big::Kind,
         lines: usize,
     },
     Natives {
@@ -112,7 +112,7 @@ fn print(wish: Wish) -> io::Result<()> {
             reference_rows,
             pin_rows,
         } => output.write_all(&make(profile, seed, lines, reference_rows, pin_rows))?,
-        Wish::Big { kind, lines } => big(kind, lines, &mut output)?,
+        Wish::Big { kind, lines } => big(&kind, lines, &mut output)?,
         Wish::Natives { lines } => natives(lines, &mut output)?,
         Wish::Several(traces) => {
             for made in traces {
@@ -140,5 +140,5 @@ fn usage() {
     let profiles: Vec<&str> = profiles.map(|profile| profile.name).collect();
     eprintln!("profiles: {}", profiles.join(" "));
     let kinds: Vec<&str> = big::KINDS.iter().map(|kind| kind.name).collect();
-    eprintln!("kinds: {}", kinds.join(" "));
+    eprintln!("kinds: {} alive-N", kinds.join(" "));
 }

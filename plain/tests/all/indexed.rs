@@ -1,7 +1,7 @@
 //! The indexed judge gives the plain judge's reply to each line, and leaves what it leaves in every slice.
 
 use crate::common::{trace, TWO_EQUAL_TURNED};
-use plain::big::{big, KINDS};
+use plain::big::{big, kind, KINDS};
 use plain::judge::Judge;
 use plain::limits::{PIN_ROWS, REFERENCE_ROWS};
 use plain::make::{make, DENSE, PROFILES};
@@ -51,10 +51,11 @@ fn on_the_walk() {
 
 #[test]
 fn on_big_traces_of_each_kind() {
-    for kind in &KINDS {
+    let several = ["alive-16", "alive-256", "alive-4096"].map(|name| kind(name).unwrap());
+    for kind in KINDS.into_iter().chain(several) {
         let mut trace = Vec::new();
-        big(kind, 20_000, &mut trace).unwrap();
-        let accepted = follow(&trace, REFERENCE_ROWS, PIN_ROWS);
+        big(&kind, 20_000, &mut trace).unwrap();
+        let accepted = follow(&trace, kind.reference_rows, PIN_ROWS);
         assert_eq!(accepted, 20_000, "{}", kind.name);
     }
 }

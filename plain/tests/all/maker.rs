@@ -1,11 +1,15 @@
 //! The makers of traces and the shrinker.
 
 use crate::common::trace;
-use plain::big::{big, natives, KINDS};
+use plain::big::slot::slot_of;
+use plain::big::{big, kind, natives, Kind, KINDS};
 use plain::chosen::{candidates, chosen};
 use plain::coverage::Coverage;
 use plain::facts::FAMILIES;
+use plain::indexed::Indexes;
 use plain::judge::Judge;
+use plain::lent::lookup::{Buffers, Handles};
+use plain::lent::references::HANDLE;
 use plain::lent::rows::THREAD;
 use plain::limits::{PIN_ROWS, REFERENCE_ROWS};
 use plain::make::{make, profile, Made, PROFILES};
@@ -349,33 +353,97 @@ fn traces_run_long_before_they_are_refused() {
 
 #[test]
 fn big_traces_are_accepted_to_the_end_with_some_breaches() {
-    for kind in &KINDS {
+    let several = ["alive-16", "alive-1024"].map(|name| kind(name).unwrap());
+    for kind in KINDS.into_iter().chain(several) {
         for lines in [1, 2, 100, 30_000] {
-            let mut trace = Vec::new();
-            big(kind, lines, &mut trace).unwrap();
-            let report = String::from_utf8(report(&trace, REFERENCE_ROWS, PIN_ROWS)).unwrap();
+            let trace = big_trace(kind, lines);
+            let report = report(&trace, kind.reference_rows, PIN_ROWS);
+            let report = String::from_utf8(report).unwrap();
             let end: Vec<&str> = report.lines().last().unwrap().split('\t').collect();
             assert_eq!(end[..4], ["end", "closed", &lines.to_string(), "0"]);
             let found: usize = end[4].parse().unwrap();
             assert!(
                 lines < 30_000 || found > 10 && found * 50 < lines,
-                "{found}"
+                "{}: {found}",
+                kind.name
             );
         }
     }
 }
 
 #[test]
-fn the_steady_trace_keeps_about_2000_handles_alive_over_16_threads() {
+fn kinds_have_names() {
+    for other in KINDS {
+        assert_eq!(kind(other.name).unwrap().name, other.name);
+    }
+    for wrong in ["alive-", "alive-15", "alive-65537", "alive", "natives", ""] {
+        assert!(kind(wrong).is_none(), "{wrong}");
+    }
+}
+
+fn big_trace(kind: Kind, lines: usize) -> Vec<u8> {
     let mut trace = Vec::new();
-    big(&KINDS[0], 40_000, &mut trace).unwrap();
-    let mut judge = Judge::new(REFERENCE_ROWS, PIN_ROWS);
-    for line in trace.split_inclusive(|&byte| byte == b'\n') {
+    big(&kind, lines, &mut trace).unwrap();
+    trace
+}
+
+/// What is measured after each line of a big trace from the one of this number on.
+fn measured(
+    name: &str,
+    (first, lines): (usize, usize),
+    measure: impl Fn(&mut Judge<Indexes>) -> usize,
+) -> BTreeSet<usize> {
+    let kind = kind(name).unwrap();
+    let mut judge = Judge::indexed(kind.reference_rows, PIN_ROWS);
+    let mut measured = BTreeSet::new();
+    let trace = big_trace(kind, lines);
+    let trace = trace.split_inclusive(|&byte| byte == b'\n');
+    for (line, number) in trace.zip(1..) {
         judge.step(line).unwrap();
-        if judge.tables().book.lines() > 15_000 {
-            let alive = judge.tables().references.rows.used();
-            assert!((1_950..=2_048).contains(&alive), "{alive}");
+        if number >= first {
+            measured.insert(measure(&mut judge));
         }
+    }
+    measured
+}
+
+fn alive(judge: &mut Judge<Indexes>) -> usize {
+    judge.tables().references.used()
+}
+
+fn outstanding(judge: &mut Judge<Indexes>) -> usize {
+    judge.tables().pins.used()
+}
+
+#[test]
+fn big_traces_keep_as_many_handles_alive_as_they_are_to() {
+    for (name, lines, range) in [
+        ("steady", (15_000, 40_000), 1_950..=2_048),
+        ("oneslot", (15_000, 40_000), 1_950..=2_048),
+        ("crowd", (33_500, 60_000), 15_800..=16_200),
+        ("recorded", (200, 40_000), 20..=100),
+        ("alive-16", (200, 20_000), 14..=24),
+        ("alive-64", (200, 20_000), 60..=68),
+        ("alive-256", (700, 20_000), 250..=262),
+        ("alive-1024", (2_300, 20_000), 1_010..=1_038),
+        ("alive-4096", (8_700, 20_000), 4_050..=4_140),
+        ("alive-16384", (34_500, 60_000), 16_200..=16_570),
+        ("alive-65536", (135_500, 150_000), 64_800..=65_536),
+    ] {
+        let alive = measured(name, lines, alive);
+        let ends = [alive.first(), alive.last()].map(|end| *end.unwrap());
+        assert!(
+            ends.iter().all(|end| range.contains(end)),
+            "{name} {ends:?}"
+        );
+    }
+}
+
+#[test]
+fn the_steady_trace_has_locals_in_16_threads() {
+    let mut judge = Judge::new(REFERENCE_ROWS, PIN_ROWS);
+    for line in big_trace(KINDS[0], 40_000).split_inclusive(|&byte| byte == b'\n') {
+        judge.step(line).unwrap();
     }
     for thread in 1..=16 {
         let rows = judge.tables().references.rows;
@@ -385,21 +453,26 @@ fn the_steady_trace_keeps_about_2000_handles_alive_over_16_threads() {
 }
 
 #[test]
-fn the_nest_and_buffers_traces_are_deep_and_full() {
-    let most = |name, measure: fn(&mut Judge) -> usize| {
-        let kind = KINDS.iter().find(|kind| kind.name == name).unwrap();
-        let mut trace = Vec::new();
-        big(kind, 20_000, &mut trace).unwrap();
-        let mut judge = Judge::new(REFERENCE_ROWS, PIN_ROWS);
-        let lines = trace.split_inclusive(|&byte| byte == b'\n');
-        let measured = lines.map(|line| {
-            judge.step(line).unwrap();
-            measure(&mut judge)
-        });
-        measured.max().unwrap()
-    };
-    assert_eq!(most("nest", |judge| judge.tables().book.items(1)), 64);
-    assert!(most("buffers", |judge| judge.tables().pins.rows.used()) > 230);
+fn in_the_oneslot_trace_every_handle_has_the_same_slot() {
+    let mut judge = Judge::new(REFERENCE_ROWS, PIN_ROWS);
+    for line in big_trace(kind("oneslot").unwrap(), 30_000).split_inclusive(|&byte| byte == b'\n') {
+        judge.step(line).unwrap();
+    }
+    let rows = judge.tables().references.rows;
+    assert!(rows.used() > 1_900);
+    assert!(rows
+        .all_used()
+        .all(|row| slot_of(row[THREAD], row[HANDLE]) == 1));
+}
+
+#[test]
+fn the_nest_trace_is_deep_the_buffers_trace_full_and_the_turns_trace_not() {
+    let depths = measured("nest", (1, 20_000), |judge| judge.tables().book.items(1));
+    assert_eq!(depths.last(), Some(&64));
+    let buffers = measured("buffers", (1, 20_000), outstanding);
+    assert!(*buffers.last().unwrap() > 230);
+    let turns = measured("turns", (1, 20_000), outstanding);
+    assert!((2..=12).contains(turns.last().unwrap()), "{turns:?}");
 }
 
 #[test]
