@@ -2,6 +2,7 @@
 
 use crate::judge::Judge;
 use crate::lent::leaks::Leak;
+use crate::lent::lookup::Lookup;
 use crate::limits::MOST_BYTES;
 use crate::refusal::Refusal;
 use std::io::{self, BufWriter, ErrorKind, Read, Write};
@@ -26,7 +27,8 @@ pub fn report_and_leaks(input: &[u8], reference_rows: usize, pin_rows: usize) ->
 
 fn judged(mut input: &[u8], reference_rows: usize, pin_rows: usize) -> (Vec<u8>, Judge) {
     let mut output = Vec::new();
-    let judge = judge_input(&mut input, &mut output, reference_rows, pin_rows).expect(NEVER);
+    let judge = Judge::new(reference_rows, pin_rows);
+    let judge = judge_input(judge, &mut input, &mut output).expect(NEVER);
     (output, judge)
 }
 
@@ -40,17 +42,16 @@ pub fn write_leaks(leaks: &[Leak], output: &mut impl Write) -> io::Result<()> {
     output.flush()
 }
 
-/// Judges an input as it comes, writes its report and answers the judge as the accepted lines have left it.
+/// Judges an input as it comes by a judge from a start, writes its report and answers the judge as the accepted lines have left it.
 ///
 /// A line is cut off after each LF; a rest without one is a line too. The first refusal ends the judgement.
-pub fn judge_input(
+pub fn judge_input<L: Lookup>(
+    judge: Judge<L>,
     input: &mut impl Read,
     output: &mut impl Write,
-    reference_rows: usize,
-    pin_rows: usize,
-) -> io::Result<Judge> {
+) -> io::Result<Judge<L>> {
     let mut run = Run {
-        judge: Judge::new(reference_rows, pin_rows),
+        judge,
         refusal: 0,
         printed: 0,
         output: BufWriter::with_capacity(BUFFER_BYTES, output),
@@ -85,15 +86,15 @@ pub fn judge_input(
     }
 }
 
-struct Run<W: Write> {
-    judge: Judge,
+struct Run<L, W: Write> {
+    judge: Judge<L>,
     /// 0 as long as no line is refused.
     refusal: Refusal,
     printed: u64,
     output: BufWriter<W>,
 }
 
-impl<W: Write> Run<W> {
+impl<L: Lookup, W: Write> Run<L, W> {
     fn line(&mut self, line: &[u8]) -> io::Result<()> {
         match self.judge.step(line) {
             Ok(findings) => {
@@ -111,7 +112,7 @@ impl<W: Write> Run<W> {
         Ok(())
     }
 
-    fn end(mut self) -> io::Result<Judge> {
+    fn end(mut self) -> io::Result<Judge<L>> {
         let book = self.judge.tables().book;
         let state = if self.refusal != 0 {
             "refused"

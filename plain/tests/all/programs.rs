@@ -88,6 +88,19 @@ fn the_program_lists_the_leaks_where_it_is_asked_to_and_the_trace_has_z() {
     assert_eq!(run(PLAIN, &["--leak"]).status.code(), Some(2));
 }
 
+#[test]
+fn the_program_prints_the_same_where_it_finds_rows_by_indexes() {
+    let leaks = profile("leaks").unwrap();
+    for seed in 0..5 {
+        let made = make(leaks, seed, 150, 40, 12);
+        let rooms = ["--leaks", "--rooms", "40", "12"];
+        let indexed = [&["--indexed"], &rooms[..]].concat();
+        assert_eq!(judge(&indexed, &made), judge(&rooms, &made));
+    }
+    let input = trace(&["N 1 100 5", "Z"]);
+    assert_eq!(judge(&["--indexed"], &input), judge(&[], &input));
+}
+
 /// What the program prints of an input it may leave unread after a refusal.
 fn run_on(input: &[u8]) -> Vec<u8> {
     let mut child = Command::new(PLAIN)
