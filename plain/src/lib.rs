@@ -1,7 +1,7 @@
 //! An independent judge of JNI traces in plain Rust, and the trace makers and tools that compare another judge with it.
 //!
 //! The programs: `plain` judges standard input, `traces` prints made traces, `compare` sets another judge program
-//! beside the plain one, `measure` times the reader and the judge, `facts` prints the facts of the functions.
+//! beside the plain one, `measure` times the reader and both judges, `facts` prints the facts of the functions.
 
 pub mod big;
 pub mod called;

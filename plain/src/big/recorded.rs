@@ -312,9 +312,10 @@ impl Recorder {
 
     fn open(&mut self, function: u32, places: [Handle; 3]) {
         let thread = self.thread;
-        let capacity = match known(function).uses_capacity {
-            true => ASKED,
-            false => 0,
+        let capacity = if known(function).uses_capacity {
+            ASKED
+        } else {
+            0
         };
         self.coming().push_back(Event::C {
             thread,

@@ -1,6 +1,6 @@
 //! The slot of a handle in the proved judge's index, and handles that all have the same one.
 
-use crate::facts::{LOCAL, WEAK};
+use crate::facts::WEAK;
 use crate::limits::{Handle, Number, THREADS};
 
 const MULTIPLIER: u64 = 0x9e37_79b9_7f4a_7c15;
@@ -30,7 +30,7 @@ impl Slots {
     pub fn handle(&mut self, owner: Number, kind: Handle, index: usize) -> Handle {
         let found = &mut self.found[owner as usize][kind as usize];
         while found.len() <= index {
-            let first = found.last().map_or(LOCAL * 4 + kind, |last| last + 4);
+            let first = found.last().map_or(4 + kind, |last| last + 4);
             let mut next = (first..=Handle::MAX).step_by(4);
             let next = next.find(|&handle| slot_of(owner, handle) == self.slot);
             found.push(next.expect("a handle of the slot"));

@@ -166,8 +166,7 @@ impl Handles for IndexedHandles<'_> {
         for frame in first..=self.index.highest[thread as usize] {
             self.end_frame(thread, frame);
         }
-        let highest = &mut self.index.highest[thread as usize];
-        *highest = (*highest).min(first - 1);
+        self.index.highest[thread as usize] = first - 1;
     }
 
     fn locals_alive_in(&self, thread: u32, frame: usize) -> usize {
