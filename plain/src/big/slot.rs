@@ -3,12 +3,10 @@
 use crate::facts::WEAK;
 use crate::limits::{Handle, Number, THREADS};
 
-const MULTIPLIER: u64 = 0x9e37_79b9_7f4a_7c15;
-
 /// The slot where the row of a handle is looked for first; the thread is that of a local, or 0.
 pub fn slot_of(thread: u32, handle: u32) -> usize {
-    let turned = u64::from(handle).wrapping_mul(MULTIPLIER) ^ (u64::from(thread) << 27);
-    (turned.wrapping_mul(MULTIPLIER) >> 49) as usize
+    let spread = u64::from(handle) * 2_654_435_769 + u64::from(thread) * 1_597_334_677;
+    (spread / 131_072 % 32_768) as usize
 }
 
 /// The handles of one slot, found by trying numbers in order.
