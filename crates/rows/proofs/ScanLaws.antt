@@ -68,7 +68,7 @@ lowest-le p (suc n) = go (lowest-le (λ k. p (suc k)) n) (p zero)
     go ih false = suc-le-suc ih
 
 -- what is the lowest is so by what it says
-lowest-is : (p : ℕ → Bool) (n r : ℕ) → r ≤ n → ((k : ℕ) → k < r → p k ≡ false) → (r < n → p r ≡ true) → lowest p n ≡ r
+pub lowest-is : (p : ℕ → Bool) (n r : ℕ) → r ≤ n → ((k : ℕ) → k < r → p k ≡ false) → (r < n → p r ≡ true) → lowest p n ≡ r
 unfolding lowest
 lowest-is p zero zero h b t = refl
 lowest-is p zero (suc r) h b t = absurd (not-suc-le-zero h)

@@ -185,7 +185,7 @@ module _ {A : Type 0} (L : Layout A) where
   pub ended-end : (q : A → Bool) (T S : Table) (a i m : ℕ) → S ≡ ended-from L q T a i → i ≤ m → m ≤ i → S ≡ ended-from L q T a m
   ended-end q T S a i m e l g = let x : i ≡ m = omega arith in cc
 
-  ended-none : (q : A → Bool) (T : Table) (a m : ℕ) → ((i : ℕ) → i < m → passes L q T (a + i) ≡ false) → ended-from L q T a m ≡ T
+  pub ended-none : (q : A → Bool) (T : Table) (a m : ℕ) → ((i : ℕ) → i < m → passes L q T (a + i) ≡ false) → ended-from L q T a m ≡ T
   unfolding ended-from
   ended-none q T a zero h = refl
   ended-none q T a (suc m) h =

@@ -97,7 +97,7 @@ module _ {A : Type 0} (L : Layout A) where
   pub view-past : (T : Table) (r : ℕ) → room L T ≤ r → getD (view L T) r none ≡ none
   view-past T r h = List·getD-eq-default (view L T) none (omega (arith, length-view T))
 
-  used-slot : (T : Table) (k : ℕ) → used (T .marks) k ≡ holding (λ x. true) (slot L T k)
+  pub used-slot : (T : Table) (k : ℕ) → used (T .marks) k ≡ holding (λ x. true) (slot L T k)
   unfolding slot
   used-slot T k = go (used (T .marks) k)
     where
@@ -105,7 +105,7 @@ module _ {A : Type 0} (L : Layout A) where
       go true = refl
       go false = refl
 
-  free-slot : (T : Table) (k : ℕ) → free (T .marks) k ≡ empty (slot L T k)
+  pub free-slot : (T : Table) (k : ℕ) → free (T .marks) k ≡ empty (slot L T k)
   unfolding free slot
   free-slot T k = go (used (T .marks) k)
     where
@@ -113,7 +113,7 @@ module _ {A : Type 0} (L : Layout A) where
       go true = refl
       go false = refl
 
-  passes-slot : (q : A → Bool) (T : Table) (k : ℕ) → passes L q T k ≡ holding q (slot L T k)
+  pub passes-slot : (q : A → Bool) (T : Table) (k : ℕ) → passes L q T k ≡ holding q (slot L T k)
   unfolding passes matches slot
   passes-slot q T k = go (used (T .marks) k) (q (row-at L (T .rows) k)) refl
     where
@@ -241,10 +241,10 @@ module _ {A : Type 0} (L : Layout A) where
       view-ended T (found L q T) ∙ ap (λ (r : ℕ). set (view L T) r none) (found-view q T) ∙ sym (wipe-first-is-set q (view L T))
 
   -- rows ended one after another: below n each slot that passes is free, the others are as they were
-  record Ended (q : A → Bool) (T S : Table) (n : ℕ) : Type 0 where
-    lengths : Same-lengths S T
-    below : (k : ℕ) → k < n → slot L S k ≡ freed q (slot L T k)
-    above : (k : ℕ) → n ≤ k → slot L S k ≡ slot L T k
+  pub record Ended (q : A → Bool) (T S : Table) (n : ℕ) : Type 0 where
+    pub lengths : Same-lengths S T
+    pub below : (k : ℕ) → k < n → slot L S k ≡ freed q (slot L T k)
+    pub above : (k : ℕ) → n ≤ k → slot L S k ≡ slot L T k
 
   freed-by : (q : A → Bool) (s : Option A) → freed q s ≡ (if holding q s then none else s)
   freed-by q none = refl
@@ -277,7 +277,7 @@ module _ {A : Type 0} (L : Layout A) where
               ∙ ap (slot L T) y ∙ ap (λ (b : Bool). if b then none else slot L T n) x ∙ sym (freed-by q (slot L T n)) ∙ ap (λ (m : ℕ). freed q (slot L T m)) (sym y)
           at k (no y) l = e .below k (omega arith)
 
-  ended-below : (q : A → Bool) (T : Table) (n : ℕ) → n ≤ room L T → Ended q T (ended-from L q T 0 n) n
+  pub ended-below : (q : A → Bool) (T : Table) (n : ℕ) → n ≤ room L T → Ended q T (ended-from L q T 0 n) n
   unfolding ended-from
   ended-below q T zero h = record { lengths = record { rows = refl; marks = refl }; below = λ k l. absurd (omega arith); above = λ k l. refl }
   ended-below q T (suc n) h =

@@ -1,0 +1,15 @@
+-- `GuideLaws` and `PinGuideLaws` have what a caller cites: what a guide tells of the rows, and that it stays one. The others serve the proofs of this crate.
+mod Lowest
+mod WordLaws
+mod TallyLaws
+mod Changes
+mod ListingLaws
+mod NamedLaws
+mod MaskLaws
+mod Kept
+pub mod GuideLaws
+pub mod PinGuideLaws
+mod Steps
+mod RowSteps
+mod ReferenceSteps
+mod PinSteps

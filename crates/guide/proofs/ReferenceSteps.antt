@@ -1,0 +1,94 @@
+-- The guide of reference rows, step by step of the code. Assumes nothing.
+use mathlib.Core.Path.{_≡_, refl, ap, _∙_}
+use mathlib.Core.Bool.{Bool, true, false, _&&_, false≢true}
+use mathlib.Core.List.{List}
+use mathlib.Core.Option.{none, some}
+use Prim.Native.Nat.{ℕ, _+_, _-_, _*_, _/_, _%_, _≤_, _<_}
+use native.Mathlib.Numerals.{add-one}
+use native.Mathlib.Omega.{arith}
+use lib.Bits.{bitOr}
+use lib.Dec.{leb}
+use lib.ListN.{getD}
+use borrow.Author.Tests.{leb-true}
+use Rattle.rows.specs.declared.references.Reference.{Reference}
+use Rattle.rows.specs.Table.{Table, room}
+use Rattle.rows.specs.View.{view}
+use Rattle.rows.specs.References.{references}
+use Rattle.guide.specs.Listing.{with-listed}
+use Rattle.guide.specs.Tallies.{more-at, less-at}
+use Rattle.guide.specs.Masks.{with-bit, all-bits, no-bits}
+use Rattle.guide.specs.References.{places, others, cells, masks, spread, first-of, second-of, first, second, cell-of, noted, forgotten, shown-from, none-from, filled}
+
+-- ---- places and cells
+
+pub first-is : (t h d : ℕ) → d ≡ spread t h → d / 131072 % 32768 ≡ first-of t h
+unfolding first-of
+first-is t h d e = rw e
+
+pub second-is : (t h d : ℕ) → d ≡ spread t h → d / 4 % 32768 ≡ second-of t h
+unfolding second-of
+second-is t h d e = rw e
+
+pub cell-own : (t f : ℕ) → (leb t 16 && leb f 64) ≡ true → t * 65 + f ≡ cell-of t f
+unfolding cell-of
+cell-own t f h = rw h
+
+pub cell-low : (t f : ℕ) → (leb t 16 && leb f 64) ≡ true → t * 65 + f < cells
+cell-low t f h = go (leb t 16) (leb f 64) refl refl h
+  where
+    go : (a b : Bool) → leb t 16 ≡ a → leb f 64 ≡ b → (a && b) ≡ true → t * 65 + f < cells
+    go true true ea eb e = omega (arith, leb-true t 16 ea, leb-true f 64 eb)
+    go true false ea eb e = absurd (false≢true e)
+    go false b ea eb e = absurd (false≢true e)
+
+pub cell-other : (t f : ℕ) → (leb t 16 && leb f 64) ≡ false → others ≡ cell-of t f
+unfolding cell-of
+cell-other t f h = rw h
+
+-- ---- a row noted, and forgotten
+
+module _ (T : Table) (G : List ℕ) (r : ℕ) where
+  pub noted-row : (x : Reference) (i j k : ℕ) (H I J : List ℕ) → getD (view references T) r none ≡ some x → i ≡ first x → j ≡ second x
+      → H ≡ with-listed references first second T G i j r → k ≡ cell-of (x .thread) (x .frame) → I ≡ more-at H (places + k) → J ≡ with-bit I (masks + k) r → J ≡ noted T G r
+  unfolding noted
+  noted-row x i j k H I J e ei ej eh ek ew eb = eb ∙ rw (e, ew, eh, ei, ej, ek)
+
+  pub noted-none : getD (view references T) r none ≡ none → G ≡ noted T G r
+  unfolding noted
+  noted-none e = rw e
+
+  pub forgotten-row : (x : Reference) (k : ℕ) (H : List ℕ) → getD (view references T) r none ≡ some x → k ≡ cell-of (x .thread) (x .frame) → H ≡ less-at G (places + k)
+      → H ≡ forgotten T G r
+  unfolding forgotten
+  forgotten-row x k H e ek eh = eh ∙ rw (e, ek)
+
+  pub forgotten-none : getD (view references T) r none ≡ none → G ≡ forgotten T G r
+  unfolding forgotten
+  forgotten-none e = rw e
+
+-- ---- the frames from f on
+
+module _ (G : List ℕ) (t f k n i : ℕ) (ek : k ≡ cell-of t f) (en : n ≡ 65 - f) (le : i ≤ n) (ge : n ≤ i) where
+  all-frames : i ≡ 65 - f
+  all-frames = omega (arith, en, le, ge)
+
+  pub shown-is : (m o : ℕ) → m ≡ all-bits G (masks + k) i → o ≡ getD G (masks + others) 0 → bitOr o m ≡ shown-from G t f
+  unfolding shown-from
+  shown-is m o em eo = rw (em, eo, ek, all-frames)
+
+  pub none-is : (H : List ℕ) → H ≡ no-bits G (masks + k) i → H ≡ none-from G t f
+  unfolding none-from
+  none-is H e = e ∙ rw (ek, all-frames)
+
+-- ---- all rows
+
+pub filled-first : (T : Table) (G : List ℕ) → G ≡ filled T G 0
+unfolding filled
+filled-first T G = refl
+
+pub filled-more : (T : Table) (G H I : List ℕ) (r : ℕ) → H ≡ filled T G r → I ≡ noted T H r → I ≡ filled T G (r + 1)
+unfolding filled
+filled-more T G H I r e f = f ∙ rw (add-one, e)
+
+pub filled-all : (T : Table) (G H : List ℕ) (r n : ℕ) → n ≡ room references T → r ≤ n → n ≤ r → H ≡ filled T G r → H ≡ filled T G (room references T)
+filled-all T G H r n e l g h = h ∙ ap (filled T G) (omega (arith, e, l, g))

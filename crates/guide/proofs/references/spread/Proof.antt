@@ -1,0 +1,13 @@
+-- `guide::references::spread` meets its contract. Assumes nothing.
+use mathlib.Core.Path.{refl}
+use borrow.Author.Needs.{needs}
+use Rattle.guide.specs.References.{spread}
+use Rattle.guide.proofs.references.spread.Statement.{statement}
+use Rattle.guide.proofs.references.spread.Tie as tie
+
+pub spread-spec : {M : Type 1} → statement M
+spread-spec = tie.close (tie.spec
+    (λ c. search needs)
+    (λ c. search needs)
+    (λ c. search needs)
+    (λ c. unfold spread in refl))

@@ -1,0 +1,7 @@
+-- computed: run::run_lines
+pub mod Words
+pub mod Listing
+pub mod Tallies
+pub mod Masks
+pub mod References
+pub mod Pins

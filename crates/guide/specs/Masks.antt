@@ -1,0 +1,27 @@
+-- Of each cell the words of marks where its rows stand, a bit for each; more bits may be set. Assumes nothing.
+use mathlib.Core.Path.{_≡_}
+use mathlib.Core.Bool.{true}
+use mathlib.Core.List.{List}
+use mathlib.Core.Option.{Option, some}
+use Prim.Native.Nat.{ℕ, zero, suc, _+_, _/_, _%_, _^_, _<_}
+use lib.Bits.{bitOr}
+use lib.ListN.{getD, set}
+use Rattle.rows.specs.Marks.{word, bit}
+
+-- the bit of row r set at k; of a great room a bit stands for several words of marks
+unfoldable pub with-bit : List ℕ → ℕ → ℕ → List ℕ
+with-bit G k r = set G k (bitOr (getD G k 0) (2 ^ (r / word % word)))
+
+-- the bits of n words from k on, together, and none in them
+unfoldable pub all-bits : List ℕ → ℕ → ℕ → ℕ
+all-bits G k zero = 0
+all-bits G k (suc n) = bitOr (all-bits G k n) (getD G (k + n) 0)
+
+unfoldable pub no-bits : List ℕ → ℕ → ℕ → List ℕ
+no-bits G k zero = G
+no-bits G k (suc n) = set (no-bits G k n) (k + n) 0
+
+module _ {A : Type 0} (cell : A → ℕ) where
+  -- one-sided: of the first n rows, each that is used has its bit set
+  abbrev pub Shown : ℕ → (ℕ → Option A) → ℕ → List ℕ → Type 0
+  Shown from S n G = (r : ℕ) (x : A) → r < n → S r ≡ some x → bit (getD G (from + cell x) 0) (r / word % word) ≡ true

@@ -1,0 +1,271 @@
+// The guide of reference rows: where the handle of a thread is listed, and how many locals each frame has.
+use crate::word::above;
+use crate::word::is_full;
+use crate::word::is_named;
+use crate::word::less;
+use crate::word::lesser;
+use crate::word::more;
+use crate::word::name_a;
+use crate::word::name_b;
+use crate::word::name_c;
+use crate::word::number_at;
+use crate::word::put_word;
+use crate::word::word_at;
+use crate::word::word_of;
+use rows::Number;
+use rows::WORD;
+use rows::references::Held;
+use rows::references::Reference;
+ghost use mathlib.Core.Path.{_≡_};
+ghost use mathlib.Core.Bool.{_&&_};
+ghost use Prim.Native.Nat.{_+_, _-_, _<_, _≤_, min};
+ghost use lib.ListN.{getD};
+ghost use mathlib.Core.Option.{none};
+ghost use Rattle.words.specs.Choice.{if_then_else_};
+ghost use Rattle.rows.specs.Scan.{lowest};
+ghost use Rattle.rows.specs.Slots.{holding};
+ghost use Rattle.rows.specs.Table.{table, room};
+ghost use Rattle.rows.specs.View.{slot, view};
+ghost use Rattle.rows.specs.References.{references, is-handle};
+ghost use Rattle.guide.specs.Words.{lane, named};
+ghost use Rattle.guide.specs.Listing.{wants, with-row, with-listed};
+ghost use Rattle.guide.specs.Masks.{with-bit};
+ghost use Rattle.guide.specs.References.{places, cells, spread, first-of, second-of, first, second, cell-of, found-in, noted, forgotten, shown-from, none-from, filled};
+
+// So many words are a guide.
+pub const SIZE: usize = 34980;
+
+const PLACES: u64 = 32768;
+
+// A number for each of 65 frames of 17 threads, and one for all others; then a word for each, of the words of marks where its rows stand.
+const COUNTS: usize = 32768;
+
+const MASKS: usize = 33874;
+
+const FRAMES: usize = 65;
+
+const OTHERS: usize = 1105;
+
+const HALF: u64 = 4294967296;
+
+fn spread(t: Number, h: Number) -> u64
+    ensures { λ r. ⌜ r ≡ spread t h ⌝ }
+{
+    h as u64 % HALF * 2654435769 + t as u64 % HALF * 1597334677
+}
+
+fn first_of(t: Number, h: Number) -> usize
+    ensures { λ r. ⌜ r ≡ first-of t h ⌝ }
+{
+    (spread(t, h) / 131072 % PLACES) as usize
+}
+
+fn second_of(t: Number, h: Number) -> usize
+    ensures { λ r. ⌜ r ≡ second-of t h ⌝ }
+{
+    (spread(t, h) / 4 % PLACES) as usize
+}
+
+// Row r where it is that of handle h in thread t, else n.
+fn row_or(rows: &[Number], marks: &[u64], r: usize, n: usize, t: Number, h: Number) -> usize
+    ensures { λ k. ⌜ k ≡ (if holding (is-handle t h) (getD (view references (table (now (rows .entry)) (now (marks .entry)))) r none) then r else n) ⌝ }
+{
+    let held = rows::references::slot(rows, marks, r);
+    match held {
+        Held::Row(x) => {
+            if (x.handle == h) & (x.thread == t) {
+                r
+            } else {
+                n
+            }
+        }
+        Held::Nothing => n,
+    }
+}
+
+// The lowest such row that word w names, or the room.
+fn named_row(rows: &[Number], marks: &[u64], w: u64, t: Number, h: Number) -> usize
+    ensures { λ r. ⌜ r ≡ lowest (λ k. holding (is-handle t h) (slot references (table (now (rows .entry)) (now (marks .entry))) k) && named w k) (room references (table (now (rows .entry)) (now (marks .entry)))) ⌝ }
+{
+    let n = rows::references::room(rows, marks);
+    let a = row_or(rows, marks, name_a(w), n, t, h);
+    let b = row_or(rows, marks, name_b(w), n, t, h);
+    let c = row_or(rows, marks, name_c(w), n, t, h);
+    lesser(lesser(a, b), c)
+}
+
+// The lowest used row of handle h in thread t, of those that the guide lists for it, or the room.
+pub fn find(rows: &[Number], marks: &[u64], guide: &[u64], t: Number, h: Number) -> usize
+    ensures { λ r. ⌜ r ≡ found-in (table (now (rows .entry)) (now (marks .entry))) (now (guide .entry)) t h ⌝ }
+{
+    if guide.len() == 0 {
+        return rows::references::find(rows, marks, t, h);
+    }
+    let v = word_at(guide, first_of(t, h));
+    let r = named_row(rows, marks, v, t, h);
+    if !is_full(v) {
+        return r;
+    }
+    let w = word_at(guide, second_of(t, h));
+    let s = named_row(rows, marks, w, t, h);
+    if !is_full(w) {
+        return lesser(r, s);
+    }
+    rows::references::find(rows, marks, t, h)
+}
+
+// Row r is used, and s is one of its two places.
+fn wants(rows: &[Number], marks: &[u64], s: usize, r: usize) -> bool
+    ensures { λ b. ⌜ b ≡ wants references first second (table (now (rows .entry)) (now (marks .entry))) s r ⌝ }
+{
+    let held = rows::references::slot(rows, marks, r);
+    match held {
+        Held::Row(x) => (first_of(x.thread, x.handle) == s) | (second_of(x.thread, x.handle) == s),
+        Held::Nothing => false,
+    }
+}
+
+// Word w of place s with row r instead of one that does not want it; where all three do, w is full.
+fn with_row(rows: &[Number], marks: &[u64], s: usize, w: u64, r: usize) -> u64
+    requires { ⌜ r < lane ⌝ }
+    ensures { λ v. ⌜ v ≡ with-row references first second (table (now (rows .entry)) (now (marks .entry))) s w r ⌝ }
+{
+    let a = name_a(w);
+    let b = name_b(w);
+    let c = name_c(w);
+    if !wants(rows, marks, s, a) {
+        return word_of(r, b, c, above(w));
+    }
+    if !wants(rows, marks, s, b) {
+        return word_of(a, r, c, above(w));
+    }
+    if !wants(rows, marks, s, c) {
+        return word_of(a, b, r, above(w));
+    }
+    word_of(a, b, c, 1)
+}
+
+// Row r listed at place a, or at b where a is full.
+fn list(rows: &[Number], marks: &[u64], guide: &mut [u64], a: usize, b: usize, r: usize)
+    requires { ⌜ r < lane ⌝ }
+    ensures { λ _. ⌜ now (guide .exit) ≡ with-listed references first second (table (now (rows .entry)) (now (marks .entry))) (now (guide .entry)) a b r ⌝ }
+{
+    let v = with_row(rows, marks, a, word_at(guide, a), r);
+    put_word(guide, a, v);
+    if is_named(v, r) {
+        return;
+    }
+    let w = with_row(rows, marks, b, word_at(guide, b), r);
+    put_word(guide, b, w);
+}
+
+// The cell of frame f of thread t.
+fn cell_of(t: Number, f: Number) -> usize
+    ensures { λ k. ⌜ (k ≡ cell-of t f) × (k < cells) ⌝ }
+{
+    if (t <= 16) & (f <= 64) {
+        return t as usize * FRAMES + f as usize;
+    }
+    OTHERS
+}
+
+// The bit of row r, set in the word at k.
+fn set_bit(guide: &mut [u64], k: usize, r: usize)
+    ensures { λ _. ⌜ now (guide .exit) ≡ with-bit (now (guide .entry)) k r ⌝ }
+{
+    if guide.len() <= k {
+        return;
+    }
+    guide[k] = guide[k] | (1 << (r / WORD % WORD));
+}
+
+// Row r, where it is used, is in the guide: listed, counted and shown.
+pub fn note(rows: &[Number], marks: &[u64], guide: &mut [u64], r: usize)
+    ensures { λ _. ⌜ now (guide .exit) ≡ noted (table (now (rows .entry)) (now (marks .entry))) (now (guide .entry)) r ⌝ }
+{
+    let held = rows::references::slot(rows, marks, r);
+    match held {
+        Held::Row(x) => {
+            list(
+                rows,
+                marks,
+                guide,
+                first_of(x.thread, x.handle),
+                second_of(x.thread, x.handle),
+                r,
+            );
+            let k = cell_of(x.thread, x.frame);
+            more(guide, COUNTS + k);
+            set_bit(guide, MASKS + k, r);
+        }
+        Held::Nothing => {}
+    }
+}
+
+// Row r, where it is used, is no longer counted. Where it was listed it is found no more once it has ended.
+pub fn forget(rows: &[Number], marks: &[u64], guide: &mut [u64], r: usize)
+    ensures { λ _. ⌜ now (guide .exit) ≡ forgotten (table (now (rows .entry)) (now (marks .entry))) (now (guide .entry)) r ⌝ }
+{
+    let held = rows::references::slot(rows, marks, r);
+    match held {
+        Held::Row(x) => less(guide, COUNTS + cell_of(x.thread, x.frame)),
+        Held::Nothing => {}
+    }
+}
+
+// How many rows of thread t and frame f are counted.
+pub fn held(guide: &[u64], t: Number, f: Number) -> u64
+    ensures { λ n. ⌜ n ≡ getD (now (guide .entry)) (places + cell-of t f) 0 ⌝ }
+{
+    number_at(guide, COUNTS + cell_of(t, f))
+}
+
+// The words of marks where rows of thread t and frame f or above may stand: a bit for each.
+pub fn shown_from(guide: &[u64], t: Number, f: Number) -> u64
+    ensures { λ m. ⌜ m ≡ shown-from (now (guide .entry)) t f ⌝ }
+{
+    let k = MASKS + cell_of(t, f);
+    let n = frames_from(f);
+    let mut bits = 0;
+    let mut i = 0;
+    while i < n {
+        bits = bits | number_at(guide, k + i);
+        i += 1;
+    }
+    number_at(guide, MASKS + OTHERS) | bits
+}
+
+// No such rows are there any more.
+pub fn clear_from(guide: &mut [u64], t: Number, f: Number)
+    ensures { λ _. ⌜ now (guide .exit) ≡ none-from (now (guide .entry)) t f ⌝ }
+{
+    let k = MASKS + cell_of(t, f);
+    let n = frames_from(f);
+    let mut i = 0;
+    while i < n {
+        put_word(guide, k + i, 0);
+        i += 1;
+    }
+}
+
+// A guide of all rows, where it was all 0.
+pub fn fill(rows: &[Number], marks: &[u64], guide: &mut [u64])
+    ensures { λ _. ⌜ now (guide .exit) ≡ filled (table (now (rows .entry)) (now (marks .entry))) (now (guide .entry)) (room references (table (now (rows .entry)) (now (marks .entry)))) ⌝ }
+{
+    let n = rows::references::room(rows, marks);
+    let mut r = 0;
+    while r < n {
+        note(rows, marks, guide, r);
+        r += 1;
+    }
+}
+
+// How many frames there are from f to 64.
+fn frames_from(f: Number) -> usize
+    ensures { λ n. ⌜ (n ≡ 65 - f) × (n ≤ 65) ⌝ }
+{
+    if f <= 64 {
+        return FRAMES - f as usize;
+    }
+    0
+}
