@@ -34,7 +34,21 @@ pub fn call(
     if k != 0 {
         return answers::refused(k);
     }
-    let seen = sight::call::call(rows, marks, pins, pinmarks, book, classes, t, f, a, b, c);
+    let seen = sight::call::call(
+        rows,
+        marks,
+        &[],
+        pins,
+        pinmarks,
+        &[],
+        book,
+        classes,
+        t,
+        f,
+        a,
+        b,
+        c,
+    );
     let x = seen.a;
     let y = seen.b;
     let p = seen.pb;

@@ -28,7 +28,7 @@ pub fn enter(
     if !weigh::enter::in_turn(book::is_closed(book), top) {
         return answers::refused(4);
     }
-    let seen = sight::enter::enter(rows, marks, book, t, env, hs);
+    let seen = sight::enter::enter(rows, marks, &[], book, t, env, hs);
     let k = weigh::enter::refusal(seen, many, env, hs);
     if k != 0 {
         return answers::refused(k);

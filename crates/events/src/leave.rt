@@ -29,7 +29,7 @@ pub fn leave(
     if k != 0 {
         return answers::refused(k);
     }
-    let seen = sight::leave::leave(rows, marks, pins, pinmarks, t, result);
+    let seen = sight::leave::leave(rows, marks, &[], pins, pinmarks, &[], t, result);
     act::leave::leave(rows, marks, book, t);
     weigh::leave::findings(seen, line, result)
 }

@@ -13,8 +13,8 @@ ghost use Rattle.book.specs.Threads.{top-is};
 ghost use Rattle.tables.specs.Tables.{tables};
 ghost use Rattle.events.specs.Outcome.{leaves, line-outcome};
 
-// max(n,0) of the matching C.
-fn capacity_asked(top: Top) -> u32
+// max(n,0) of the C of the call on top; 0 where no call is.
+pub fn capacity_asked(top: Top) -> u32
     ensures { λ r. ⌜ r ≡ asked (top-is top) ⌝ }
 {
     match top {
@@ -44,7 +44,7 @@ pub fn returns(
     if !weigh::returns::in_turn(book::is_closed(book), f, top) {
         return answers::refused(4);
     }
-    let seen = sight::returns::returns(rows, marks, pins, pinmarks, book, t, f, result);
+    let seen = sight::returns::returns(rows, marks, &[], pins, pinmarks, book, t, f, result);
     let k = weigh::returns::refusal(seen, f, status == 0);
     if k != 0 {
         return answers::refused(k);

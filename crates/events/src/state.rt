@@ -22,7 +22,7 @@ pub fn state(
 ) -> Answer
     ensures { λ r. ⌜ ((ps ns : List ℕ) (line : ℕ) (top : Option Item) (many : ℕ) → leaves r (tables (now (rows .exit)) (now (marks .entry)) ps ns (now (book .exit)) (now (classes .entry))) ≡ line-outcome line (states (O t h c)) top many (tables (now (rows .entry)) (now (marks .entry)) ps ns (now (book .entry)) (now (classes .entry)))) ⌝ }
 {
-    let seen = sight::state::state(rows, marks, classes, t, h, c);
+    let seen = sight::state::state(rows, marks, &[], classes, t, h, c);
     let k = weigh::state::refusal(book::is_closed(book), seen);
     if k != 0 {
         return answers::refused(k);

@@ -1,3 +1,4 @@
+pub mod LeadLaws
 pub mod AnyLaws
 pub mod SpotLaws
 pub mod RowLaws

@@ -7,6 +7,9 @@ use facts::classes::NO_CLASS;
 use rows::Number;
 use words::Handle;
 ghost use mathlib.Core.Path.{_≡_};
+ghost use Rattle.rows.specs.Table.{table};
+ghost use Rattle.guide.specs.References.{Leads};
+ghost use Rattle.guide.specs.Pins.{Leads as PinLeads};
 ghost use Rattle.tables.specs.Tables.{tables};
 ghost use Rattle.sight.specs.Sights.{call-sight};
 
@@ -27,8 +30,10 @@ pub struct CallSight {
 pub fn call(
     rows: &[Number],
     marks: &[u64],
+    guide: &[u64],
     pins: &[Number],
     pinmarks: &[u64],
+    pinguide: &[u64],
     book: &[u64],
     classes: &[Number],
     t: u32,
@@ -37,21 +42,61 @@ pub fn call(
     b: Handle,
     c: Handle,
 ) -> CallSight
+    requires { ⌜ Leads (table (now rows) (now marks)) (now guide) × PinLeads (table (now pins) (now pinmarks)) (now pinguide) ⌝ }
     ensures { λ r. ⌜ r ≡ call-sight (tables (now (rows .entry)) (now (marks .entry)) (now (pins .entry)) (now (pinmarks .entry)) (now (book .entry)) (now (classes .entry))) t f a b c ⌝ }
 {
     let env = book::env_of(book, t);
     let pending = book::pending_of(book, t);
     let monitors = book::monitors_of(book, t);
     let pushed = book::top_pushed(book, t);
-    let critical = in_critical(pins, pinmarks, t);
+    let critical = in_critical(pins, pinmarks, pinguide, t);
     let pa = facts::place_a(f);
     let pb = facts::place_b(f);
     let pc = facts::place_c(f);
     let class_a = facts::classes::class_a(f);
     let class_b = facts::classes::class_b(f);
-    let at_a = place(rows, marks, pins, pinmarks, classes, pa, class_a, t, f, a);
-    let at_b = place(rows, marks, pins, pinmarks, classes, pb, class_b, t, f, b);
-    let at_c = place(rows, marks, pins, pinmarks, classes, pc, NO_CLASS, t, f, c);
+    let at_a = place(
+        rows,
+        marks,
+        guide,
+        pins,
+        pinmarks,
+        pinguide,
+        classes,
+        pa,
+        class_a,
+        t,
+        f,
+        a,
+    );
+    let at_b = place(
+        rows,
+        marks,
+        guide,
+        pins,
+        pinmarks,
+        pinguide,
+        classes,
+        pb,
+        class_b,
+        t,
+        f,
+        b,
+    );
+    let at_c = place(
+        rows,
+        marks,
+        guide,
+        pins,
+        pinmarks,
+        pinguide,
+        classes,
+        pc,
+        NO_CLASS,
+        t,
+        f,
+        c,
+    );
     CallSight {
         env,
         pending,

@@ -6,6 +6,7 @@ ghost use mathlib.Core.Path.{_≡_};
 ghost use mathlib.Core.List.{List};
 ghost use Prim.Native.Nat.{ℕ};
 ghost use Rattle.rows.specs.Table.{table};
+ghost use Rattle.guide.specs.References.{Leads};
 ghost use Rattle.tables.specs.Tables.{tables};
 ghost use Rattle.sight.specs.Sights.{some-alive, enter-sight};
 
@@ -18,12 +19,13 @@ pub struct EnterSight {
     pub frames: u32,
 }
 
-fn some_alive(rows: &[Number], marks: &[u64], t: u32, hs: &[Handle]) -> bool
+fn some_alive(rows: &[Number], marks: &[u64], guide: &[u64], t: u32, hs: &[Handle]) -> bool
+    requires { ⌜ Leads (table (now rows) (now marks)) (now guide) ⌝ }
     ensures { λ r. ⌜ r ≡ some-alive (table (now (rows .entry)) (now (marks .entry))) t (now (hs .entry)) ⌝ }
 {
     let mut i = 0;
     while i < hs.len() {
-        if local_alive(rows, marks, t, hs[i]) {
+        if local_alive(rows, marks, guide, t, hs[i]) {
             return true;
         }
         i += 1;
@@ -34,16 +36,18 @@ fn some_alive(rows: &[Number], marks: &[u64], t: u32, hs: &[Handle]) -> bool
 pub fn enter(
     rows: &[Number],
     marks: &[u64],
+    guide: &[u64],
     book: &[u64],
     t: u32,
     env: Handle,
     hs: &[Handle],
 ) -> EnterSight
+    requires { ⌜ Leads (table (now rows) (now marks)) (now guide) ⌝ }
     ensures { λ r. ⌜ ((ps ns cs : List ℕ) → r ≡ enter-sight (tables (now (rows .entry)) (now (marks .entry)) ps ns (now (book .entry)) cs) t env (now (hs .entry))) ⌝ }
 {
     let own = book::env_of(book, t);
     let elsewhere = book::env_elsewhere(book, t, env as u64);
-    let alive = some_alive(rows, marks, t, hs);
+    let alive = some_alive(rows, marks, guide, t, hs);
     let room = rows::references::room(rows, marks);
     let used = rows::references::alive(rows, marks);
     let frames = book::frames_of(book, t);

@@ -12,6 +12,7 @@ ghost use mathlib.Core.Path.{_≡_};
 ghost use mathlib.Core.List.{List};
 ghost use Prim.Native.Nat.{ℕ};
 ghost use Rattle.rows.specs.Table.{table};
+ghost use Rattle.guide.specs.References.{Leads};
 ghost use Rattle.tables.specs.Tables.{tables};
 ghost use Rattle.sight.specs.Returns.{is-alive-as, nothing-made, handle-made, buffer-made, made-sight, over-capacity, overflows-in, return-sight};
 
@@ -39,19 +40,35 @@ fn nothing_made() -> Made
     }
 }
 
-fn is_alive_as(rows: &[Number], marks: &[u64], local: bool, t: u32, h: Handle) -> bool
+fn is_alive_as(
+    rows: &[Number],
+    marks: &[u64],
+    guide: &[u64],
+    local: bool,
+    t: u32,
+    h: Handle,
+) -> bool
+    requires { ⌜ Leads (table (now rows) (now marks)) (now guide) ⌝ }
     ensures { λ r. ⌜ r ≡ is-alive-as local (table (now (rows .entry)) (now (marks .entry))) t h ⌝ }
 {
     if local {
-        return local_alive(rows, marks, t, h);
+        return local_alive(rows, marks, guide, t, h);
     }
-    shared_alive(rows, marks, h)
+    shared_alive(rows, marks, guide, h)
 }
 
-fn handle_made(rows: &[Number], marks: &[u64], local: bool, t: u32, h: Handle) -> Made
+fn handle_made(
+    rows: &[Number],
+    marks: &[u64],
+    guide: &[u64],
+    local: bool,
+    t: u32,
+    h: Handle,
+) -> Made
+    requires { ⌜ Leads (table (now rows) (now marks)) (now guide) ⌝ }
     ensures { λ r. ⌜ r ≡ handle-made local (table (now (rows .entry)) (now (marks .entry))) t h ⌝ }
 {
-    let alive = is_alive_as(rows, marks, local, t, h);
+    let alive = is_alive_as(rows, marks, guide, local, t, h);
     let row = rows::references::lowest_free(rows, marks);
     let room = rows::references::room(rows, marks);
     Made {
@@ -76,19 +93,21 @@ fn buffer_made(pins: &[Number], pinmarks: &[u64]) -> Made
 fn what_is_made(
     rows: &[Number],
     marks: &[u64],
+    guide: &[u64],
     pins: &[Number],
     pinmarks: &[u64],
     kind: Result,
     t: u32,
     h: Handle,
 ) -> Made
+    requires { ⌜ Leads (table (now rows) (now marks)) (now guide) ⌝ }
     ensures { λ r. ⌜ r ≡ made-sight (table (now (rows .entry)) (now (marks .entry))) (table (now (pins .entry)) (now (pinmarks .entry))) kind t h ⌝ }
 {
     if h == 0 {
         return nothing_made();
     }
     if is_handle_result(kind) {
-        return handle_made(rows, marks, is_local_result(kind), t, h);
+        return handle_made(rows, marks, guide, is_local_result(kind), t, h);
     }
     if is_buffer_result(kind) {
         return buffer_made(pins, pinmarks);
@@ -97,20 +116,30 @@ fn what_is_made(
 }
 
 // One local more is more than the top frame's capacity.
-fn over_capacity(rows: &[Number], marks: &[u64], book: &[u64], t: u32) -> bool
+fn over_capacity(rows: &[Number], marks: &[u64], guide: &[u64], book: &[u64], t: u32) -> bool
+    requires { ⌜ Leads (table (now rows) (now marks)) (now guide) ⌝ }
     ensures { λ r. ⌜ r ≡ over-capacity (table (now (rows .entry)) (now (marks .entry))) (now (book .entry)) t ⌝ }
 {
     let d = book::frames_of(book, t);
-    let held = alive_in(rows, marks, t, d) as u64;
+    let held = alive_in(rows, marks, guide, t, d) as u64;
     (0 < d) & (book::top_capacity(book, t) <= held)
 }
 
 // A local that is made is more than the top frame's capacity.
-fn overflows(rows: &[Number], marks: &[u64], book: &[u64], kind: Result, t: u32, h: Handle) -> bool
+fn overflows(
+    rows: &[Number],
+    marks: &[u64],
+    guide: &[u64],
+    book: &[u64],
+    kind: Result,
+    t: u32,
+    h: Handle,
+) -> bool
+    requires { ⌜ Leads (table (now rows) (now marks)) (now guide) ⌝ }
     ensures { λ r. ⌜ r ≡ overflows-in (table (now (rows .entry)) (now (marks .entry))) (now (book .entry)) kind t h ⌝ }
 {
     if is_local_result(kind) & (h != 0) {
-        return over_capacity(rows, marks, book, t);
+        return over_capacity(rows, marks, guide, book, t);
     }
     false
 }
@@ -118,6 +147,7 @@ fn overflows(rows: &[Number], marks: &[u64], book: &[u64], kind: Result, t: u32,
 pub fn returns(
     rows: &[Number],
     marks: &[u64],
+    guide: &[u64],
     pins: &[Number],
     pinmarks: &[u64],
     book: &[u64],
@@ -125,12 +155,13 @@ pub fn returns(
     f: u32,
     h: Handle,
 ) -> ReturnSight
+    requires { ⌜ Leads (table (now rows) (now marks)) (now guide) ⌝ }
     ensures { λ r. ⌜ ((cs : List ℕ) → r ≡ return-sight (tables (now (rows .entry)) (now (marks .entry)) (now (pins .entry)) (now (pinmarks .entry)) (now (book .entry)) cs) t f h) ⌝ }
 {
     let kind = facts::result_of(f);
-    let new = what_is_made(rows, marks, pins, pinmarks, kind, t, h);
+    let new = what_is_made(rows, marks, guide, pins, pinmarks, kind, t, h);
     let frames = book::frames_of(book, t);
-    let over = overflows(rows, marks, book, kind, t, h);
+    let over = overflows(rows, marks, guide, book, kind, t, h);
     ReturnSight {
         kind,
         made: new,

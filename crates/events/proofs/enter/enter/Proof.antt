@@ -1,12 +1,13 @@
 -- `events::enter::enter` meets its contract. Assumes nothing.
 use Rattle.events.proofs.Following.{enter-out, enter-stays, enter-goes}
 use mathlib.Core.Path.{refl}
+use Rattle.guide.specs.References.{scans}
 use borrow.Author.Needs.{needs}
 use Rattle.events.proofs.enter.enter.Statement.{statement}
 use Rattle.events.proofs.enter.enter.Tie as tie
 
 returns-3 : tie.Need-returns-3
-returns-3 c = let at-enter2 = c .before .before .before .before .before .before .before in let at-if2 = at-enter2 .before .before .before .before in let at-refusal = at-if2 .before in let at-enter = at-refusal .before in let at-if1 = at-enter .before .before .before .before in let at-in-turn = at-if1 .before in let at-is-closed = at-in-turn .before in λ ps ns cs. enter-goes _ _ _ _ _ _ _ _ _ (at-is-closed .is-closed .ensures) (at-in-turn .in-turn .ensures) _ _ (at-if1 .if1 .left) (at-enter .enter .ensures ps ns cs) (at-refusal .refusal .ensures) _ _ (at-if2 .if2 .left) (c .nothing .ensures) (at-enter2 .enter2 .ensures ps ns cs)
+returns-3 c = let at-enter2 = c .before .before .before .before .before .before .before in let at-if2 = at-enter2 .before .before .before .before in let at-refusal = at-if2 .before in let at-enter = at-refusal .before in let at-if1 = at-enter .before .before .before .before .before in let at-in-turn = at-if1 .before in let at-is-closed = at-in-turn .before in λ ps ns cs. enter-goes _ _ _ _ _ _ _ _ _ (at-is-closed .is-closed .ensures) (at-in-turn .in-turn .ensures) _ _ (at-if1 .if1 .left) (at-enter .enter .ensures ps ns cs) (at-refusal .refusal .ensures) _ _ (at-if2 .if2 .left) (c .nothing .ensures) (at-enter2 .enter2 .ensures ps ns cs)
 
 pub enter-spec : {M : Type 1} → statement M
 enter-spec =
@@ -17,13 +18,14 @@ enter-spec =
     (λ c κs. search needs)
     (λ c. refl)
     (λ c. λ ps ns cs. enter-out _ _ _ _ _ _ _ _ _ (c .before .before .before .is-closed .ensures) (c .before .before .in-turn .ensures) _ (c .before .if1 .taken) (c .refused .ensures))
-    (λ c κs. search needs)
+    (λ c. refl)
+    (λ c κs. scans refl)
     (λ c κs. search needs)
     (λ c κs. search needs)
     (λ c. refl)
     (λ c. refl)
     (λ c. refl)
-    (λ c. let at-if2 = c .before in let at-refusal = at-if2 .before in let at-enter = at-refusal .before in let at-if1 = at-enter .before .before .before .before in let at-in-turn = at-if1 .before in let at-is-closed = at-in-turn .before in λ ps ns cs. enter-stays _ _ _ _ _ _ _ _ _ (at-is-closed .is-closed .ensures) (at-in-turn .in-turn .ensures) _ _ (at-if1 .if1 .left) (at-enter .enter .ensures ps ns cs) (at-refusal .refusal .ensures) _ (at-if2 .if2 .taken) (c .refused2 .ensures))
+    (λ c. let at-if2 = c .before in let at-refusal = at-if2 .before in let at-enter = at-refusal .before in let at-if1 = at-enter .before .before .before .before .before in let at-in-turn = at-if1 .before in let at-is-closed = at-in-turn .before in λ ps ns cs. enter-stays _ _ _ _ _ _ _ _ _ (at-is-closed .is-closed .ensures) (at-in-turn .in-turn .ensures) _ _ (at-if1 .if1 .left) (at-enter .enter .ensures ps ns cs) (at-refusal .refusal .ensures) _ (at-if2 .if2 .taken) (c .refused2 .ensures))
     (λ c κs. search needs)
     (λ c κs. search needs)
     (λ c. let at-enter2 = c .before .before .before .before .before .before .before in at-enter2 .enter2 .kept .0)

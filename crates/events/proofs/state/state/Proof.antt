@@ -1,6 +1,7 @@
 -- `events::state::state` meets its contract. Assumes nothing.
 use Rattle.events.proofs.Following.{state-stays, state-goes}
 use mathlib.Core.Path.{refl}
+use Rattle.guide.specs.References.{scans}
 use borrow.Author.Needs.{needs}
 use Rattle.events.proofs.state.state.Statement.{statement}
 use Rattle.events.proofs.state.state.Tie as tie
@@ -12,7 +13,8 @@ pub state-spec : {M : Type 1} → statement M
 state-spec =
     tie.close
     (tie.spec
-    (λ c κs. search needs)
+    (λ c. refl)
+    (λ c κs. scans refl)
     (λ c κs. search needs)
     (λ c κs. search needs)
     (λ c κs. search needs)

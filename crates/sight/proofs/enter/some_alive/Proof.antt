@@ -15,10 +15,10 @@ use Rattle.sight.proofs.enter.some_alive.Statement.{statement}
 use Rattle.sight.proofs.enter.some_alive.Tie as tie
 
 abbrev Inv-loop : tie.InvT-loop
-Inv-loop rows marks t hs i₀ i = (i ≤ length hs) × (any (λ (h : ℕ). ltb 0 (handles-in (table rows marks) (is-local t h))) (drop i hs) ≡ any (λ (h : ℕ). ltb 0 (handles-in (table rows marks) (is-local t h))) hs)
+Inv-loop rows marks guide t hs i₀ i = (i ≤ length hs) × (any (λ (h : ℕ). ltb 0 (handles-in (table rows marks) (is-local t h))) (drop i hs) ≡ any (λ (h : ℕ). ltb 0 (handles-in (table rows marks) (is-local t h))) hs)
 
 abbrev μ-loop : tie.MeasureT-loop
-μ-loop rows marks t hs i₀ i = length hs - i
+μ-loop rows marks guide t hs i₀ i = length hs - i
 
 pub some-alive-spec : {M : Type 1} → statement M
 some-alive-spec =

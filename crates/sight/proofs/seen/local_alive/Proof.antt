@@ -9,4 +9,4 @@ local-alive-spec = tie.close (tie.spec
     (λ c. no-local-found _ _ _ (c .if1 .taken))
     (λ c κs. search needs)
     (λ c κs. search needs)
-    (λ c. local-found _ _ _ _ _ (c .before .before .if1 .left) (c .before .find .ensures) (c .room .ensures)))
+    (λ c. local-found _ _ _ _ _ (c .before .before .if1 .left) (c .before .row-of .ensures) (c .room .ensures)))

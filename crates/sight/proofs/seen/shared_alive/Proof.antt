@@ -8,4 +8,4 @@ pub shared-alive-spec : {M : Type 1} → statement M
 shared-alive-spec = tie.close (tie.spec
     (λ c κs. search needs)
     (λ c κs. search needs)
-    (λ c. shared-found _ _ _ _ (c .before .find .ensures) (c .room .ensures)))
+    (λ c. shared-found _ _ _ _ (c .before .row-of .ensures) (c .room .ensures)))
