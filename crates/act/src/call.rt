@@ -25,7 +25,8 @@ ghost use Rattle.tables.specs.Acting.{is-delete};
 ghost use Rattle.act.specs.Books.{popped, called-book};
 ghost use Rattle.act.specs.Calls.{deleted, top-ended, called-references, released, called};
 
-fn is_delete(f: u32, a: Handle) -> bool
+// C of 22, 23 or 227 where the handle in a is of the kind that it deletes.
+pub fn is_delete(f: u32, a: Handle) -> bool
     ensures { λ r. ⌜ r ≡ is-delete f a ⌝ }
 {
     ((f == DELETE_LOCAL_REF) & (a % KINDS == LOCAL))
@@ -33,7 +34,6 @@ fn is_delete(f: u32, a: Handle) -> bool
         | ((f == DELETE_WEAK_GLOBAL_REF) & (a % KINDS == WEAK))
 }
 
-// C of 22, 23, 227.
 fn delete(rows: &mut [Number], marks: &mut [u64], f: u32, a: Handle, row: usize)
     ensures { λ _. ⌜ table (now (rows .exit)) (now (marks .exit)) ≡ deleted (table (now (rows .entry)) (now (marks .entry))) f a row ⌝ }
 {
@@ -43,7 +43,7 @@ fn delete(rows: &mut [Number], marks: &mut [u64], f: u32, a: Handle, row: usize)
 }
 
 // C of 20 where the top frame was pushed.
-fn pops(book: &[u64], t: u32, f: u32) -> bool
+pub fn pops(book: &[u64], t: u32, f: u32) -> bool
     ensures { λ r. ⌜ r ≡ (eqb f PopLocalFrame && top-pushed (thread-in (now (book .entry)) t .frames)) ⌝ }
 {
     if f == POP_LOCAL_FRAME {
@@ -92,7 +92,8 @@ fn pop(book: &mut [u64], t: u32, f: u32)
     }
 }
 
-fn write_book(book: &mut [u64], t: u32, f: u32)
+// What C does to the book, all but the open items.
+pub fn write_book(book: &mut [u64], t: u32, f: u32)
     ensures { λ _. ⌜ now (book .exit) ≡ called-book (now (book .entry)) t f ⌝ }
 {
     pop(book, t, f);

@@ -48,7 +48,8 @@ fn keep_env(book: &mut [u64], t: u32, env: Handle)
     }
 }
 
-fn write_book(book: &mut [u64], t: u32, env: Handle, hs: &[Handle])
+// What N does to the book, all but the open items.
+pub fn write_book(book: &mut [u64], t: u32, env: Handle, hs: &[Handle])
     ensures { λ _. ⌜ now (book .exit) ≡ entered-book (now (book .entry)) t env (now (hs .entry)) ⌝ }
 {
     book::push_frame(book, t, NEW_LOCALS + hs.len() as u64, false);

@@ -8,7 +8,8 @@ ghost use Rattle.tables.specs.Tables.{tables};
 ghost use Rattle.tables.specs.Acting.{acted};
 ghost use Rattle.act.specs.Books.{left-book};
 
-fn write_book(book: &mut [u64], t: u32)
+// What X does to the book, all but the open items.
+pub fn write_book(book: &mut [u64], t: u32)
     ensures { λ _. ⌜ now (book .exit) ≡ left-book (now (book .entry)) t ⌝ }
 {
     book::leave_native(book, t);

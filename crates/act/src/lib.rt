@@ -4,6 +4,6 @@ pub mod declare;
 pub mod end;
 pub mod enter;
 pub mod leave;
-mod owner;
+pub mod owner;
 pub mod returns;
 pub mod state;

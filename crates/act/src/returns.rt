@@ -24,8 +24,8 @@ ghost use Rattle.act.specs.Returns.{result-row, made, got, held, status-
 
 // ---- the result
 
-// The row of handle h, where the thread has d frames.
-fn row_of(line: u32, kind: Result, t: u32, d: u32, h: Handle, class: u32) -> Reference
+// The row of result h: a local's in frame d of its thread, another's in no thread.
+pub fn row_of(line: u32, kind: Result, t: u32, d: u32, h: Handle, class: u32) -> Reference
     ensures { λ x. ⌜ x ≡ result-row line kind t d h class ⌝ }
 {
     if is_local_result(kind) {
@@ -147,7 +147,8 @@ fn take_status(
     }
 }
 
-fn write_book(
+// What R does to the book, all but the open items; n was asked of the open call.
+pub fn write_book(
     rows: &[Number],
     marks: &[u64],
     book: &mut [u64],

@@ -59,7 +59,7 @@ module _ {ws : List Write} (b : List ℕ) (t : ℕ) (w : Among 0 width ws) where
 
 -- the trace's own numbers stand before those of threads
 module _ {ws : List Write} (b : List ℕ) (t : ℕ) (m : Among env-at width ws) where
-  lines-stay : lines-in (wrote b t ws) ≡ lines-in b
+  pub lines-stay : lines-in (wrote b t ws) ≡ lines-in b
   unfolding lines-in
   lines-stay = cell-apart b t 0 lines-at m (omega arith) (omega arith) (inl (omega arith))
 
@@ -93,7 +93,7 @@ changes {ws} b t to m h e g =
     same-items k = record { items-fit = omega (arith, k .items-fit, after-apart (cell b t) items-at m (inr (omega arith))); frames-fit = g (k .frames-fit) }
 
 module _ (c : Row) (n : ℕ) (p : Bool) where
-  push-among : Dec (length (thread-of c .frames) < deepest) → Among env-at items-at (push-frame (thread-of c) n p)
+  pub push-among : Dec (length (thread-of c .frames) < deepest) → Among env-at items-at (push-frame (thread-of c) n p)
   unfolding push-frame
   push-among (yes l) = rw (lt-ltb (length (thread-of c .frames)) deepest l) (wider (omega arith) (omega arith) (pushing-among n p (length (thread-of c .frames)) l))
   push-among (no l) = rw (le-ltb (length (thread-of c .frames)) deepest (omega arith)) none
@@ -121,7 +121,7 @@ frame-popped-changes b t h =
 
 -- a capacity is written to a column of its own
 module _ (c : Row) (d v : ℕ) (l : d ≤ deepest) where
-  raise-among : (b : Bool) → Among env-at items-at (if b then into (capacity-at (d - 1)) v ∷ [] else [])
+  pub raise-among : (b : Bool) → Among env-at items-at (if b then into (capacity-at (d - 1)) v ∷ [] else [])
   raise-among true = more {j = capacity-at (d - 1)} (omega arith) (omega arith) none
   raise-among false = none
 
@@ -181,7 +181,7 @@ turns {ws} b t turn m h e g =
       as-fit = fit-elsewhere b t w;
     }
 
-push-items-among : (c : Row) (f n : ℕ) → Dec (length (items-of c) < deepest) → Among items-at width (push-item (items-of c) (c natives-at) f n)
+pub push-items-among : (c : Row) (f n : ℕ) → Dec (length (items-of c) < deepest) → Among items-at width (push-item (items-of c) (c natives-at) f n)
 unfolding push-item
 push-items-among c f n (yes l) = rw (lt-ltb (length (items-of c)) deepest l) (opening-among f n _ (length (items-of c)) l)
 push-items-among c f n (no l) = rw (le-ltb (length (items-of c)) deepest (omega arith)) none

@@ -1,15 +1,15 @@
 -- For callers: when a book is fit, and what a fit one has. Assumes nothing.
 use Prim.Native.Nat.{ℕ, _≤_, _<_, min}
-use mathlib.Core.Path.{_≡_, refl, ap, _∙_}
-use mathlib.Core.Bool.{Bool, false, _&&_, _||_, and-false}
+use mathlib.Core.Path.{_≡_, refl, sym, ap, _∙_}
+use mathlib.Core.Bool.{Bool, true, false, _&&_, _||_, and-false}
 use mathlib.Core.List.{List, []}
 use native.Mathlib.Decide.{decLt, ℕ-discrete}
 use native.Mathlib.Omega.{arith}
 use lib.ListN.{length}
-use lib.Dec.{eqb, ltb}
-use borrow.Author.Tests.{le-ltb, ltb-false, ne-eqb}
+use lib.Dec.{eqb, ltb, leb}
+use borrow.Author.Tests.{le-ltb, ltb-false, le-leb, lt-leb, ne-eqb}
 use Rattle.words.specs.Lists.{any, sum}
-use Rattle.lines.specs.Line.{threads}
+use Rattle.lines.specs.Line.{threads, is-thread}
 use Rattle.history.specs.Items.{Item}
 use Rattle.history.specs.Acceptance.{deepest}
 use Rattle.history.specs.Replies.{most-lines}
@@ -109,6 +109,28 @@ all-monitors-are b few =
 fit-by : (b : List ℕ) → whole ≤ length b → lines-in b ≤ most-lines → ((t : ℕ) → 1 ≤ t → t ≤ threads → overdone-in b t ≡ false) → unfit b ≡ false
 unfolding unfit lines-in
 fit-by b h l k = rw (le-ltb (length b) whole h, le-ltb most-lines (cell b 0 lines-at) l) (any-none (overdone-in b) k)
+
+-- fit but for thread t: then 8 goes by it, if it is one
+pub unfit-but : (b : List ℕ) (t : ℕ) → whole ≤ length b → lines-in b ≤ most-lines → ((s : ℕ) → 1 ≤ s → s ≤ threads → (s ≡ t → ⊥) → overdone-in b s ≡ false)
+    → unfit b ≡ (is-thread t && overdone-in b t)
+unfit-but b t h l k = go (decLt 0 t) (decLt threads t) (overdone-in b t) refl
+  where
+    by-others : ((s : ℕ) → s ≡ t → 1 ≤ s → s ≤ threads → overdone-in b s ≡ false) → unfit b ≡ false
+    by-others own = fit-by b h l (λ s x y. each s x y (ℕ-discrete s t))
+      where
+        each : (s : ℕ) → 1 ≤ s → s ≤ threads → Dec (s ≡ t) → overdone-in b s ≡ false
+        each s x y (yes e) = own s e x y
+        each s x y (no n) = k s x y n
+
+    by-it : 1 ≤ t → t ≤ threads → overdone-in b t ≡ true → (u : Bool) → unfit b ≡ u → u ≡ true
+    by-it x y o true e = refl
+    by-it x y o false e = sym (fit-threads b t e x y) ∙ o
+
+    go : Dec (0 < t) → Dec (threads < t) → (o : Bool) → overdone-in b t ≡ o → unfit b ≡ (is-thread t && o)
+    go (no x) y o e = rw (lt-leb 1 t (omega arith)) (by-others (λ s q i j. absurd (omega arith)))
+    go (yes x) (yes y) o e = rw (lt-leb t threads y, and-false (leb 1 t)) (by-others (λ s q i j. absurd (omega arith)))
+    go (yes x) (no y) true e = rw (le-leb 1 t x, le-leb t threads (omega arith)) (by-it x (omega arith) e (unfit b) refl)
+    go (yes x) (no y) false e = rw (and-false (is-thread t)) (by-others (λ s q i j. rw q e))
 
 pub fit-again : {b e : List ℕ} {t : ℕ} {to : Thread → Thread} {turn : List Item → List Item} → Changes b e t to turn → unfit b ≡ false → overdone-in e t ≡ false
     → unfit e ≡ false

@@ -3,6 +3,7 @@ pub mod Stacks
 pub mod Frames
 pub mod Items
 pub mod Changing
+pub mod Elsewhere
 pub mod AllThreads
 pub mod Tracing
 pub mod Fitness

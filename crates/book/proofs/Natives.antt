@@ -89,5 +89,8 @@ half w (suc d) z l = go (ℕ-discrete (d % 2) 1) (half w d z (omega arith))
     go (yes o) h = omega (arith, how-many-suc (bit w) d, h, ap one (z d (omega arith) o))
     go (no e) h = omega (arith, how-many-suc (bit w) d, h, one-at-most (bit w d), e)
 
+pub half-of : (w n : ℕ) → By-turns w → how-many (bit w) (min n deepest) ≤ n - n / 2
+half-of w n z = omega (arith, half w (min n deepest) z (omega arith))
+
 pub half-at-most : (c : Row) → By-turns (c natives-at) → natives (items-of c) ≤ c items-at - c items-at / 2
-half-at-most c z = omega (arith, natives-are c, half (c natives-at) (min (c items-at) deepest) z (omega arith))
+half-at-most c z = omega (arith, natives-are c, half-of (c natives-at) (c items-at) z)

@@ -38,7 +38,7 @@ after-apart c k (more {j = j} {v = v} a b m) h =
     after-apart _ k m h ∙ rw (ne-eqb k j (λ e. ⊎-elim (λ x. absurd (omega arith)) (λ x. absurd (omega arith)) h))
 
 -- ---- one number written
-cell-put-same : (b : List ℕ) (t j v : ℕ) → t * width + j < length b → cell (put b t j v) t j ≡ v
+pub cell-put-same : (b : List ℕ) (t j v : ℕ) → t * width + j < length b → cell (put b t j v) t j ≡ v
 unfolding cell put
 cell-put-same b t j v h = getD-set-same b (t * width + j) v 0 h
 

@@ -1,5 +1,5 @@
 -- From what the code did to the words of the definitions: one law for each return. Assumes nothing.
-use Prim.Native.Nat.{ℕ, zero, suc, pred, _+_, _-_, _*_, _%_, _^_, _≤_, _<_, min, max}
+use Prim.Native.Nat.{ℕ, zero, suc, pred, _+_, _-_, _*_, _/_, _%_, _^_, _≤_, _<_, min, max}
 use mathlib.Core.Path.{_≡_, refl, sym, ap, ap₂, _∙_}
 use mathlib.Core.Bool.{Bool, true, false, not, _&&_, _||_}
 use mathlib.Core.List.{List, [], _∷_, _++_, append-nil}
@@ -22,7 +22,7 @@ use Rattle.history.specs.Replies.{most-lines}
 use Rattle.rows.specs.Scan.{how-many}
 use Rattle.rows.specs.Marks.{bit}
 use Rattle.book.specs.Layout.{width, whole, lines-at, closed-at, env-at, pending-at, monitors-at, frames-at, capacity-at, pushed-at, items-at, natives-at, function-at, asked-at, cell, put, wrote}
-use Rattle.book.specs.Threads.{Row, stack, depth, frame-is, is-pushed, thread-of, thread-in, top-capacity, opened, no-function, item-is, items-of, items-in, natives, top-is, lines-in, closed-in, env-elsewhere, all-monitors}
+use Rattle.book.specs.Threads.{stack, depth, frame-is, is-pushed, thread-of, thread-in, top-capacity, opened, no-function, item-is, items-of, items-in, natives, top-is, lines-in, closed-in, env-elsewhere, all-monitors}
 use Rattle.book.specs.declared.Top.{Top}
 use Rattle.book.specs.declared.Top.the-variants as Top
 use Rattle.book.specs.Moves.{push-frame, frame-pushed, leave-native, native-left, pop-frame, frame-popped, raise-capacity, capacity-raised, with-mark, push-item, item-pushed, pop-item, item-popped, env-set, pending-set, monitor-added, monitor-taken, line-counted, closed-set, cleared}
@@ -33,7 +33,7 @@ use Rattle.book.proofs.Stacks.{length-stack}
 use Rattle.book.proofs.Frames.{frame-in, length-frames}
 use Rattle.book.proofs.Items.{item-in, same-item, length-items, length-tail}
 use Rattle.book.proofs.Fitness.{not-overdone}
-use Rattle.book.proofs.Natives.{natives-are, all-calls, in-turn, turns-left, turns-right, half-at-most}
+use Rattle.book.proofs.Natives.{natives-are, all-calls, in-turn, turns-left, turns-right, half-of, half-at-most}
 
 -- ---- a number of the book
 pub number-past : (b : List ℕ) (t j : ℕ) → length b ≤ t * width + j → 0 ≡ cell b t j
@@ -254,38 +254,52 @@ unfolding closed-set wrote
 closed-stored b b₁ x = x
 
 -- ---- a book that is not fit
-pub row-overdone : (b : List ℕ) (t items frames marks n natives monitors : ℕ) (r : Bool) → items ≡ getD b (t * width + items-at) 0
-    → frames ≡ getD b (t * width + frames-at) 0 → marks ≡ getD b (t * width + natives-at) 0 → n ≡ min items deepest → natives ≡ how-many (bit marks) n
-    → monitors ≡ getD b (t * width + monitors-at) 0 → r ≡ overdone items frames natives monitors → r ≡ overdone-in b t
-unfolding overdone-in items-in
-row-overdone b t items frames marks n natives monitors r p q w m k s e =
-    let i : items ≡ cell b t items-at = unfold cell in p in
-    let f : frames ≡ cell b t frames-at = unfold cell in q in
-    let v : marks ≡ cell b t natives-at = unfold cell in w in
-    let o : monitors ≡ cell b t monitors-at = unfold cell in s in
-    e ∙ rw (k, m, natives-are (cell b t), ← i, ← f, ← v, ← o)
+pub no-doubt : (items frames monitors m n : ℕ) (r : Bool) → m ≡ max items frames → n ≡ (frames + frames) % 2 ^ 64
+    → r ≡ (ltb deepest m || ltb n items || ltb most-lines monitors) → r ≡ false → (natives : ℕ) → natives ≤ items - items / 2
+    → overdone items frames natives monitors ≡ false
+no-doubt items frames monitors m n r g a e f natives half =
+    let none = sym e ∙ f in
+    let two = or-left (ltb deepest m || ltb n items) (ltb most-lines monitors) none in
+    let few : m ≤ deepest = ltb-false deepest m (or-left (ltb deepest m) (ltb n items) two) in
+    let framed : items ≤ n = ltb-false n items (or-right (ltb deepest m) (ltb n items) two) in
+    not-overdone items frames natives monitors (omega (arith, g, few)) (omega (arith, g, few)) (omega (arith, g, a, half, few, framed))
+    (λ o. omega (arith, g, a, o, few, framed)) (ltb-false most-lines monitors (or-right (ltb deepest m || ltb n items) (ltb most-lines monitors) none))
 
-not-doubted : (c : Row) → (ltb deepest (max (c items-at) (c frames-at)) || ltb ((c frames-at + c frames-at) % 2 ^ 64) (c items-at) || ltb most-lines (c monitors-at)) ≡ false
-    → By-turns (c natives-at) → overdone (c items-at) (c frames-at) (natives (items-of c)) (c monitors-at) ≡ false
-not-doubted c h turns =
-    let x = ltb deepest (max (c items-at) (c frames-at)) in
-    let y = ltb ((c frames-at + c frames-at) % 2 ^ 64) (c items-at) in
-    let two = or-left (x || y) (ltb most-lines (c monitors-at)) h in
-    let few : max (c items-at) (c frames-at) ≤ deepest = ltb-false deepest (max (c items-at) (c frames-at)) (or-left x y two) in
-    let framed : c items-at ≤ (c frames-at + c frames-at) % 2 ^ 64 = ltb-false ((c frames-at + c frames-at) % 2 ^ 64) (c items-at) (or-right x y two) in
-    not-overdone (c items-at) (c frames-at) (natives (items-of c)) (c monitors-at) (omega (arith, few)) (omega (arith, few))
-    (omega (arith, half-at-most c turns, few, framed)) (λ o. omega (arith, o, few, framed))
-    (ltb-false most-lines (c monitors-at) (or-right (x || y) (ltb most-lines (c monitors-at)) h))
+-- no native stands in a call's place
+told-by-turns : (w : ℕ) (r : Bool) → (r || not (eqb (bitAnd w all-calls) 0)) ≡ false → By-turns w
+told-by-turns w r e =
+    in-turn w (eqb-true (bitAnd w all-calls) 0 (not-false (eqb (bitAnd w all-calls) 0) (or-right r (not (eqb (bitAnd w all-calls) 0)) e)))
 
-pub no-doubt : (b : List ℕ) (t items frames monitors m n : ℕ) (r : Bool) → m ≡ max items frames → n ≡ (frames + frames) % 2 ^ 64
-    → items ≡ getD b (t * width + items-at) 0 → frames ≡ getD b (t * width + frames-at) 0 → monitors ≡ getD b (t * width + monitors-at) 0
-    → r ≡ (ltb deepest m || ltb n items || ltb most-lines monitors) → r ≡ false → By-turns (cell b t natives-at) → overdone-in b t ≡ false
-unfolding overdone-in items-in
-no-doubt b t items frames monitors m n r g a p q s e h =
-    let i : items ≡ cell b t items-at = unfold cell in p in
-    let f : frames ≡ cell b t frames-at = unfold cell in q in
-    let o : monitors ≡ cell b t monitors-at = unfold cell in s in
-    not-doubted (cell b t) (rw (← i, ← f, ← o, ← g, ← a) (sym e ∙ h))
+pub not-counted : (items frames marks monitors : ℕ) (r : Bool)
+    → (r ≡ false → (natives : ℕ) → natives ≤ items - items / 2 → overdone items frames natives monitors ≡ false)
+    → (r || not (eqb (bitAnd marks all-calls) 0)) ≡ false → false ≡ overdone items frames (how-many (bit marks) (min items deepest)) monitors
+not-counted items frames marks monitors r f e =
+    sym (f (or-left r (not (eqb (bitAnd marks all-calls) 0)) e) (how-many (bit marks) (min items deepest)) (half-of marks items (told-by-turns marks r e)))
+
+pub counted : (items frames marks monitors n natives : ℕ) (r : Bool) → n ≡ min items deepest → natives ≡ how-many (bit marks) n
+    → r ≡ overdone items frames natives monitors → r ≡ overdone items frames (how-many (bit marks) (min items deepest)) monitors
+counted items frames marks monitors n natives r m k e = e ∙ rw (k, m)
+
+module _ (b : List ℕ) (t items frames monitors : ℕ) (r : Bool) where
+  pub by-numbers : (marks : ℕ) → items ≡ cell b t items-at → frames ≡ cell b t frames-at → marks ≡ cell b t natives-at → monitors ≡ cell b t monitors-at
+      → r ≡ overdone items frames (how-many (bit marks) (min items deepest)) monitors → r ≡ overdone-in b t
+  unfolding overdone-in items-in
+  by-numbers marks i f w m e = e ∙ rw (natives-are (cell b t), ← i, ← f, ← w, ← m)
+
+  pub row-overdone : (marks : ℕ) → items ≡ getD b (t * width + items-at) 0 → frames ≡ getD b (t * width + frames-at) 0
+      → marks ≡ getD b (t * width + natives-at) 0 → monitors ≡ getD b (t * width + monitors-at) 0
+      → r ≡ overdone items frames (how-many (bit marks) (min items deepest)) monitors → r ≡ overdone-in b t
+  row-overdone marks i f w m e = by-numbers marks (unfold cell in i) (unfold cell in f) (unfold cell in w) (unfold cell in m) e
+
+  pub row-doubted : items ≡ getD b (t * width + items-at) 0 → frames ≡ getD b (t * width + frames-at) 0 → monitors ≡ getD b (t * width + monitors-at) 0
+      → (r ≡ false → (natives : ℕ) → natives ≤ items - items / 2 → overdone items frames natives monitors ≡ false)
+      → r ≡ false → By-turns (cell b t natives-at) → overdone-in b t ≡ false
+  unfolding overdone-in items-in
+  row-doubted i f m d e turns =
+      let p : items ≡ cell b t items-at = unfold cell in i in
+      let q : frames ≡ cell b t frames-at = unfold cell in f in
+      let o : monitors ≡ cell b t monitors-at = unfold cell in m in
+      rw (← q, ← o) (rw (← p) (d e (natives (items-of (cell b t))) (omega (arith, p, half-at-most (cell b t) turns))))
 
 -- looked for from thread t on
 unfoldable pub overdone-from : List ℕ → ℕ → Bool
@@ -322,8 +336,7 @@ pub doubt-none : (b : List ℕ) (t w : ℕ) (r : Bool) → (r ≡ false → By-t
     → (r || not (eqb (bitAnd w all-calls) 0)) ≡ false → false ≡ unfit b
 unfolding overdone-from
 doubt-none b t w r i h e =
-    let z : bitAnd w all-calls ≡ 0 = eqb-true (bitAnd w all-calls) 0 (not-false (eqb (bitAnd w all-calls) 0) (or-right r (not (eqb (bitAnd w all-calls) 0)) e)) in
-    sym (i (or-left r (not (eqb (bitAnd w all-calls) 0)) e) (in-turn w z) ∙ rw (rest-none t h))
+    sym (i (or-left r (not (eqb (bitAnd w all-calls) 0)) e) (told-by-turns w r e) ∙ rw (rest-none t h))
 
 -- ---- a list filled from the front
 unfoldable pub filled : List ℕ → ℕ → ℕ → List ℕ

@@ -1,6 +1,6 @@
 // The lent thread book: a row of numbers for each thread, and row 0 for the trace itself. Every function takes any contents, any thread and a short book too.
 use lines::ranges::THREADS;
-ghost use Prim.Native.Nat.{_-_, _<_, _≤_, min, max};
+ghost use Prim.Native.Nat.{ℕ, _-_, _/_, _<_, _≤_, min, max};
 ghost use mathlib.Core.Path.{_≡_};
 ghost use mathlib.Core.Bool.{false};
 ghost use mathlib.Core.Option.{some};
@@ -413,16 +413,50 @@ fn overdone(items: u64, frames: u64, natives: u64, monitors: u64) -> bool
         | (MOST_LINES < monitors)
 }
 
+// A thread of these numbers may be overdone. No native is counted: by turns with calls, they are half of the items.
+fn doubtful(items: u64, frames: u64, monitors: u64) -> bool
+    ensures { λ r. ⌜ (r ≡ false → (natives : ℕ) → natives ≤ items - items / 2 → overdone items frames natives monitors ≡ false) ⌝ }
+{
+    (DEEPEST < greater(items, frames))
+        | (std::num::wrapping_add_u64(frames, frames) < items)
+        | (MOST_LINES < monitors)
+}
+
+// A thread of these numbers is overdone. Natives are counted only where it is in doubt, or one stands in a call's place.
+fn overdone_by(items: u64, frames: u64, marks: u64, monitors: u64) -> bool
+    ensures { λ r. ⌜ r ≡ overdone items frames (how-many (bit marks) (min items deepest)) monitors ⌝ }
+{
+    if doubtful(items, frames, monitors) | (marks & AT_CALLS != 0) {
+        let natives = natives_below(marks, lesser(items, DEEPEST) as u32);
+        return overdone(items, frames, natives, monitors);
+    }
+    false
+}
+
+// Thread t of any book.
+pub fn is_overdone(book: &[u64], t: u32) -> bool
+    ensures { λ r. ⌜ r ≡ overdone-in (now (book .entry)) t ⌝ }
+{
+    overdone_by(
+        number(book, t, ITEMS),
+        number(book, t, FRAMES),
+        number(book, t, NATIVES),
+        number(book, t, MONITORS),
+    )
+}
+
 // Thread t of a book that is not short.
 fn row_overdone(book: &[u64], t: u32) -> bool
     requires { do ⌜ (t ≤ threads) × (whole ≤ (← ⟦book.len()⟧)) ⌝ }
     ensures { λ r. ⌜ r ≡ overdone-in (now (book .entry)) t ⌝ }
 {
     let row = t as usize * WIDTH;
-    let items = book[row + ITEMS];
-    let frames = book[row + FRAMES];
-    let natives = natives_below(book[row + NATIVES], lesser(items, DEEPEST) as u32);
-    overdone(items, frames, natives, book[row + MONITORS])
+    overdone_by(
+        book[row + ITEMS],
+        book[row + FRAMES],
+        book[row + NATIVES],
+        book[row + MONITORS],
+    )
 }
 
 // A thread of a book that is not short, or its line count.
@@ -439,17 +473,13 @@ fn some_overdone(book: &[u64]) -> bool
     found
 }
 
-// Thread t may be overdone. No native is counted: by turns with calls, they are half of the items.
+// Thread t of a book that is not short may be overdone.
 fn in_doubt(book: &[u64], t: u32) -> bool
     requires { do ⌜ (t ≤ threads) × (whole ≤ (← ⟦book.len()⟧)) ⌝ }
     ensures { λ r. ⌜ (r ≡ false → By-turns (cell (now (book .entry)) t natives-at) → overdone-in (now (book .entry)) t ≡ false) ⌝ }
 {
     let row = t as usize * WIDTH;
-    let items = book[row + ITEMS];
-    let frames = book[row + FRAMES];
-    (DEEPEST < greater(items, frames))
-        | (std::num::wrapping_add_u64(frames, frames) < items)
-        | (MOST_LINES < book[row + MONITORS])
+    doubtful(book[row + ITEMS], book[row + FRAMES], book[row + MONITORS])
 }
 
 // Refusal 8. Nothing ends the first look early: the common book, which lines have left, has no thread in doubt.

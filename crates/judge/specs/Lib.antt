@@ -1,4 +1,3 @@
 -- believed of any tables
 pub mod Outcome
--- computed: judge::step
 pub mod Event

@@ -8,7 +8,7 @@ ghost use Rattle.lines.specs.Line.{above-zero};
 ghost use Rattle.judge.specs.Event.{read-as, thread-named, items-after};
 
 // The thread whose open items an event is of; 0 for none.
-pub(crate) fn thread_of(event: Event) -> u32
+pub fn thread_of(event: Event) -> u32
     ensures { λ r. ⌜ r ≡ thread-named event ⌝ }
 {
     match event {
@@ -31,7 +31,7 @@ fn above_zero(n: i32) -> u32
 }
 
 // N opens a native and C a call; X and R close what is on top.
-pub(crate) fn move_item(book: &mut [u64], event: Event)
+pub fn move_item(book: &mut [u64], event: Event)
     ensures { λ _. ⌜ ((hs : List ℕ) → now (book .exit) ≡ items-after (read-as event hs) (now (book .entry))) ⌝ }
 {
     match event {

@@ -1,5 +1,5 @@
 // The judge over lent tables: a start, and one step.
-mod items;
+pub mod items;
 
 use answers::Answer;
 use book::Top;
@@ -36,7 +36,7 @@ pub fn start(
 }
 
 // 8 where the book is not fit or the class table is short, then 1 for line 1,000,001; else 0.
-fn refused_by_tables(book: &[u64], classes: &[Number]) -> u8
+pub fn refused_by_tables(book: &[u64], classes: &[Number]) -> u8
     ensures { λ r. ⌜ ((rs ms ps ns : List ℕ) → r ≡ by-tables (tables rs ms ps ns (now (book .entry)) (now (classes .entry)))) ⌝ }
 {
     if book::unfit(book) | classes::is_short(classes) {

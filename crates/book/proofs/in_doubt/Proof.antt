@@ -1,6 +1,6 @@
 -- `book::in_doubt` meets its contract. Assumes nothing.
 use mathlib.Core.Path.{refl}
-use Rattle.book.proofs.Steps.{no-doubt}
+use Rattle.book.proofs.Steps.{row-doubted}
 use borrow.Author.Needs.{needs}
 use Rattle.book.proofs.in_doubt.Statement.{statement}
 use Rattle.book.proofs.in_doubt.Tie as tie
@@ -16,9 +16,8 @@ in-doubt-spec =
     (λ c. search needs)
     (λ c. search needs)
     (λ c. search needs)
+    (λ c. search needs)
+    (λ c. search needs)
+    (λ c. search needs)
     (λ c κs. search needs)
-    (λ c κs. search needs)
-    (λ c. search needs)
-    (λ c. search needs)
-    (λ c. search needs)
-    (λ c. no-doubt _ _ _ _ _ _ _ _ (c .before .before .greater .ensures) (c .before .wrapping-add-u64 .ensures) refl refl refl refl))
+    (λ c. row-doubted _ _ _ _ _ _ refl refl refl (c .doubtful .ensures)))
