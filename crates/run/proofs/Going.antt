@@ -23,6 +23,7 @@ use Rattle.events.specs.Outcome.{leaves as answers-leaving}
 use Rattle.judge.specs.Outcome.{step-outcome}
 use Rattle.pieces.specs.declared.Next.the-variants as Next
 use Rattle.pieces.proofs.Nexts.{pieces-next}
+use Rattle.run.specs.declared.Passed.{Passed}
 use Rattle.run.specs.declared.Way.{Way}
 use Rattle.run.specs.declared.Stop.{Stop}
 use Rattle.run.specs.declared.Stop.the-variants as Stop
@@ -84,12 +85,16 @@ going-start {ended} {T} {s} {out} {w} at p f aims =
       done = λ h. start ∙ aims .none h T ∙ λ i. stands T [] (sym at i) (w .stop);
     }
 
-pub going-end : {ended : Bool} {T T' : Tables} {s out out' : List ℕ} {w : Way} → Going ended T s out w T' out' → w .to ≤ w .at
+going-end : {ended : Bool} {T T' : Tables} {s out out' : List ℕ} {w : Way} → Going ended T s out w T' out' → w .to ≤ w .at
     → leaves (record { taken = w .at; put = w .put; findings = w .findings; stop = w .stop }) T' out' ≡ piece-outcome ended T s out
 unfolding piece-outcome
 going-end {ended} {T} {T'} {s} {out} {out'} {w} g h =
     (λ i. leaves (record { taken = w .at; put = g .bytes i; findings = g .findings i; stop = w .stop }) T' (g .shown i))
     ∙ ap (λ (r : Run). outcome r out) (sym (g .done h))
+
+pub going-told : {ended : Bool} {T T' : Tables} {s out out' : List ℕ} {w : Way} {r : Passed} → r ≡ record { taken = w .at; put = w .put; findings = w .findings; stop = w .stop }
+    → Going ended T s out w T' out' → w .to ≤ w .at → leaves r T' out' ≡ piece-outcome ended T s out
+going-told {T' = T'} {out' = out'} e g h = ap (λ (r : Passed). leaves r T' out') e ∙ going-end g h
 
 -- the bytes that are not taken, and one for the line that comes next: each turn leaves less
 abbrev pub one-of : ℕ → ℕ

@@ -4,3 +4,10 @@ pub mod Answering
 pub mod Ways
 pub mod Going
 pub mod Passing
+mod Filling
+mod Keeping
+mod Ending
+mod Making
+mod Stating
+mod Touching
+mod Fitting

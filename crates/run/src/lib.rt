@@ -1,14 +1,27 @@
 // The loop that holds the lent tables: the lines of a piece of the input, handed to the step one after another.
+mod call;
+mod enter;
+mod fit;
+mod kept;
+mod kept_pins;
+mod leave;
+mod returns;
+mod state;
+mod step;
+
 use answers::Answer;
 use pieces::Next;
 use report::MOST_SHOWN;
 ghost use mathlib.Core.Path.{_≡_};
-ghost use Prim.Native.Nat.{_+_, _≤_};
+ghost use mathlib.Core.Bool.{false};
+ghost use mathlib.Core.List.{List};
+ghost use Prim.Native.Nat.{ℕ, _+_, _≤_};
 ghost use lib.ListN.{length};
 ghost use Rattle.numbers.specs.Writing.{put};
 ghost use Rattle.answers.specs.Answer.{most-found};
 ghost use Rattle.report.specs.Shown.{most-shown, shown-answer};
 ghost use Rattle.tables.specs.Tables.{tables};
+ghost use Rattle.judge.specs.Outcome.{by-tables};
 ghost use Rattle.run.specs.Running.{leaves, piece-outcome};
 ghost use Rattle.run.specs.Way.{As-far, Aims, Heard};
 
@@ -103,6 +116,109 @@ fn heard(way: Way, answer: Answer, input: &[u8], ended: bool, out: &mut [u8]) ->
     aimed(passed, input, ended, out.len())
 }
 
+// A piece of fewer bytes than this is judged by scans: guides would take longer to fill than to serve.
+const SHORT: usize = 4096;
+
+// A piece of so many bytes is judged by scans; so is any where the book is not fit, since it stops at its first line.
+fn is_scanned(n: usize, book: &[u64], classes: &[u32]) -> bool
+    ensures { λ r. ⌜ ((rs ms ps ns : List ℕ) → r ≡ false → by-tables (tables rs ms ps ns (now (book .entry)) (now (classes .entry))) ≡ 8 → ⊥) ⌝ }
+{
+    if n < SHORT {
+        return true;
+    }
+    judge::refused_by_tables(book, classes) == 8
+}
+
+fn start(input: &[u8], ended: bool, size: usize) -> Way
+    ensures { λ q. ⌜ (q .at ≡ 0) × (q .put ≡ 0) × (q .findings ≡ 0) × Aims ended size (now (input .entry)) q ⌝ }
+{
+    let way = Way {
+        at: 0,
+        to: 0,
+        put: 0,
+        findings: 0,
+        stop: Stop::More,
+    };
+    aimed(way, input, ended, size)
+}
+
+fn how_far(way: Way) -> Passed
+    ensures { λ r. ⌜ r ≡ record { taken = way .at; put = way .put; findings = way .findings; stop = way .stop } ⌝ }
+{
+    let stop = way.stop;
+    Passed {
+        taken: way.at,
+        put: way.put,
+        findings: way.findings,
+        stop,
+    }
+}
+
+// Line by line, each by scans.
+fn run_by_scans(
+    input: &[u8],
+    ended: bool,
+    rows: &mut [u32],
+    marks: &mut [u64],
+    pins: &mut [u32],
+    pinmarks: &mut [u64],
+    book: &mut [u64],
+    classes: &mut [u32],
+    out: &mut [u8],
+) -> Passed
+    ensures { λ r. ⌜ leaves r (tables (now (rows .exit)) (now (marks .exit)) (now (pins .exit)) (now (pinmarks .exit)) (now (book .exit)) (now (classes .exit))) (now (out .exit)) ≡ piece-outcome ended (tables (now (rows .entry)) (now (marks .entry)) (now (pins .entry)) (now (pinmarks .entry)) (now (book .entry)) (now (classes .entry))) (now (input .entry)) (now (out .entry)) ⌝ }
+{
+    let mut way = start(input, ended, out.len());
+    while way.at < way.to {
+        let at = way.at;
+        let to = way.to;
+        let answer = judge::step(&input[at..to], rows, marks, pins, pinmarks, book, classes);
+        way = heard(way, answer, input, ended, out);
+    }
+    how_far(way)
+}
+
+// Line by line, each by guides that are filled first and kept; the book was found fit.
+fn run_by_guides(
+    input: &[u8],
+    ended: bool,
+    rows: &mut [u32],
+    marks: &mut [u64],
+    pins: &mut [u32],
+    pinmarks: &mut [u64],
+    book: &mut [u64],
+    classes: &mut [u32],
+    out: &mut [u8],
+) -> Passed
+    requires { ⌜ (by-tables (tables (now rows) (now marks) (now pins) (now pinmarks) (now book) (now classes)) ≡ 8 → ⊥) ⌝ }
+    ensures { λ r. ⌜ leaves r (tables (now (rows .exit)) (now (marks .exit)) (now (pins .exit)) (now (pinmarks .exit)) (now (book .exit)) (now (classes .exit))) (now (out .exit)) ≡ piece-outcome ended (tables (now (rows .entry)) (now (marks .entry)) (now (pins .entry)) (now (pinmarks .entry)) (now (book .entry)) (now (classes .entry))) (now (input .entry)) (now (out .entry)) ⌝ }
+{
+    let mut guide = [0; guide::references::SIZE];
+    let mut pinguide = [0; guide::pins::SIZE];
+    guide::references::fill(rows, marks, &mut guide);
+    guide::pins::fill(pins, pinmarks, &mut pinguide);
+    let mut touched = 0;
+    let mut way = start(input, ended, out.len());
+    while way.at < way.to {
+        let at = way.at;
+        let to = way.to;
+        let answer = step::step(
+            &input[at..to],
+            rows,
+            marks,
+            &mut guide,
+            pins,
+            pinmarks,
+            &mut pinguide,
+            book,
+            classes,
+            &mut touched,
+        );
+        way = heard(way, answer, input, ended, out);
+    }
+    how_far(way)
+}
+
 // Judges the lines of a piece of the input, behind which it may have ended, and puts their findings at the front of `out`.
 // It stops before a line that is refused, and before one whose findings may have no room.
 pub fn run_lines(
@@ -118,25 +234,28 @@ pub fn run_lines(
 ) -> Passed
     ensures { λ r. ⌜ leaves r (tables (now (rows .exit)) (now (marks .exit)) (now (pins .exit)) (now (pinmarks .exit)) (now (book .exit)) (now (classes .exit))) (now (out .exit)) ≡ piece-outcome ended (tables (now (rows .entry)) (now (marks .entry)) (now (pins .entry)) (now (pinmarks .entry)) (now (book .entry)) (now (classes .entry))) (now (input .entry)) (now (out .entry)) ⌝ }
 {
-    let start = Way {
-        at: 0,
-        to: 0,
-        put: 0,
-        findings: 0,
-        stop: Stop::More,
-    };
-    let mut way = aimed(start, input, ended, out.len());
-    while way.at < way.to {
-        let at = way.at;
-        let to = way.to;
-        let answer = judge::step(&input[at..to], rows, marks, pins, pinmarks, book, classes);
-        way = heard(way, answer, input, ended, out);
+    if is_scanned(input.len(), book, classes) {
+        return run_by_scans(
+            input,
+            ended,
+            rows,
+            marks,
+            pins,
+            pinmarks,
+            book,
+            classes,
+            out,
+        );
     }
-    let stop = way.stop;
-    Passed {
-        taken: way.at,
-        put: way.put,
-        findings: way.findings,
-        stop,
-    }
+    run_by_guides(
+        input,
+        ended,
+        rows,
+        marks,
+        pins,
+        pinmarks,
+        book,
+        classes,
+        out,
+    )
 }

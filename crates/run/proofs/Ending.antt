@@ -1,0 +1,101 @@
+-- Reference rows ended with their guide: a word that the guide does not show has none to end, and once all are ended it need show none. Assumes nothing.
+use mathlib.Core.Path.{_≡_, refl, sym, ap, subst, _∙_}
+use mathlib.Core.Bool.{Bool, true, false, false≢true}
+use mathlib.Core.List.{List}
+use mathlib.Core.Option.{Option, none, some}
+use Prim.Native.Nat.{ℕ, _+_, _*_, _/_, _%_, _^_, _≤_, _<_}
+use native.Mathlib.Nat.{le-refl}
+use native.Mathlib.Decide.{decLt}
+use native.Mathlib.Omega.{arith}
+use lib.ListN.{getD}
+use borrow.Author.Tests.{ne-eqb}
+use Rattle.words.specs.Choice.{if_then_else_}
+use Rattle.rows.specs.Slots.{holding}
+use Rattle.rows.specs.Marks.{word, bit}
+use Rattle.rows.specs.Table.{Layout, Table, room, passes, ended, ended-if, ended-from, ended-all}
+use Rattle.rows.specs.View.{slot, view}
+use Rattle.rows.specs.declared.references.Reference.{Reference}
+use Rattle.rows.specs.References.{references, from-frame}
+use Rattle.rows.proofs.SlotLaws.{freed}
+use Rattle.rows.proofs.TableLaws.{end-passes, end-fails, ended-none, ended-last}
+use Rattle.rows.proofs.ViewLaws.{room-same, passes-slot, view-at, ended-below}
+use Rattle.guide.specs.References.{Guides, shown-from, none-from}
+use Rattle.guide.proofs.GuideLaws.{guide-shows, guide-cleared}
+
+module _ {A : Type 0} (L : Layout A) (q : A → Bool) where
+  -- ---- a row, by what is told of it
+  told-passes : (T : Table) (r : ℕ) (o : Option A) → r < room L T → getD (view L T) r none ≡ o → holding q o ≡ passes L q T r
+  told-passes T r o l e = ap (holding q) (sym e ∙ view-at L T r l) ∙ sym (passes-slot L q T r)
+
+  pub such-ended : (T S : Table) (r : ℕ) (x : A) → r < room L T → getD (view L T) r none ≡ some x → q x ≡ true → S ≡ ended L T r → S ≡ ended-if L q T r
+  such-ended T S r x l e y f = end-passes L q T S r (q x) (told-passes T r (some x) l e) y f
+
+  pub other-stays : (T : Table) (r : ℕ) (x : A) → r < room L T → getD (view L T) r none ≡ some x → q x ≡ false → T ≡ ended-if L q T r
+  other-stays T r x l e y = end-fails L q T r (q x) (told-passes T r (some x) l e) y
+
+  pub none-stays : (T : Table) (r : ℕ) → r < room L T → getD (view L T) r none ≡ none → T ≡ ended-if L q T r
+  none-stays T r l e = end-fails L q T r false (told-passes T r none l e) refl
+
+  -- ---- a word that is not shown
+  pub unshown-stays : (T : Table) (s w m : ℕ) → ((r : ℕ) → r < room L T → bit s (r / word % word) ≡ false → passes L q T r ≡ false) → w * word + m ≤ room L T → m ≤ word
+      → (s / 2 ^ (w % word) % 2 ≡ 1 → ⊥) → T ≡ ended-from L q T (w * word) m
+  unshown-stays T s w m h l g n =
+      let e : bit s (w % word) ≡ false = unfold bit in ne-eqb (s / 2 ^ (w % word) % 2) 1 n in
+      sym (ended-none L q T (w * word) m
+      (λ i k. let a : (w * word + i) / word % word ≡ w % word = omega arith in h (w * word + i) (omega arith) (ap (bit s) a ∙ e)))
+
+  -- ---- what is ended does not pass
+  freed-fails : (o : Option A) → holding q (freed q o) ≡ false
+  freed-fails none = refl
+  freed-fails (some x) = go (q x) refl
+    where
+      go : (b : Bool) → q x ≡ b → holding q (if b then none else some x) ≡ false
+      go true e = refl
+      go false e = e
+
+  fails-below : (T S : Table) (n r : ℕ) → S ≡ ended-from L q T 0 n → n ≤ room L T → (n ≤ r → passes L q T r ≡ false) → passes L q S r ≡ false
+  fails-below T S n r e l h = ap (λ (X : Table). passes L q X r) e ∙ passes-slot L q (ended-from L q T 0 n) r ∙ go (decLt r n)
+    where
+      go : Dec (r < n) → holding q (slot L (ended-from L q T 0 n) r) ≡ false
+      go (yes k) = ap (holding q) (ended-below L q T n l .below r k) ∙ freed-fails (slot L T r)
+      go (no k) = ap (holding q) (ended-below L q T n l .above r (omega arith)) ∙ sym (passes-slot L q T r) ∙ h (omega arith)
+
+  same-room : (T S : Table) (n : ℕ) → S ≡ ended-from L q T 0 n → n ≤ room L T → room L S ≡ room L T
+  same-room T S n e l = ap (room L) e ∙ room-same L (ended-from L q T 0 n) T (ended-below L q T n l .lengths)
+
+-- ---- word after word
+module _ (T S : Table) (G : List ℕ) (t f : ℕ) where
+  -- a guide shows each such row
+  unshown-fails : Guides T G → (r : ℕ) → r < room references T → bit (shown-from G t f) (r / word % word) ≡ false → passes references (from-frame t f) T r ≡ false
+  unshown-fails g r l e = passes-slot references (from-frame t f) T r ∙ go (slot references T r) refl
+    where
+      go : (o : Option Reference) → slot references T r ≡ o → holding (from-frame t f) o ≡ false
+      go none h = refl
+      go (some x) h = at (from-frame t f x) refl
+        where
+          at : (b : Bool) → from-frame t f x ≡ b → b ≡ false
+          at true y = absurd (false≢true (sym e ∙ guide-shows T G t f r x g l h y))
+          at false y = refl
+
+  pub unshown-still : (s n w : ℕ) → Guides T G → n ≡ room references T → s ≡ shown-from G t f → w ≤ n / word → S ≡ ended-from references (from-frame t f) T 0 (w * word)
+      → (r : ℕ) → r < room references S → bit s (r / word % word) ≡ false → passes references (from-frame t f) S r ≡ false
+  unshown-still s n w g d e u h r k b =
+      let l : w * word ≤ room references T = omega arith in
+      fails-below references (from-frame t f) T S (w * word) r h l
+      (λ _. unshown-fails g r (omega (arith, same-room references (from-frame t f) T S (w * word) h l)) (ap (λ (m : ℕ). bit m (r / word % word)) (sym e) ∙ b))
+
+  -- once all are ended there is none that it must show
+  all-fail : S ≡ ended-all references (from-frame t f) T → (r : ℕ) → r < room references S → passes references (from-frame t f) S r ≡ false
+  unfolding ended-all
+  all-fail e r l =
+      let n : room references T ≤ room references T = le-refl (room references T) in
+      fails-below references (from-frame t f) T S (room references T) r e n
+      (λ k. absurd (omega (arith, same-room references (from-frame t f) T S (room references T) e n)))
+
+  all-cleared : S ≡ ended-all references (from-frame t f) T → Guides S G → t ≤ 16 → Guides S (none-from G t f)
+  all-cleared e g a =
+      guide-cleared S G t f g a (λ r x l y. ap (holding (from-frame t f)) (sym y) ∙ sym (passes-slot references (from-frame t f) S r) ∙ all-fail e r l)
+
+  pub last-cleared : (R : Table) (H : List ℕ) (w n : ℕ) → n ≡ room references T → w ≤ n / word → n / word ≤ w → R ≡ ended-from references (from-frame t f) T 0 (w * word)
+      → S ≡ ended-from references (from-frame t f) R (n / word * word) (n % word) → Guides S G → t ≤ 16 → H ≡ none-from G t f → Guides S H
+  last-cleared R H w n d u v c e g a h = subst (Guides S) (sym h) (all-cleared (ended-last references (from-frame t f) T R S w n d u v c e) g a)
