@@ -80,6 +80,9 @@ is-closed-tight κs args = (tt, by-reply)
 pub set-closed-tight : Tight book.set_closed.ended book.set_closed.Reads.Asked book.set_closed.Reads.Learnt
 set-closed-tight κs args = (tt, by-slice)
 
+pub is-overdone-tight : Tight book.is_overdone.ended book.is_overdone.Reads.Asked book.is_overdone.Reads.Learnt
+is-overdone-tight κs args = (tt, by-reply)
+
 pub unfit-tight : Tight book.unfit.ended book.unfit.Reads.Asked book.unfit.Reads.Learnt
 unfit-tight κs args = (tt, by-reply)
 

@@ -5,7 +5,7 @@ use lib.IntN.{pos}
 use Rattle.events.proofs as events
 use Rattle.events.specs.Outcome.{Outcome}
 use Rattle.tight.specs.Tight.{given, Tight}
-use Rattle.tight.proofs.Shapes.{by, with-table, with-rows-and-book}
+use Rattle.tight.proofs.Shapes.{by, by-reply, with-table, with-rows-and-book}
 
 pub call-tight : Tight events.call.call.ended events.call.call.Reads.Asked events.call.call.Reads.Learnt
 call-tight κs args = (
@@ -42,6 +42,9 @@ leave-tight κs args = (
       (p [] 0)
       (q [] 0),
 )
+
+pub capacity-asked-tight : Tight events.returns.capacity_asked.ended events.returns.capacity_asked.Reads.Asked events.returns.capacity_asked.Reads.Learnt
+capacity-asked-tight κs args = (tt, by-reply)
 
 pub returns-tight : Tight events.returns.returns.ended events.returns.returns.Reads.Asked events.returns.returns.Reads.Learnt
 returns-tight κs args = (

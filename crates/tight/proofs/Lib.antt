@@ -6,6 +6,7 @@ pub mod Writer
 pub mod Recorder
 pub mod Reader
 pub mod Rows
+pub mod Guide
 pub mod Classes
 pub mod Book
 pub mod Answers

@@ -23,12 +23,18 @@ module _ (f : Ended) where
   abbrev pub Promises : Type 1
   Promises = (κs : Lfts (f .signature .lifetimes)) → Args (f .signature) κs → Res (f .signature) κs → AtExit f κs → Type 0
 
-  -- whatever the arguments: nothing is asked of them, and any two outcomes that the promise allows are equal
-  abbrev pub Tight : Asks → Promises → Type 0
-  Tight asked promised =
-      (κs : Lfts (f .signature .lifetimes)) (args : Args (f .signature) κs)
-      → asked κs args
-      × ((x y : Given (Res (f .signature) κs) (Lasts f κs args))
+  -- any two outcomes that the promise allows at these arguments are equal
+  abbrev pub One : Promises → (κs : Lfts (f .signature .lifetimes)) → Args (f .signature) κs → Type 0
+  One promised κs args =
+      (x y : Given (Res (f .signature) κs) (Lasts f κs args))
       → promised κs args (x .reply) (atExit f κs args (x .left))
       → promised κs args (y .reply) (atExit f κs args (y .left))
-      → x ≡ y)
+      → x ≡ y
+
+  -- whatever the arguments: nothing is asked of them, and there is one outcome
+  abbrev pub Tight : Asks → Promises → Type 0
+  Tight asked promised = (κs : Lfts (f .signature .lifetimes)) (args : Args (f .signature) κs) → asked κs args × One promised κs args
+
+  -- where the arguments are as asked, there is one outcome
+  abbrev pub Tight-where : Asks → Promises → Type 0
+  Tight-where asked promised = (κs : Lfts (f .signature .lifetimes)) (args : Args (f .signature) κs) → asked κs args → One promised κs args
