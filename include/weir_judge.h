@@ -64,7 +64,7 @@ int32_t weir_leaks(const uint32_t *rows, size_t rows_length, const uint64_t *mar
 
 /* Judges a whole trace from a start of its own. Returns how many bytes its report has; it stands at the front of `out` where that is no shorter, else
  * nothing is written there. 0: the book or the class table is short, and nothing was touched. The tables are left as the run left them, so weir_leaks
- * may follow.
+ * may follow. A trace of 4,096 bytes or more takes over 313 KB of stack, for words by which rows are found.
  */
 size_t weir_judge(const uint8_t *trace, size_t trace_length, uint32_t *rows, size_t rows_length, uint64_t *marks, size_t marks_length,
                   uint32_t *pins, size_t pins_length, uint64_t *pin_marks, size_t pin_marks_length, uint64_t *book, size_t book_length,
