@@ -3,12 +3,12 @@ use mathlib.Core.Path.{_≡_, refl, ap, _∙_}
 use mathlib.Core.Bool.{Bool, true, false, _&&_, false≢true}
 use mathlib.Core.List.{List}
 use mathlib.Core.Option.{none, some}
-use Prim.Native.Nat.{ℕ, _+_, _-_, _*_, _/_, _%_, _≤_, _<_}
+use Prim.Native.Nat.{ℕ, _+_, _-_, _*_, _/_, _%_, _≤_, _<_, min}
 use native.Mathlib.Numerals.{add-one}
 use native.Mathlib.Omega.{arith}
 use lib.Bits.{bitOr}
 use lib.Dec.{leb}
-use lib.ListN.{getD}
+use lib.ListN.{length, getD}
 use borrow.Author.Tests.{leb-true}
 use Rattle.rows.specs.declared.references.Reference.{Reference}
 use Rattle.rows.specs.Table.{Table, room}
@@ -18,6 +18,7 @@ use Rattle.guide.specs.Listing.{with-listed}
 use Rattle.guide.specs.Tallies.{more-at, less-at}
 use Rattle.guide.specs.Masks.{with-bit, all-bits, no-bits}
 use Rattle.guide.specs.References.{places, others, cells, masks, spread, first-of, second-of, first, second, cell-of, noted, forgotten, shown-from, none-from, filled}
+use Rattle.guide.proofs.Steps.{bits-cut, none-cut}
 
 -- ---- places and cells
 
@@ -68,17 +69,17 @@ module _ (T : Table) (G : List ℕ) (r : ℕ) where
 
 -- ---- the frames from f on
 
-module _ (G : List ℕ) (t f k n i : ℕ) (ek : k ≡ cell-of t f) (en : n ≡ 65 - f) (le : i ≤ n) (ge : n ≤ i) where
-  all-frames : i ≡ 65 - f
-  all-frames = omega (arith, en, le, ge)
+module _ (G : List ℕ) (t f k n i : ℕ) (ek : k ≡ cell-of t f) (en : n ≡ min (65 - f) (length G - (masks + k))) (le : i ≤ n) (ge : n ≤ i) where
+  all-there : i ≡ min (65 - f) (length G - (masks + k))
+  all-there = omega (arith, en, le, ge)
 
   pub shown-is : (m o : ℕ) → m ≡ all-bits G (masks + k) i → o ≡ getD G (masks + others) 0 → bitOr o m ≡ shown-from G t f
   unfolding shown-from
-  shown-is m o em eo = rw (em, eo, ek, all-frames)
+  shown-is m o em eo = rw (em, eo, bits-cut G (masks + k) i (65 - f) all-there, ek)
 
   pub none-is : (H : List ℕ) → H ≡ no-bits G (masks + k) i → H ≡ none-from G t f
   unfolding none-from
-  none-is H e = e ∙ rw (ek, all-frames)
+  none-is H e = e ∙ none-cut G (masks + k) i (65 - f) all-there ∙ rw ek
 
 -- ---- all rows
 

@@ -2,11 +2,12 @@
 use mathlib.Core.Path.{_≡_, refl, sym, ap, _∙_}
 use mathlib.Core.Bool.{_||_}
 use mathlib.Core.List.{List, [], _∷_}
-use Prim.Native.Nat.{ℕ, zero, suc, _+_, _-_, _≤_, _<_}
-use native.Mathlib.Nat.{le-of-suc-le-suc, not-suc-le-zero}
+use Prim.Native.Nat.{ℕ, zero, suc, _+_, _-_, _≤_, _<_, min}
+use native.Mathlib.Nat.{le-of-suc-le-suc, not-suc-le-zero, add-zero, add-suc}
 use native.Mathlib.Numerals.{add-one}
+use native.Mathlib.Decide.{decLt}
 use native.Mathlib.Omega.{arith}
-use lib.Bits.{bitOr}
+use lib.Bits.{bitOr, or-zero-r}
 use lib.Dec.{eqb}
 use lib.ListN.{length, getD, set, List·getD-eq-default}
 use lib.Seq.{set-getD, set-out}
@@ -16,6 +17,7 @@ use Rattle.guide.specs.Words.{full-word, name-a, name-b, name-c, named}
 use Rattle.guide.specs.Listing.{word-at}
 use Rattle.guide.specs.Tallies.{more-at, less-at}
 use Rattle.guide.specs.Masks.{with-bit, all-bits, no-bits}
+use Rattle.guide.proofs.MaskLaws.{length-no-bits}
 
 -- ---- a word
 
@@ -79,3 +81,39 @@ first-none G k = refl
 pub more-none : (G H I : List ℕ) (k i : ℕ) → H ≡ no-bits G k i → I ≡ set H (k + i) 0 → I ≡ no-bits G k (i + 1)
 unfolding no-bits
 more-none G H I k i e f = f ∙ rw (add-one, e)
+
+-- past the end there is no bit, and nothing to clear
+bits-past : (G : List ℕ) (k m n : ℕ) → length G ≤ k + m → all-bits G k (m + n) ≡ all-bits G k m
+unfolding all-bits
+bits-past G k m zero h = ap (all-bits G k) (add-zero m)
+bits-past G k m (suc n) h =
+    ap (all-bits G k) (add-suc m n)
+    ∙ ap (bitOr (all-bits G k (m + n))) (List·getD-eq-default G 0 (omega (arith, h)))
+    ∙ or-zero-r (all-bits G k (m + n)) ∙ bits-past G k m n h
+
+none-past : (G : List ℕ) (k m n : ℕ) → length G ≤ k + m → no-bits G k (m + n) ≡ no-bits G k m
+unfolding no-bits
+none-past G k m zero h = ap (no-bits G k) (add-zero m)
+none-past G k m (suc n) h =
+    ap (no-bits G k) (add-suc m n)
+    ∙ set-out (no-bits G k (m + n)) (k + (m + n)) 0 (omega (arith, h, length-no-bits G k (m + n)))
+    ∙ none-past G k m n h
+
+-- so many words are there of n
+module _ (G : List ℕ) (k i n : ℕ) (e : i ≡ min n (length G - k)) where
+  whole : n ≡ i + (n - i)
+  whole = omega (arith, e)
+
+  pub bits-cut : all-bits G k i ≡ all-bits G k n
+  bits-cut = go (decLt (k + i) (length G))
+    where
+      go : Dec (k + i < length G) → all-bits G k i ≡ all-bits G k n
+      go (yes l) = ap (all-bits G k) (omega (arith, e, l))
+      go (no l) = sym (ap (all-bits G k) whole ∙ bits-past G k i (n - i) (omega (arith, l)))
+
+  pub none-cut : no-bits G k i ≡ no-bits G k n
+  none-cut = go (decLt (k + i) (length G))
+    where
+      go : Dec (k + i < length G) → no-bits G k i ≡ no-bits G k n
+      go (yes l) = ap (no-bits G k) (omega (arith, e, l))
+      go (no l) = sym (ap (no-bits G k) whole ∙ none-past G k i (n - i) (omega (arith, l)))

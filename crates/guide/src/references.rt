@@ -19,7 +19,7 @@ use rows::references::Reference;
 ghost use mathlib.Core.Path.{_≡_};
 ghost use mathlib.Core.Bool.{_&&_};
 ghost use Prim.Native.Nat.{_+_, _-_, _<_, _≤_, min};
-ghost use lib.ListN.{getD};
+ghost use lib.ListN.{length, getD};
 ghost use mathlib.Core.Option.{none};
 ghost use Rattle.words.specs.Choice.{if_then_else_};
 ghost use Rattle.rows.specs.Scan.{lowest};
@@ -225,11 +225,11 @@ pub fn shown_from(guide: &[u64], t: Number, f: Number) -> u64
     ensures { λ m. ⌜ m ≡ shown-from (now (guide .entry)) t f ⌝ }
 {
     let k = MASKS + cell_of(t, f);
-    let n = frames_from(f);
+    let n = frames_in(guide, k, f);
     let mut bits = 0;
     let mut i = 0;
     while i < n {
-        bits = bits | number_at(guide, k + i);
+        bits = bits | guide[k + i];
         i += 1;
     }
     number_at(guide, MASKS + OTHERS) | bits
@@ -240,10 +240,10 @@ pub fn clear_from(guide: &mut [u64], t: Number, f: Number)
     ensures { λ _. ⌜ now (guide .exit) ≡ none-from (now (guide .entry)) t f ⌝ }
 {
     let k = MASKS + cell_of(t, f);
-    let n = frames_from(f);
+    let n = frames_in(guide, k, f);
     let mut i = 0;
     while i < n {
-        put_word(guide, k + i, 0);
+        guide[k + i] = 0;
         i += 1;
     }
 }
@@ -262,10 +262,20 @@ pub fn fill(rows: &[Number], marks: &[u64], guide: &mut [u64])
 
 // How many frames there are from f to 64.
 fn frames_from(f: Number) -> usize
-    ensures { λ n. ⌜ (n ≡ 65 - f) × (n ≤ 65) ⌝ }
+    ensures { λ n. ⌜ n ≡ 65 - f ⌝ }
 {
     if f <= 64 {
         return FRAMES - f as usize;
     }
     0
+}
+
+// Of how many of them the guide has words from k on. The test of its length stands before their loops, which are compiled to vectors.
+fn frames_in(guide: &[u64], k: usize, f: Number) -> usize
+    ensures { λ n. ⌜ n ≡ min (65 - f) (length (now (guide .entry)) - k) ⌝ }
+{
+    if guide.len() <= k {
+        return 0;
+    }
+    lesser(frames_from(f), guide.len() - k)
 }

@@ -33,6 +33,11 @@ pub bit-suc : (w i : ℕ) → bit w (suc i) ≡ bit (w / 2) i
 unfolding bit
 bit-suc w i = ap (λ (n : ℕ). eqb (n % 2) 1) (ap (λ (k : ℕ). w / 2 ^ k) (sym (one-add i)) ∙ sym (shr-shr w 1 i))
 
+-- the digits from i on
+pub bit-shr : (w i j : ℕ) → bit (w / 2 ^ i) j ≡ bit w (i + j)
+unfolding bit
+bit-shr w i j = ap (λ (n : ℕ). eqb (n % 2) 1) (shr-shr w i j)
+
 pub bit-of-zero : (i : ℕ) → bit 0 i ≡ false
 bit-of-zero zero = bit-zero 0
 bit-of-zero (suc i) = bit-suc 0 i ∙ bit-of-zero i
@@ -125,13 +130,13 @@ onesIn-mod (suc k) w =
 pub ones-low-count : (k w : ℕ) → ones (w % 2 ^ k) ≡ how-many (bit w) k
 ones-low-count k w = ones-onesIn k (w % 2 ^ k) (mod-lt w (pow-pos k)) ∙ onesIn-mod k w ∙ onesIn-count k w
 
--- ---- the zeros below the lowest set digit of the inverted word
+-- ---- the zeros below the lowest set digit of a word, and of the inverted one
 under-is : (x t : ℕ) → x < 2 → under x t ≡ (if eqb x 1 then 0 else suc t)
 under-is zero t h = refl
 under-is (suc zero) t h = refl
 under-is (suc (suc x)) t h = absurd (omega arith)
 
-trailing-lowest : (k w : ℕ) → trailingZeros k w ≡ lowest (bit w) k
+pub trailing-lowest : (k w : ℕ) → trailingZeros k w ≡ lowest (bit w) k
 unfolding trailingZeros lowest
 trailing-lowest zero w = refl
 trailing-lowest (suc k) w =

@@ -210,6 +210,13 @@ module _ {A : Type 0} (L : Layout A) where
       ap (λ (X : Table). ended-if L q X (a + m + n)) (ended-add q T a m n)
       ∙ ap (λ (r : ℕ). ended-if L q (ended-from L q T a (m + n)) r) e ∙ ap (ended-from L q T a) f
 
+  -- rows of which none passes are passed over
+  pub ended-skip : (q : A → Bool) (T S : Table) (a m p : ℕ) → S ≡ ended-from L q T a m → m ≤ p → ((k : ℕ) → m ≤ k → k < p → passes L q S (a + k) ≡ false) → S ≡ ended-from L q T a p
+  ended-skip q T S a m p e l h =
+      let f : m + (p - m) ≡ p = omega arith in
+      sym (ended-none q S (a + m) (p - m) (λ i u. let g : a + m + i ≡ a + (m + i) = omega arith in ap (passes L q S) g ∙ h (m + i) (omega arith) (omega arith)))
+      ∙ ap (λ (X : Table). ended-from L q X (a + m) (p - m)) e ∙ ended-add q T a m (p - m) ∙ ap (ended-from L q T a) f
+
   onward : (q : A → Bool) (T : Table) (m n : ℕ) → ended-from L q (ended-from L q T 0 m) m n ≡ ended-from L q T 0 (m + n)
   onward q T m n = let e : m ≡ 0 + m = omega arith in ap (λ (a : ℕ). ended-from L q (ended-from L q T 0 m) a n) e ∙ ended-add q T 0 m n
 

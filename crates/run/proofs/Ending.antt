@@ -4,7 +4,7 @@ use mathlib.Core.Bool.{Bool, true, false, false≢true}
 use mathlib.Core.List.{List}
 use mathlib.Core.Option.{Option, none, some}
 use Prim.Native.Nat.{ℕ, _+_, _*_, _/_, _%_, _^_, _≤_, _<_}
-use native.Mathlib.Nat.{le-refl}
+use native.Mathlib.Nat.{le-refl, zero-add}
 use native.Mathlib.Decide.{decLt}
 use native.Mathlib.Omega.{arith}
 use lib.ListN.{getD}
@@ -17,10 +17,11 @@ use Rattle.rows.specs.View.{slot, view}
 use Rattle.rows.specs.declared.references.Reference.{Reference}
 use Rattle.rows.specs.References.{references, from-frame}
 use Rattle.rows.proofs.SlotLaws.{freed}
-use Rattle.rows.proofs.TableLaws.{end-passes, end-fails, ended-none, ended-last}
+use Rattle.rows.proofs.TableLaws.{end-passes, end-fails, ended-none, ended-first, ended-skip, ended-word, ended-last}
 use Rattle.rows.proofs.ViewLaws.{room-same, passes-slot, view-at, ended-below}
 use Rattle.guide.specs.References.{Guides, shown-from, none-from}
 use Rattle.guide.proofs.GuideLaws.{guide-shows, guide-cleared}
+use Rattle.run.specs.Unshown.{Unshown}
 
 module _ {A : Type 0} (L : Layout A) (q : A → Bool) where
   -- ---- a row, by what is told of it
@@ -78,11 +79,21 @@ module _ (T S : Table) (G : List ℕ) (t f : ℕ) where
           at false y = refl
 
   pub unshown-still : (s n w : ℕ) → Guides T G → n ≡ room references T → s ≡ shown-from G t f → w ≤ n / word → S ≡ ended-from references (from-frame t f) T 0 (w * word)
-      → (r : ℕ) → r < room references S → bit s (r / word % word) ≡ false → passes references (from-frame t f) S r ≡ false
+      → Unshown s t f S
   unshown-still s n w g d e u h r k b =
       let l : w * word ≤ room references T = omega arith in
       fails-below references (from-frame t f) T S (w * word) r h l
       (λ _. unshown-fails g r (omega (arith, same-room references (from-frame t f) T S (w * word) h l)) (ap (λ (m : ℕ). bit m (r / word % word)) (sym e) ∙ b))
+
+  -- behind a word whose rows are ended those that are not shown are passed over
+  pub word-next : (R : Table) (s n w p : ℕ) → Guides T G → n ≡ room references T → s ≡ shown-from G t f → R ≡ ended-from references (from-frame t f) T 0 (w * word)
+      → S ≡ ended-from references (from-frame t f) R (w * word) word → w < n / word → w + 1 ≤ p → p ≤ n / word → ((k : ℕ) → w + 1 ≤ k → k < p → bit s (k % word) ≡ false)
+      → S ≡ ended-from references (from-frame t f) T 0 (p * word)
+  word-next R s n w p g d e c a l v u h =
+      let done = ended-word references (from-frame t f) T R S w c a in
+      let same : room references S ≡ room references T = same-room references (from-frame t f) T S ((w + 1) * word) done (omega (arith, d)) in
+      ended-skip references (from-frame t f) T S 0 ((w + 1) * word) (p * word) done (omega arith)
+      (λ k i j. ap (passes references (from-frame t f) S) (zero-add k) ∙ unshown-still s n (w + 1) g d e (omega arith) done k (omega (arith, d, same)) (h (k / word) (omega arith) (omega arith)))
 
   -- once all are ended there is none that it must show
   all-fail : S ≡ ended-all references (from-frame t f) T → (r : ℕ) → r < room references S → passes references (from-frame t f) S r ≡ false
@@ -99,3 +110,10 @@ module _ (T S : Table) (G : List ℕ) (t f : ℕ) where
   pub last-cleared : (R : Table) (H : List ℕ) (w n : ℕ) → n ≡ room references T → w ≤ n / word → n / word ≤ w → R ≡ ended-from references (from-frame t f) T 0 (w * word)
       → S ≡ ended-from references (from-frame t f) R (n / word * word) (n % word) → Guides S G → t ≤ 16 → H ≡ none-from G t f → Guides S H
   last-cleared R H w n d u v c e g a h = subst (Guides S) (sym h) (all-cleared (ended-last references (from-frame t f) T R S w n d u v c e) g a)
+
+-- and before the first one that is
+pub word-first : (T : Table) (G : List ℕ) (t f s n w : ℕ) → Guides T G → n ≡ room references T → s ≡ shown-from G t f → w ≤ n / word
+    → ((k : ℕ) → 0 ≤ k → k < w → bit s (k % word) ≡ false) → T ≡ ended-from references (from-frame t f) T 0 (w * word)
+word-first T G t f s n w g d e u h =
+    ended-skip references (from-frame t f) T T 0 0 (w * word) (ended-first references (from-frame t f) T 0) (omega arith)
+    (λ k a b. ap (passes references (from-frame t f) T) (zero-add k) ∙ unshown-fails T T G t f g k (omega (arith, d)) (ap (λ (m : ℕ). bit m (k / word % word)) (sym e) ∙ h (k / word) (omega arith) (omega arith)))

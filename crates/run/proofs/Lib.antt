@@ -6,6 +6,7 @@ pub mod Going
 pub mod Passing
 mod Filling
 mod Keeping
+mod Shown
 mod Ending
 mod Making
 mod Stating

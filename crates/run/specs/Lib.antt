@@ -3,6 +3,7 @@ pub mod Running
 -- computed: run::run_lines
 pub mod Way
 pub mod Fit
+pub mod Unshown
 -- words
 pub mod Following
 pub mod Passing

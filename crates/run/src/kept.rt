@@ -1,15 +1,19 @@
 // Reference rows with their guide: a row that is stored or ended is so in both.
+use crate::bits::lesser;
+use crate::bits::next_bit;
 use rows::Number;
 use rows::WORD;
 use rows::references::Held;
 use rows::references::Reference;
 ghost use mathlib.Core.Path.{_≡_};
 ghost use mathlib.Core.Bool.{false};
-ghost use Prim.Native.Nat.{ℕ, _+_, _*_, _/_, _%_, _≤_, _<_};
-ghost use Rattle.rows.specs.Marks.{word, bit};
-ghost use Rattle.rows.specs.Table.{table, room, passes, free-row, stored, taken, ended, ended-if, ended-from, ended-all};
+ghost use Prim.Native.Nat.{ℕ, _+_, _*_, _%_, _≤_, _<_};
+ghost use lib.ListN.{length};
+ghost use Rattle.rows.specs.Marks.{word, bit, used};
+ghost use Rattle.rows.specs.Table.{table, most, room, free-row, stored, taken, ended, ended-if, ended-from, ended-all};
 ghost use Rattle.rows.specs.References.{references, from-frame};
 ghost use Rattle.guide.specs.References.{Guides};
+ghost use Rattle.run.specs.Unshown.{Unshown};
 
 // The lowest free row holds this.
 pub(crate) fn store(
@@ -64,7 +68,18 @@ fn end_if(rows: &mut [Number], marks: &mut [u64], guide: &mut [u64], r: usize, t
     }
 }
 
-// Ends such rows among the first m of word w.
+// The lowest used row of word w from its row i on, below m, or m.
+fn next_used(marks: &[u64], w: usize, i: usize, m: usize) -> usize
+    requires { ⌜ (w * word + m ≤ length (now marks) * word) × (i ≤ m) × (m ≤ word) ⌝ }
+    ensures { λ p. ⌜ (i ≤ p) × (p ≤ m) × ((k : ℕ) → i ≤ k → k < p → used (now (marks .entry)) (w * word + k) ≡ false) ⌝ }
+{
+    if m <= i {
+        return m;
+    }
+    lesser(next_bit(marks[w], i), m)
+}
+
+// Ends such rows among the first m of word w; only those that are used are looked at.
 fn end_first(
     rows: &mut [Number],
     marks: &mut [u64],
@@ -74,14 +89,14 @@ fn end_first(
     t: Number,
     f: Number,
 )
-    requires { ⌜ Guides (table (now rows) (now marks)) (now guide) × (w * word + m ≤ room references (table (now rows) (now marks))) ⌝ }
+    requires { ⌜ Guides (table (now rows) (now marks)) (now guide) × (w * word + m ≤ room references (table (now rows) (now marks))) × (m ≤ word) ⌝ }
     ensures left { λ _. ⌜ table (now (rows .exit)) (now (marks .exit)) ≡ ended-from references (from-frame t f) (table (now (rows .entry)) (now (marks .entry))) (w * word) m ⌝ }
     ensures guided { λ _. ⌜ Guides (table (now (rows .exit)) (now (marks .exit))) (now (guide .exit)) ⌝ }
 {
-    let mut i = 0;
+    let mut i = next_used(marks, w, 0, m);
     while i < m {
         end_if(rows, marks, guide, w * WORD + i, t, f);
-        i += 1;
+        i = next_used(marks, w, i + 1, m);
     }
 }
 
@@ -96,13 +111,21 @@ fn end_shown(
     t: Number,
     f: Number,
 )
-    requires { ⌜ Guides (table (now rows) (now marks)) (now guide) × (w * word + m ≤ room references (table (now rows) (now marks))) × (m ≤ word) × ((r : ℕ) → r < room references (table (now rows) (now marks)) → bit shown (r / word % word) ≡ false → passes references (from-frame t f) (table (now rows) (now marks)) r ≡ false) ⌝ }
+    requires { ⌜ Guides (table (now rows) (now marks)) (now guide) × (w * word + m ≤ room references (table (now rows) (now marks))) × (m ≤ word) × Unshown shown t f (table (now rows) (now marks)) ⌝ }
     ensures left { λ _. ⌜ table (now (rows .exit)) (now (marks .exit)) ≡ ended-from references (from-frame t f) (table (now (rows .entry)) (now (marks .entry))) (w * word) m ⌝ }
     ensures guided { λ _. ⌜ Guides (table (now (rows .exit)) (now (marks .exit))) (now (guide .exit)) ⌝ }
 {
     if (shown >> (w % WORD)) % 2 == 1 {
         end_first(rows, marks, guide, w, m, t, f);
     }
+}
+
+// The words from w up to this one, at most `full`, are not shown. A bit stands for every 64th word, so where none is set from that of w on it is the next one that the lowest bit stands for.
+fn next_shown(shown: u64, w: usize, full: usize) -> usize
+    requires { ⌜ (w ≤ full) × (full ≤ most) ⌝ }
+    ensures { λ p. ⌜ (w ≤ p) × (p ≤ full) × ((k : ℕ) → w ≤ k → k < p → bit shown (k % word) ≡ false) ⌝ }
+{
+    lesser(w / WORD * WORD + next_bit(shown, w % WORD), full)
 }
 
 // Ends the used rows of thread t and frame f or above, in the words that the guide shows.
@@ -120,10 +143,10 @@ pub(crate) fn end_frames(
     let n = rows::references::room(rows, marks);
     let shown = guide::references::shown_from(guide, t, f);
     let full = n / WORD;
-    let mut w = 0;
+    let mut w = next_shown(shown, 0, full);
     while w < full {
         end_shown(rows, marks, guide, shown, w, WORD, t, f);
-        w += 1;
+        w = next_shown(shown, w + 1, full);
     }
     end_shown(rows, marks, guide, shown, full, n % WORD, t, f);
     if t <= 16 {

@@ -1,4 +1,5 @@
 // The loop that holds the lent tables: the lines of a piece of the input, handed to the step one after another.
+mod bits;
 mod call;
 mod enter;
 mod fit;

@@ -1,5 +1,5 @@
 -- `guide::references::shown_from` meets its contract; the invariant: the bits of the frames before i, together. Assumes nothing.
-use mathlib.Core.Path.{_≡_}
+use mathlib.Core.Path.{_≡_, refl}
 use Prim.Native.Nat.{_≤_, _-_}
 use native.Mathlib.Omega.{arith}
 use borrow.Author.Needs.{needs}
@@ -26,10 +26,11 @@ shown-from-spec =
     (λ c κs. search needs)
     (λ c. (omega arith, first-bits _ _))
     (λ c. omega arith)
+    (λ c. search needs)
+    (λ c. search needs)
+    (λ c. omega arith)
+    (λ c. omega arith)
+    (λ c. (omega arith, more-bits _ _ _ _ _ (c .before .before .loop .inv .1) refl))
+    (λ c. omega arith)
     (λ c κs. search needs)
-    (λ c. omega arith)
-    (λ c. omega arith)
-    (λ c. (omega arith, more-bits _ _ _ _ _ (c .before .before .loop .inv .1) (c .number-at .ensures)))
-    (λ c. omega arith)
-    (λ c κs. search needs)
-    (λ c. let at-loop-test = c .before in let at-loop = at-loop-test .before in let at-frames-from = at-loop .before in let at-cell-of = at-frames-from .before in shown-is _ _ _ _ _ _ (at-cell-of .cell-of .ensures .0) (at-frames-from .frames-from .ensures .0) (at-loop .loop .inv .0) (at-loop-test .loop-test .left) _ _ (at-loop .loop .inv .1) (c .number-at2 .ensures)))
+    (λ c. let at-loop-test = c .before in let at-loop = at-loop-test .before in let at-frames-in = at-loop .before in let at-cell-of = at-frames-in .before in shown-is _ _ _ _ _ _ (at-cell-of .cell-of .ensures .0) (at-frames-in .frames-in .ensures) (at-loop .loop .inv .0) (at-loop-test .loop-test .left) _ _ (at-loop .loop .inv .1) (c .number-at .ensures)))

@@ -7,8 +7,9 @@ use native.Mathlib.Omega.{arith}
 use Rattle.rows.specs.Marks.{word}
 use Rattle.rows.specs.References.{from-frame, references}
 use Rattle.rows.specs.Table.{ended-from, room, table}
-use Rattle.rows.proofs.TableLaws.{ended-end, ended-first, ended-next}
+use Rattle.rows.proofs.TableLaws.{ended-end}
 use Rattle.guide.specs.References.{Guides}
+use Rattle.run.proofs.Shown.{used-first, used-next}
 use Rattle.run.proofs.kept.end_first.Statement.{statement}
 use Rattle.run.proofs.kept.end_first.Tie as tie
 
@@ -26,13 +27,16 @@ end-first-spec =
     (tie.spec
     Inv-loop
     μ-loop
-    (λ c. (omega arith, refl, refl, refl, search ended-first, search needs))
+    (λ c κs. (unfold room in omega arith, omega arith, search needs))
+    (λ c. let told = c .next-used .ensures in (told .1, refl, refl, refl, used-first references (from-frame _ _) _ _ _ _ (told .2), search needs))
     (λ c. unfold room in omega arith)
     (λ c. unfold room in omega arith)
     (λ c κs. (search needs, unfold room in omega arith))
-    (λ c. search needs)
-    (λ c. search needs)
-    (λ c. (omega arith, omega arith, omega arith, omega arith, search ended-next, search needs))
+    (λ c. omega arith)
+    (λ c κs. (unfold room in omega arith, omega arith, search needs))
+    (λ c. omega arith)
+    (λ c. let told = c .next-used2 .ensures in let at-end-if = c .before .before .before .before .before .before .before .before in let at-loop = at-end-if .before .before .before .before .before in
+    (told .1, omega arith, omega arith, omega arith, used-next references (from-frame _ _) _ _ _ _ _ _ _ (at-loop .loop .inv .4) (at-end-if .end-if .ensures .0) (told .0) (told .2), at-end-if .end-if .ensures .1))
     (λ c. search needs)
     (λ c. search needs)
     (λ c. search needs)
