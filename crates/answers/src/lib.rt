@@ -8,11 +8,11 @@ ghost use Rattle.answers.specs.Listed.{of-rule, listed, is-clean};
 
 const MOST: usize = 6;
 
-// A refusal is 0 where the line is accepted. Of the six findings the first `count` are the line's, the others all 0.
+// Of the six findings the first `count` are the line's, the others all 0. A refusal is 0 where the line is accepted; it stands behind them, so that an answer is copied word by word.
 pub struct Answer {
-    pub refusal: u8,
-    pub count: usize,
     pub found: [Finding; 6],
+    pub count: usize,
+    pub refusal: u8,
 }
 
 // What was judged of a line: the rules that it breaks as a whole, and the rule that each place breaks, or 0.
@@ -43,9 +43,9 @@ pub fn refused(refusal: u8) -> Answer
     };
     let found = [none; 6];
     Answer {
-        refusal,
-        count: 0,
         found,
+        count: 0,
+        refusal,
     }
 }
 

@@ -20,11 +20,11 @@ use Rattle.guide.specs.Listing.{word-at, lists, with-row, put-row-at, wi
 use Rattle.guide.specs.Tallies.{more-at, less-at, tally, Tallied}
 use Rattle.guide.proofs.Changes.{not-none, below-last, Added, Removed, still}
 use Rattle.guide.proofs.ListingLaws.{listed-more}
-use Rattle.guide.proofs.TallyLaws.{tally-more, tally-next, tallied-plus, tallied-minus}
+use Rattle.guide.proofs.TallyLaws.{tally-more, tally-next, tallied-like, tallied-plus, tallied-minus}
 
-length-more : (G : List ℕ) (k : ℕ) → length (more-at G k) ≡ length G
+pub more-length : (G : List ℕ) (k : ℕ) → length (more-at G k) ≡ length G
 unfolding more-at
-length-more G k = length-set G k _
+more-length G k = length-set G k _
 
 pub less-length : (G : List ℕ) (k : ℕ) → length (less-at G k) ≡ length G
 unfolding less-at
@@ -72,7 +72,7 @@ module _ {A : Type 0} (L : Layout A) (first second cell : A → ℕ) (places end
   with-kept T G r x = more-at (with-listed L first second T G (first x) (second x) r) (places + cell x)
 
   pub kept-length : (T : Table) (G : List ℕ) (r : ℕ) (x : A) → length (with-kept T G r x) ≡ length G
-  kept-length T G r x = length-more (with-listed L first second T G (first x) (second x) r) (places + cell x) ∙ listed-length T G (first x) (second x) r
+  kept-length T G r x = more-length (with-listed L first second T G (first x) (second x) r) (places + cell x) ∙ listed-length T G (first x) (second x) r
 
   -- all numbers behind the tallies are as they were
   pub kept-elsewhere : (T : Table) (G : List ℕ) (r : ℕ) (x : A) (j d : ℕ) → end ≤ j → getD (with-kept T G r x) j d ≡ getD G j d
@@ -112,12 +112,11 @@ module _ {A : Type 0} (L : Layout A) (first second cell : A → ℕ) (places end
   -- rows with the same places and cells
   pub kept-like : (G : List ℕ) (S S' : ℕ → Option A) (n : ℕ) → ((k : ℕ) → k < n → (j : ℕ) → holding (λ (x : A). eqb (cell x) j) (S' k) ≡ holding (λ (x : A). eqb (cell x) j) (S k))
       → ((k : ℕ) (y : A) → k < n → S' k ≡ some y → lists G (first y) (second y) k ≡ true) → Kept S n G → Kept S' n G
-  unfolding tally
   kept-like G S S' n cells-same shown c =
       record {
         long = c .long;
         listed = λ k y l e. shown k y l e;
-        tallied = λ k h. c .tallied k h ∙ how-many-ext _ _ n (λ r l. sym (cells-same r l k));
+        tallied = tallied-like cell places end G S S' n cells-same (c .tallied);
       }
 
   pub kept-same : (G : List ℕ) (S S' : ℕ → Option A) (n : ℕ) → ((k : ℕ) → k < n → S' k ≡ S k) → Kept S n G → Kept S' n G

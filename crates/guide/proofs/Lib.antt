@@ -7,6 +7,7 @@ mod ListingLaws
 mod NamedLaws
 mod MaskLaws
 mod Kept
+mod FreeLaws
 pub mod GuideLaws
 pub mod PinGuideLaws
 mod Steps

@@ -3,13 +3,13 @@ use mathlib.Core.Path.{_≡_, refl, sym, ap, subst, _∙_}
 use mathlib.Core.Bool.{Bool, true, false, _||_}
 use mathlib.Core.List.{List}
 use mathlib.Core.Option.{Option, none, some}
-use Prim.Native.Nat.{ℕ, zero, suc, _+_, _/_, _%_, _^_, _≤_, _<_}
+use Prim.Native.Nat.{ℕ, zero, suc, _+_, _^_, _<_}
 use native.Mathlib.Decide.{ℕ-discrete, decLt}
 use native.Mathlib.Omega.{arith}
 use lib.Bits.{bitOr}
 use lib.ListN.{length, getD, set, length-set}
 use lib.Seq.{getD-set-same, getD-set-other}
-use Rattle.rows.specs.Marks.{word, bit}
+use Rattle.rows.specs.Marks.{bit}
 use Rattle.rows.specs.Table.{Layout, Table}
 use Rattle.rows.proofs.BitLaws.{bit-or}
 use Rattle.rows.proofs.MarkLaws.{set-same, set-other}
@@ -18,13 +18,13 @@ use Rattle.guide.proofs.Changes.{some-inj, Added}
 
 -- ---- a bit set
 
-pub bit-length : (G : List ℕ) (k r : ℕ) → length (with-bit G k r) ≡ length G
+pub bit-length : (G : List ℕ) (k i : ℕ) → length (with-bit G k i) ≡ length G
 unfolding with-bit
-bit-length G k r = length-set G k _
+bit-length G k i = length-set G k _
 
-pub bit-elsewhere : (G : List ℕ) (k r j d : ℕ) → (j ≡ k → ⊥) → getD (with-bit G k r) j d ≡ getD G j d
+pub bit-elsewhere : (G : List ℕ) (k i j d : ℕ) → (j ≡ k → ⊥) → getD (with-bit G k i) j d ≡ getD G j d
 unfolding with-bit
-bit-elsewhere G k r j d n = getD-set-other G k j _ d n
+bit-elsewhere G k i j d n = getD-set-other G k j _ d n
 
 keeps : (v j i : ℕ) → bit v i ≡ true → bit (bitOr v (2 ^ j)) i ≡ true
 keeps v j i e = go (ℕ-discrete i j)
@@ -33,42 +33,42 @@ keeps v j i e = go (ℕ-discrete i j)
     go (yes q) = ap (bit (bitOr v (2 ^ j))) q ∙ set-same v j
     go (no q) = set-other v j i q ∙ e
 
-module _ {A : Type 0} (L : Layout A) (cell : A → ℕ) (from : ℕ) where
-  pub shown-more : (T : Table) (G : List ℕ) (S S' : ℕ → Option A) (n n' r : ℕ) (x : A) → from + cell x < length G → Added L T S n S' n' r x → Shown cell from S n G
-      → Shown cell from S' n' (with-bit G (from + cell x) r)
+module _ {A : Type 0} (L : Layout A) (cell : A → ℕ) (bit-of : ℕ → ℕ) (from : ℕ) where
+  pub shown-more : (T : Table) (G : List ℕ) (S S' : ℕ → Option A) (n n' r : ℕ) (x : A) → from + cell x < length G → Added L T S n S' n' r x → Shown cell bit-of from S n G
+      → Shown cell bit-of from S' n' (with-bit G (from + cell x) (bit-of r))
   unfolding with-bit
   shown-more T G S S' n n' r x inside d c k y l e = go (ℕ-discrete k r)
     where
       v : ℕ
-      v = bitOr (getD G (from + cell x) 0) (2 ^ (r / word % word))
+      v = bitOr (getD G (from + cell x) 0) (2 ^ bit-of r)
 
       at-x : getD (set G (from + cell x) v) (from + cell x) 0 ≡ v
       at-x = getD-set-same G (from + cell x) v 0 inside
 
-      stays : bit (getD G (from + cell y) 0) (k / word % word) ≡ true → Dec (from + cell y ≡ from + cell x) → bit (getD (set G (from + cell x) v) (from + cell y) 0) (k / word % word) ≡ true
+      stays : bit (getD G (from + cell y) 0) (bit-of k) ≡ true → Dec (from + cell y ≡ from + cell x) → bit (getD (set G (from + cell x) v) (from + cell y) 0) (bit-of k) ≡ true
       stays h (yes q) =
-          ap (λ (i : ℕ). bit (getD (set G (from + cell x) v) i 0) (k / word % word)) q ∙ ap (λ (u : ℕ). bit u (k / word % word)) at-x
-          ∙ keeps (getD G (from + cell x) 0) (r / word % word) (k / word % word) (ap (λ (i : ℕ). bit (getD G i 0) (k / word % word)) (sym q) ∙ h)
-      stays h (no q) = ap (λ (u : ℕ). bit u (k / word % word)) (getD-set-other G (from + cell x) (from + cell y) v 0 q) ∙ h
+          ap (λ (i : ℕ). bit (getD (set G (from + cell x) v) i 0) (bit-of k)) q ∙ ap (λ (u : ℕ). bit u (bit-of k)) at-x
+          ∙ keeps (getD G (from + cell x) 0) (bit-of r) (bit-of k) (ap (λ (i : ℕ). bit (getD G i 0) (bit-of k)) (sym q) ∙ h)
+      stays h (no q) = ap (λ (u : ℕ). bit u (bit-of k)) (getD-set-other G (from + cell x) (from + cell y) v 0 q) ∙ h
 
-      go : Dec (k ≡ r) → bit (getD (set G (from + cell x) v) (from + cell y) 0) (k / word % word) ≡ true
+      go : Dec (k ≡ r) → bit (getD (set G (from + cell x) v) (from + cell y) 0) (bit-of k) ≡ true
       go (yes q) =
           let same : x ≡ y = some-inj x y (sym (d .this) ∙ ap S' (sym q) ∙ e) in
-          ap (λ (z : A). bit (getD (set G (from + cell x) v) (from + cell z) 0) (k / word % word)) (sym same)
-          ∙ ap (λ (i : ℕ). bit (getD (set G (from + cell x) v) (from + cell x) 0) (i / word % word)) q
-          ∙ ap (λ (u : ℕ). bit u (r / word % word)) at-x
-          ∙ set-same (getD G (from + cell x) 0) (r / word % word)
+          ap (λ (z : A). bit (getD (set G (from + cell x) v) (from + cell z) 0) (bit-of k)) (sym same)
+          ∙ ap (λ (i : ℕ). bit (getD (set G (from + cell x) v) (from + cell x) 0) (bit-of i)) q
+          ∙ ap (λ (u : ℕ). bit u (bit-of r)) at-x
+          ∙ set-same (getD G (from + cell x) 0) (bit-of r)
       go (no q) = let o = d .old k y l q e in stays (c k y (o .0) (o .1)) (ℕ-discrete (from + cell y) (from + cell x))
 
   -- numbers elsewhere
-  pub shown-elsewhere : (G H : List ℕ) (S : ℕ → Option A) (n : ℕ) → ((k : ℕ) → from ≤ k → getD H k 0 ≡ getD G k 0) → Shown cell from S n G → Shown cell from S n H
-  shown-elsewhere G H S n same c r x l e = ap (λ (v : ℕ). bit v (r / word % word)) (same (from + cell x) (omega arith)) ∙ c r x l e
+  pub shown-elsewhere : (G H : List ℕ) (S : ℕ → Option A) (n : ℕ) → ((x : A) → getD H (from + cell x) 0 ≡ getD G (from + cell x) 0) → Shown cell bit-of from S n G → Shown cell bit-of from S n H
+  shown-elsewhere G H S n same c r x l e = ap (λ (v : ℕ). bit v (bit-of r)) (same x) ∙ c r x l e
 
   -- no used row has its cell among these
   pub shown-none : (G : List ℕ) (S : ℕ → Option A) (n k m : ℕ) → ((j : ℕ) → (j < k → ⊥) → (j < k + m) → (r : ℕ) (x : A) → r < n → S r ≡ some x → from + cell x ≡ j → ⊥)
-      → ((j : ℕ) → ((j < k → ⊥) → j < k + m → ⊥) → getD (no-bits G k m) j 0 ≡ getD G j 0) → Shown cell from S n G → Shown cell from S n (no-bits G k m)
+      → ((j : ℕ) → ((j < k → ⊥) → j < k + m → ⊥) → getD (no-bits G k m) j 0 ≡ getD G j 0) → Shown cell bit-of from S n G → Shown cell bit-of from S n (no-bits G k m)
   shown-none G S n k m free same c r x l e =
-      ap (λ (v : ℕ). bit v (r / word % word)) (same (from + cell x) (λ a b. free (from + cell x) a b r x l e refl)) ∙ c r x l e
+      ap (λ (v : ℕ). bit v (bit-of r)) (same (from + cell x) (λ a b. free (from + cell x) a b r x l e refl)) ∙ c r x l e
 
 -- ---- several words
 

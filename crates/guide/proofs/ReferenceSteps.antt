@@ -16,8 +16,9 @@ use Rattle.rows.specs.View.{view}
 use Rattle.rows.specs.References.{references}
 use Rattle.guide.specs.Listing.{with-listed}
 use Rattle.guide.specs.Tallies.{more-at, less-at}
-use Rattle.guide.specs.Masks.{with-bit, all-bits, no-bits}
-use Rattle.guide.specs.References.{places, others, cells, masks, spread, first-of, second-of, first, second, cell-of, noted, forgotten, shown-from, none-from, filled}
+use Rattle.guide.specs.Masks.{word-bit, mark-bit, with-bit, all-bits, no-bits}
+use Rattle.guide.specs.Frees.{lowered-at}
+use Rattle.guide.specs.References.{places, others, cells, words, marks, used-at, low-at, spread, first-of, second-of, first, second, cell-of, noted, forgotten, bits-from, none-from, filled}
 use Rattle.guide.proofs.Steps.{bits-cut, none-cut}
 
 -- ---- places and cells
@@ -49,19 +50,20 @@ cell-other t f h = rw h
 -- ---- a row noted, and forgotten
 
 module _ (T : Table) (G : List ℕ) (r : ℕ) where
-  pub noted-row : (x : Reference) (i j k : ℕ) (H I J : List ℕ) → getD (view references T) r none ≡ some x → i ≡ first x → j ≡ second x
-      → H ≡ with-listed references first second T G i j r → k ≡ cell-of (x .thread) (x .frame) → I ≡ more-at H (places + k) → J ≡ with-bit I (masks + k) r → J ≡ noted T G r
+  pub noted-row : (x : Reference) (i j k : ℕ) (H I J K M : List ℕ) → getD (view references T) r none ≡ some x → i ≡ first x → j ≡ second x
+      → H ≡ with-listed references first second T G i j r → k ≡ cell-of (x .thread) (x .frame) → I ≡ more-at H (places + k) → J ≡ with-bit I (words + k) (word-bit r)
+      → K ≡ with-bit J (marks + k) (mark-bit r) → M ≡ more-at K used-at → M ≡ noted T G r
   unfolding noted
-  noted-row x i j k H I J e ei ej eh ek ew eb = eb ∙ rw (e, ew, eh, ei, ej, ek)
+  noted-row x i j k H I J K M e ei ej eh ek ew eb ed em = em ∙ rw (e, ed, eb, ew, eh, ei, ej, ek)
 
   pub noted-none : getD (view references T) r none ≡ none → G ≡ noted T G r
   unfolding noted
   noted-none e = rw e
 
-  pub forgotten-row : (x : Reference) (k : ℕ) (H : List ℕ) → getD (view references T) r none ≡ some x → k ≡ cell-of (x .thread) (x .frame) → H ≡ less-at G (places + k)
-      → H ≡ forgotten T G r
+  pub forgotten-row : (x : Reference) (k : ℕ) (H I J : List ℕ) → getD (view references T) r none ≡ some x → k ≡ cell-of (x .thread) (x .frame) → H ≡ less-at G (places + k)
+      → I ≡ less-at H used-at → J ≡ lowered-at I low-at r → J ≡ forgotten T G r
   unfolding forgotten
-  forgotten-row x k H e ek eh = eh ∙ rw (e, ek)
+  forgotten-row x k H I J e ek eh ei ej = ej ∙ rw (e, ei, eh, ek)
 
   pub forgotten-none : getD (view references T) r none ≡ none → G ≡ forgotten T G r
   unfolding forgotten
@@ -69,17 +71,20 @@ module _ (T : Table) (G : List ℕ) (r : ℕ) where
 
 -- ---- the frames from f on
 
-module _ (G : List ℕ) (t f k n i : ℕ) (ek : k ≡ cell-of t f) (en : n ≡ min (65 - f) (length G - (masks + k))) (le : i ≤ n) (ge : n ≤ i) where
-  all-there : i ≡ min (65 - f) (length G - (masks + k))
+module _ (G : List ℕ) (from t f k n i : ℕ) (ek : k ≡ cell-of t f) (en : n ≡ min (65 - f) (length G - (from + k))) (le : i ≤ n) (ge : n ≤ i) where
+  all-there : i ≡ min (65 - f) (length G - (from + k))
   all-there = omega (arith, en, le, ge)
 
-  pub shown-is : (m o : ℕ) → m ≡ all-bits G (masks + k) i → o ≡ getD G (masks + others) 0 → bitOr o m ≡ shown-from G t f
-  unfolding shown-from
-  shown-is m o em eo = rw (em, eo, bits-cut G (masks + k) i (65 - f) all-there, ek)
+  pub bits-are : (m o : ℕ) → m ≡ all-bits G (from + k) i → o ≡ getD G (from + others) 0 → bitOr o m ≡ bits-from G from t f
+  unfolding bits-from
+  bits-are m o em eo = rw (em, eo, bits-cut G (from + k) i (65 - f) all-there, ek)
 
-  pub none-is : (H : List ℕ) → H ≡ no-bits G (masks + k) i → H ≡ none-from G t f
+  pub none-are : (H : List ℕ) → H ≡ no-bits G (from + k) i → H ≡ none-from G from t f
   unfolding none-from
-  none-is H e = e ∙ none-cut G (masks + k) i (65 - f) all-there ∙ rw ek
+  none-are H e = e ∙ none-cut G (from + k) i (65 - f) all-there ∙ rw ek
+
+pub both-none : (G H I : List ℕ) (t f : ℕ) → H ≡ none-from G words t f → I ≡ none-from H marks t f → I ≡ none-from (none-from G words t f) marks t f
+both-none G H I t f e h = h ∙ ap (λ (X : List ℕ). none-from X marks t f) e
 
 -- ---- all rows
 

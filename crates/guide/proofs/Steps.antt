@@ -2,7 +2,7 @@
 use mathlib.Core.Path.{_≡_, refl, sym, ap, _∙_}
 use mathlib.Core.Bool.{_||_}
 use mathlib.Core.List.{List, [], _∷_}
-use Prim.Native.Nat.{ℕ, zero, suc, _+_, _-_, _≤_, _<_, min}
+use Prim.Native.Nat.{ℕ, zero, suc, _+_, _-_, _/_, _≤_, _<_, min}
 use native.Mathlib.Nat.{le-of-suc-le-suc, not-suc-le-zero, add-zero, add-suc}
 use native.Mathlib.Numerals.{add-one}
 use native.Mathlib.Decide.{decLt}
@@ -12,11 +12,13 @@ use lib.Dec.{eqb}
 use lib.ListN.{length, getD, set, List·getD-eq-default}
 use lib.Seq.{set-getD, set-out}
 use borrow.Author.Tests.{lt-ltb, le-ltb}
+use Rattle.rows.specs.Marks.{word}
 use Rattle.rows.specs.Table.{most}
 use Rattle.guide.specs.Words.{full-word, name-a, name-b, name-c, named}
 use Rattle.guide.specs.Listing.{word-at}
 use Rattle.guide.specs.Tallies.{more-at, less-at}
 use Rattle.guide.specs.Masks.{with-bit, all-bits, no-bits}
+use Rattle.guide.specs.Frees.{raised-at, lowered-at}
 use Rattle.guide.proofs.MaskLaws.{length-no-bits}
 
 -- ---- a word
@@ -60,11 +62,25 @@ no-less G k n e l = sym (set-getD G k 0) ∙ ap (set G k) (omega (arith, e, l))
 pub number-of : (G : List ℕ) (p k i n : ℕ) → k ≡ i → n ≡ getD G (p + k) 0 → n ≡ getD G (p + i) 0
 number-of G p k i n e h = h ∙ ap (λ (j : ℕ). getD G (p + j) 0) e
 
+-- ---- the word of the lowest free row
+
+pub raised-to : (G H : List ℕ) (k r : ℕ) → H ≡ set G k (r / word) → H ≡ raised-at G k r
+unfolding raised-at
+raised-to G H k r e = e
+
+pub lowered-to : (G H : List ℕ) (k r n : ℕ) → n ≡ getD G k 0 → r / word < n → H ≡ set G k (r / word) → H ≡ lowered-at G k r
+unfolding lowered-at
+lowered-to G H k r n e l s = s ∙ ap (set G k) (omega (arith, e, l))
+
+pub no-lower : (G : List ℕ) (k r n : ℕ) → n ≡ getD G k 0 → n ≤ r / word → G ≡ lowered-at G k r
+unfolding lowered-at
+no-lower G k r n e l = sym (set-getD G k 0) ∙ ap (set G k) (omega (arith, e, l))
+
 -- ---- bits
 
-pub bit-past : (G : List ℕ) (k r : ℕ) → length G ≤ k → G ≡ with-bit G k r
+pub bit-past : (G : List ℕ) (k i : ℕ) → length G ≤ k → G ≡ with-bit G k i
 unfolding with-bit
-bit-past G k r h = sym (set-out G k _ h)
+bit-past G k i h = sym (set-out G k _ h)
 
 pub first-bits : (G : List ℕ) (k : ℕ) → 0 ≡ all-bits G k 0
 unfolding all-bits

@@ -57,6 +57,12 @@ module _ {A : Type 0} (cell : A → ℕ) where
       ∙ ap (λ (p : Option A). how-many (λ r. holding (λ x. eqb (cell x) j) (S r)) n + one (holding (λ (y : A). eqb (cell y) j) p)) e
 
   module _ (from to : ℕ) (G : List ℕ) where
+    -- as many rows in each cell
+    pub tallied-like : (S S' : ℕ → Option A) (n : ℕ) → ((k : ℕ) → k < n → (j : ℕ) → holding (λ (x : A). eqb (cell x) j) (S' k) ≡ holding (λ (x : A). eqb (cell x) j) (S k))
+        → Tallied cell from to S n G → Tallied cell from to S' n G
+    unfolding tally
+    tallied-like S S' n same c k h = c k h ∙ how-many-ext _ _ n (λ r l. sym (same r l k))
+
     -- one more in the cell of x
     pub tallied-plus : (x : A) (S S' : ℕ → Option A) (n n' : ℕ) → from + cell x < to → to ≤ length G → n' ≤ most
         → ((j : ℕ) → tally cell S' n' j ≡ tally cell S n j + one (eqb (cell x) j)) → Tallied cell from to S n G → Tallied cell from to S' n' (more-at G (from + cell x))

@@ -1,4 +1,4 @@
--- The guide of reference rows: where the handle of a thread is listed, and how many locals each frame has. Assumes nothing.
+-- The guide of reference rows: where the handle of a thread is listed, how many locals each frame has and where they stand, and where the lowest free row may stand. Assumes nothing.
 use mathlib.Core.Path.{_≡_}
 use mathlib.Core.Bool.{_&&_}
 use mathlib.Core.List.{List}
@@ -14,7 +14,8 @@ use Rattle.rows.specs.View.{slot, view}
 use Rattle.rows.specs.References.{references, is-handle}
 use Rattle.guide.specs.Listing.{found-by, with-listed, Listed}
 use Rattle.guide.specs.Tallies.{more-at, less-at, Tallied}
-use Rattle.guide.specs.Masks.{with-bit, all-bits, no-bits, Shown}
+use Rattle.guide.specs.Masks.{word-bit, mark-bit, with-bit, all-bits, no-bits, Shown}
+use Rattle.guide.specs.Frees.{lowered-at, any, None-below}
 
 -- the places of handles come first, then a number for each frame
 abbrev pub places : ℕ
@@ -27,12 +28,22 @@ others = 1105
 abbrev pub cells : ℕ
 cells = 1106
 
--- then a word for each frame, of the words of marks where its locals stand
-abbrev pub masks : ℕ
-masks = 33874
+-- then two words for each frame: the words of marks where its locals stand, and their marks in these
+abbrev pub words : ℕ
+words = 33874
+
+abbrev pub marks : ℕ
+marks = 34980
+
+-- then how many rows are used, and the word of marks below which all are
+abbrev pub used-at : ℕ
+used-at = 36086
+
+abbrev pub low-at : ℕ
+low-at = 36087
 
 abbrev pub size : ℕ
-size = 34980
+size = 36088
 
 -- any spread will do; the two places of a handle have no digit in common
 unfoldable pub spread : ℕ → ℕ → ℕ
@@ -62,26 +73,32 @@ found-in T G t h = found-by references G (first-of t h) (second-of t h) (is-hand
 -- with row r, which holds this
 abbrev pub with-slot : Table → List ℕ → ℕ → Option Reference → List ℕ
 with-slot T G r none = G
-with-slot T G r (some x) = with-bit (more-at (with-listed references first second T G (first x) (second x) r) (places + cell x)) (masks + cell x) r
+with-slot T G r (some x) =
+    more-at
+    (with-bit
+    (with-bit (more-at (with-listed references first second T G (first x) (second x) r) (places + cell x)) (words + cell x) (word-bit r))
+    (marks + cell x)
+    (mark-bit r))
+    used-at
 
 unfoldable pub noted : Table → List ℕ → ℕ → List ℕ
 noted T G r = with-slot T G r (getD (view references T) r none)
 
 -- without it: its place stays until another row wants it
-abbrev pub without-slot : List ℕ → Option Reference → List ℕ
-without-slot G none = G
-without-slot G (some x) = less-at G (places + cell x)
+abbrev pub without-slot : List ℕ → ℕ → Option Reference → List ℕ
+without-slot G r none = G
+without-slot G r (some x) = lowered-at (less-at (less-at G (places + cell x)) used-at) low-at r
 
 unfoldable pub forgotten : Table → List ℕ → ℕ → List ℕ
-forgotten T G r = without-slot G (getD (view references T) r none)
+forgotten T G r = without-slot G r (getD (view references T) r none)
 
--- the words of marks where rows of thread t and frame f or above may stand
-unfoldable pub shown-from : List ℕ → ℕ → ℕ → ℕ
-shown-from G t f = bitOr (getD G (masks + others) 0) (all-bits G (masks + cell-of t f) (65 - f))
+-- the bits of the frames of thread t from f on, and of what is in no such frame, together
+unfoldable pub bits-from : List ℕ → ℕ → ℕ → ℕ → ℕ
+bits-from G from t f = bitOr (getD G (from + others) 0) (all-bits G (from + cell-of t f) (65 - f))
 
--- none of them
-unfoldable pub none-from : List ℕ → ℕ → ℕ → List ℕ
-none-from G t f = no-bits G (masks + cell-of t f) (65 - f)
+-- none in those frames
+unfoldable pub none-from : List ℕ → ℕ → ℕ → ℕ → List ℕ
+none-from G from t f = no-bits G (from + cell-of t f) (65 - f)
 
 -- the first n rows noted, one after another
 unfoldable pub filled : Table → List ℕ → ℕ → List ℕ
@@ -92,8 +109,11 @@ filled T G (suc n) = noted T (filled T G n) n
 pub record Guides (T : Table) (G : List ℕ) : Type 0 where
   pub whole : length G ≡ size
   pub listed : Listed references first second (slot references T) (room references T) G
-  pub tallied : Tallied cell places masks (slot references T) (room references T) G
-  pub shown : Shown cell masks (slot references T) (room references T) G
+  pub tallied : Tallied cell places words (slot references T) (room references T) G
+  pub words-shown : Shown cell word-bit words (slot references T) (room references T) G
+  pub marks-shown : Shown cell mark-bit marks (slot references T) (room references T) G
+  pub counted : Tallied any used-at low-at (slot references T) (room references T) G
+  pub low : None-below low-at (slot references T) (room references T) G
 
 -- what rows are looked up by: all of them, or a guide
 pub data Leads (T : Table) (G : List ℕ) : Type 0 where

@@ -1,4 +1,4 @@
-// The guide of reference rows: where the handle of a thread is listed, and how many locals each frame has.
+// The guide of reference rows: where the handle of a thread is listed, how many locals each frame has and where they stand, and where the lowest free row may stand.
 use crate::word::above;
 use crate::word::is_full;
 use crate::word::is_named;
@@ -24,27 +24,38 @@ ghost use mathlib.Core.Option.{none};
 ghost use Rattle.words.specs.Choice.{if_then_else_};
 ghost use Rattle.rows.specs.Scan.{lowest};
 ghost use Rattle.rows.specs.Slots.{holding};
+ghost use Rattle.rows.specs.Marks.{word};
 ghost use Rattle.rows.specs.Table.{table, room};
+ghost use Rattle.rows.specs.Frees.{free-from};
 ghost use Rattle.rows.specs.View.{slot, view};
 ghost use Rattle.rows.specs.References.{references, is-handle};
 ghost use Rattle.guide.specs.Words.{lane, named};
 ghost use Rattle.guide.specs.Listing.{wants, with-row, with-listed};
 ghost use Rattle.guide.specs.Masks.{with-bit};
-ghost use Rattle.guide.specs.References.{places, cells, spread, first-of, second-of, first, second, cell-of, found-in, noted, forgotten, shown-from, none-from, filled};
+ghost use Rattle.guide.specs.Frees.{raised-at, lowered-at};
+ghost use Rattle.guide.specs.References.{places, cells, words, marks as mark-words, used-at, low-at, size, spread, first-of, second-of, first, second, cell-of, found-in, noted, forgotten, bits-from, none-from, filled};
 
 // So many words are a guide.
-pub const SIZE: usize = 34980;
+pub const SIZE: usize = 36088;
 
 const PLACES: u64 = 32768;
 
-// A number for each of 65 frames of 17 threads, and one for all others; then a word for each, of the words of marks where its rows stand.
+// A number for each of 65 frames of 17 threads, and one for all others.
 const COUNTS: usize = 32768;
 
-const MASKS: usize = 33874;
+// Then two words for each: which words of marks its rows stand in, a bit for each word, and which marks of such words are theirs.
+const WORDS: usize = 33874;
+
+const MARKS: usize = 34980;
 
 const FRAMES: usize = 65;
 
 const OTHERS: usize = 1105;
+
+// Then how many rows are used, and the word of marks below which all are.
+const USED: usize = 36086;
+
+const LOW: usize = 36087;
 
 const HALF: u64 = 4294967296;
 
@@ -169,17 +180,18 @@ fn cell_of(t: Number, f: Number) -> usize
     OTHERS
 }
 
-// The bit of row r, set in the word at k.
-fn set_bit(guide: &mut [u64], k: usize, r: usize)
-    ensures { λ _. ⌜ now (guide .exit) ≡ with-bit (now (guide .entry)) k r ⌝ }
+// Bit i set in the word at k.
+fn set_bit(guide: &mut [u64], k: usize, i: usize)
+    requires { ⌜ i < word ⌝ }
+    ensures { λ _. ⌜ now (guide .exit) ≡ with-bit (now (guide .entry)) k i ⌝ }
 {
     if guide.len() <= k {
         return;
     }
-    guide[k] = guide[k] | (1 << (r / WORD % WORD));
+    guide[k] = guide[k] | (1 << i);
 }
 
-// Row r, where it is used, is in the guide: listed, counted and shown.
+// Row r, where it is used, is in the guide: listed, shown and counted.
 pub fn note(rows: &[Number], marks: &[u64], guide: &mut [u64], r: usize)
     ensures { λ _. ⌜ now (guide .exit) ≡ noted (table (now (rows .entry)) (now (marks .entry))) (now (guide .entry)) r ⌝ }
 {
@@ -196,19 +208,25 @@ pub fn note(rows: &[Number], marks: &[u64], guide: &mut [u64], r: usize)
             );
             let k = cell_of(x.thread, x.frame);
             more(guide, COUNTS + k);
-            set_bit(guide, MASKS + k, r);
+            set_bit(guide, WORDS + k, r / WORD % WORD);
+            set_bit(guide, MARKS + k, r % WORD);
+            more(guide, USED);
         }
         Held::Nothing => {}
     }
 }
 
-// Row r, where it is used, is no longer counted. Where it was listed it is found no more once it has ended.
+// Row r, where it is used, is no longer counted, and may be the lowest free one. Where it was listed and shown it is found no more once it has ended.
 pub fn forget(rows: &[Number], marks: &[u64], guide: &mut [u64], r: usize)
     ensures { λ _. ⌜ now (guide .exit) ≡ forgotten (table (now (rows .entry)) (now (marks .entry))) (now (guide .entry)) r ⌝ }
 {
     let held = rows::references::slot(rows, marks, r);
     match held {
-        Held::Row(x) => less(guide, COUNTS + cell_of(x.thread, x.frame)),
+        Held::Row(x) => {
+            less(guide, COUNTS + cell_of(x.thread, x.frame));
+            less(guide, USED);
+            lower(guide, r);
+        }
         Held::Nothing => {}
     }
 }
@@ -220,11 +238,12 @@ pub fn held(guide: &[u64], t: Number, f: Number) -> u64
     number_at(guide, COUNTS + cell_of(t, f))
 }
 
-// The words of marks where rows of thread t and frame f or above may stand: a bit for each.
-pub fn shown_from(guide: &[u64], t: Number, f: Number) -> u64
-    ensures { λ m. ⌜ m ≡ shown-from (now (guide .entry)) t f ⌝ }
+// The bits of the frames from f on of thread t, together, and those of what is in no such frame, where their words stand from `at` on.
+fn bits_from(guide: &[u64], at: usize, t: Number, f: Number) -> u64
+    requires { ⌜ at ≤ size ⌝ }
+    ensures { λ m. ⌜ m ≡ bits-from (now (guide .entry)) at t f ⌝ }
 {
-    let k = MASKS + cell_of(t, f);
+    let k = at + cell_of(t, f);
     let n = frames_in(guide, k, f);
     let mut bits = 0;
     let mut i = 0;
@@ -232,20 +251,74 @@ pub fn shown_from(guide: &[u64], t: Number, f: Number) -> u64
         bits = bits | guide[k + i];
         i += 1;
     }
-    number_at(guide, MASKS + OTHERS) | bits
+    number_at(guide, at + OTHERS) | bits
 }
 
-// No such rows are there any more.
-pub fn clear_from(guide: &mut [u64], t: Number, f: Number)
-    ensures { λ _. ⌜ now (guide .exit) ≡ none-from (now (guide .entry)) t f ⌝ }
+// The words of marks where rows of thread t and frame f or above may stand: a bit for each.
+pub fn words_from(guide: &[u64], t: Number, f: Number) -> u64
+    ensures { λ m. ⌜ m ≡ bits-from (now (guide .entry)) words t f ⌝ }
 {
-    let k = MASKS + cell_of(t, f);
+    bits_from(guide, WORDS, t, f)
+}
+
+// The marks of such words that may be theirs.
+pub fn marks_from(guide: &[u64], t: Number, f: Number) -> u64
+    ensures { λ m. ⌜ m ≡ bits-from (now (guide .entry)) mark-words t f ⌝ }
+{
+    bits_from(guide, MARKS, t, f)
+}
+
+// No bits of these frames, where their words stand from `at` on.
+fn clear_bits(guide: &mut [u64], at: usize, t: Number, f: Number)
+    requires { ⌜ at ≤ size ⌝ }
+    ensures { λ _. ⌜ now (guide .exit) ≡ none-from (now (guide .entry)) at t f ⌝ }
+{
+    let k = at + cell_of(t, f);
     let n = frames_in(guide, k, f);
     let mut i = 0;
     while i < n {
         guide[k + i] = 0;
         i += 1;
     }
+}
+
+// No such rows are there any more.
+pub fn clear_from(guide: &mut [u64], t: Number, f: Number)
+    ensures { λ _. ⌜ now (guide .exit) ≡ none-from (none-from (now (guide .entry)) words t f) mark-words t f ⌝ }
+{
+    clear_bits(guide, WORDS, t, f);
+    clear_bits(guide, MARKS, t, f);
+}
+
+// How many rows are used.
+pub fn used(guide: &[u64]) -> u64
+    ensures { λ n. ⌜ n ≡ getD (now (guide .entry)) used-at 0 ⌝ }
+{
+    number_at(guide, USED)
+}
+
+// Row r was the lowest free one.
+pub fn raise(guide: &mut [u64], r: usize)
+    ensures { λ _. ⌜ now (guide .exit) ≡ raised-at (now (guide .entry)) low-at r ⌝ }
+{
+    put_word(guide, LOW, (r / WORD) as u64);
+}
+
+// Row r is free.
+fn lower(guide: &mut [u64], r: usize)
+    ensures { λ _. ⌜ now (guide .exit) ≡ lowered-at (now (guide .entry)) low-at r ⌝ }
+{
+    let w = (r / WORD) as u64;
+    if w < number_at(guide, LOW) {
+        put_word(guide, LOW, w);
+    }
+}
+
+// The lowest free row, of those that are not below the word which the guide names, or the room.
+pub fn lowest_free(rows: &[Number], marks: &[u64], guide: &[u64]) -> usize
+    ensures { λ r. ⌜ r ≡ free-from references (table (now (rows .entry)) (now (marks .entry))) (getD (now (guide .entry)) low-at 0) ⌝ }
+{
+    rows::references::free_from(rows, marks, number_at(guide, LOW))
 }
 
 // A guide of all rows, where it was all 0.

@@ -13,7 +13,7 @@ use Rattle.program.specs.declared.Run.{Run}
 use Rattle.program.specs.declared.streams.Streams.{Streams}
 
 abbrev pub buffer-size : ℕ
-buffer-size = 65536
+buffer-size = 262144
 
 abbrev pub most-findings : ℕ
 most-findings = most-found * most-lines

@@ -44,8 +44,8 @@ const CLASS_NUMBERS: usize = lines::ranges::CLASSES as usize;
 // So many numbers of records are lent to the list of the leaks, a record for each row.
 const LEAK_NUMBERS: usize = (REFERENCE_ROWS + PIN_ROWS) * leaks::NUMBERS;
 
-// What is read stands in a buffer of this size, and so do the findings and the leaks to be written.
-const BUFFER: usize = 65536;
+// What is read stands in a buffer of this size, and so do the findings and the leaks to be written. It is four times what a pipe holds: the loop fills its guides anew for each piece.
+const BUFFER: usize = 262144;
 
 // So many leaks fit it, however long they are.
 const PIECE: usize = BUFFER / report::LONGEST_LEAK;
@@ -282,8 +282,8 @@ fn is_closed(book: &[u64; BOOK_NUMBERS]) -> bool
 fn judge_input(leaks: bool) -> Streams
     ensures { λ q. ⌜ (q .leaks ≡ leaks) × Reported q ⌝ }
 {
-    let mut buf = io::large_buffer();
-    let mut out = io::large_buffer();
+    let mut buf = [0; BUFFER];
+    let mut out = [0; BUFFER];
     let mut rows = [0; REFERENCE_NUMBERS];
     let mut marks = [0; REFERENCE_MARKS];
     let mut pins = [0; PIN_NUMBERS];

@@ -5,6 +5,7 @@ pub mod BitLaws
 pub mod MarkLaws
 mod CellLaws
 pub mod TableLaws
+pub mod FreeLaws
 mod ClassLaws
 pub mod SlotLaws
 pub mod RowLaws

@@ -24,10 +24,6 @@ use Rattle.rows.proofs.MarkLaws.{word-unused, word-used, sum-next, sear
 
 module _ {A : Type 0} (L : Layout A) where
   -- ---- what the marks say of the room
-  pub lowest-free : (rs ms : List ℕ) (n r : ℕ) → n ≡ room L (table rs ms) → r ≡ lowest (free ms) n → r ≡ free-row L (table rs ms)
-  unfolding free-row
-  lowest-free rs ms n r a b = cc
-
   pub alive-rows : (rs ms : List ℕ) (n r : ℕ) → n ≡ room L (table rs ms) → r ≡ how-many (used ms) n → r ≡ alive L (table rs ms)
   unfolding alive
   alive-rows rs ms n r a b = cc

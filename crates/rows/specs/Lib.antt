@@ -11,3 +11,5 @@ pub mod View
 pub mod Exact
 -- computed: judge::step
 pub mod Sought
+-- computed: run::run_lines
+pub mod Frees

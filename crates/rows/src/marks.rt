@@ -9,6 +9,7 @@ ghost use Rattle.words.specs.Choice.{one};
 ghost use Rattle.rows.specs.Scan.{how-many, lowest};
 ghost use Rattle.rows.specs.Marks.{word, in-word, used, free, marked, unmarked};
 ghost use Rattle.rows.specs.Table.{most};
+ghost use Rattle.rows.specs.Frees.{free-at};
 
 // The lesser of two.
 fn lesser(a: usize, b: usize) -> usize
@@ -73,12 +74,12 @@ fn free_in(marks: &[u64], w: usize) -> usize
     u64::trailing_zeros(!marks[w]) as usize
 }
 
-// The lowest free row below n, or n.
-pub(crate) fn free_below(marks: &[u64], n: usize) -> usize
-    requires { ⌜ (n ≤ length (now marks) * word) × (n ≤ most) ⌝ }
-    ensures { λ r. ⌜ r ≡ lowest (free (now (marks .entry))) n ⌝ }
+// The lowest free row below n that does not stand below word `from`, or n.
+pub(crate) fn free_below(marks: &[u64], from: usize, n: usize) -> usize
+    requires { ⌜ (n ≤ length (now marks) * word) × (n ≤ most) × (from ≤ most) ⌝ }
+    ensures { λ r. ⌜ r ≡ lowest (free-at (now (marks .entry)) from) n ⌝ }
 {
-    let mut w = 0;
+    let mut w = from;
     while w * WORD < n {
         let i = free_in(marks, w);
         if i < WORD {

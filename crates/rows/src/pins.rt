@@ -49,7 +49,7 @@ pub fn room(rows: &[Number], marks: &[u64]) -> usize
 pub fn lowest_free(rows: &[Number], marks: &[u64]) -> usize
     ensures { λ r. ⌜ r ≡ free-row pins (table (now (rows .entry)) (now (marks .entry))) ⌝ }
 {
-    free_below(marks, room(rows, marks))
+    free_below(marks, 0, room(rows, marks))
 }
 
 // How many rows are alive: the buffers outstanding.

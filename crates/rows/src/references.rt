@@ -1,4 +1,5 @@
 // Reference rows: thread, handle and frame of each handle that is alive, the line that made it, and its stated class or 0.
+use super::MOST;
 use super::Number;
 use super::WORD;
 use super::clear_row;
@@ -21,6 +22,7 @@ ghost use lib.ListN.{length, getD};
 ghost use Rattle.rows.specs.Scan.{how-many, lowest};
 ghost use Rattle.rows.specs.Marks.{word, in-word};
 ghost use Rattle.rows.specs.Table.{table, put-row, room, row-at, matches, passes, free-row, alive, found, counted, stored, taken, changed, ended, ended-if, ended-from, ended-all};
+ghost use Rattle.rows.specs.Frees.{free-from};
 ghost use Rattle.rows.specs.View.{view};
 ghost use Rattle.rows.specs.References.{references, told, of-thread, has-handle, is-handle, in-frame, from-frame, with-class, class-at};
 
@@ -53,7 +55,18 @@ pub fn room(rows: &[Number], marks: &[u64]) -> usize
 pub fn lowest_free(rows: &[Number], marks: &[u64]) -> usize
     ensures { λ r. ⌜ r ≡ free-row references (table (now (rows .entry)) (now (marks .entry))) ⌝ }
 {
-    free_below(marks, room(rows, marks))
+    free_below(marks, 0, room(rows, marks))
+}
+
+// The lowest free row that does not stand below word w of the marks, or the room.
+pub fn free_from(rows: &[Number], marks: &[u64], w: u64) -> usize
+    ensures { λ r. ⌜ r ≡ free-from references (table (now (rows .entry)) (now (marks .entry))) w ⌝ }
+{
+    let n = room(rows, marks);
+    if MOST as u64 <= w {
+        return n;
+    }
+    free_below(marks, w as usize, n)
 }
 
 // How many rows are alive.

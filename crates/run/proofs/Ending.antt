@@ -19,9 +19,11 @@ use Rattle.rows.specs.References.{references, from-frame}
 use Rattle.rows.proofs.SlotLaws.{freed}
 use Rattle.rows.proofs.TableLaws.{end-passes, end-fails, ended-none, ended-first, ended-skip, ended-word, ended-last}
 use Rattle.rows.proofs.ViewLaws.{room-same, passes-slot, view-at, ended-below}
-use Rattle.guide.specs.References.{Guides, shown-from, none-from}
-use Rattle.guide.proofs.GuideLaws.{guide-shows, guide-cleared}
+use Rattle.guide.specs.Masks.{word-bit, mark-bit}
+use Rattle.guide.specs.References.{words, marks, bits-from, none-from, Guides}
+use Rattle.guide.proofs.GuideLaws.{word-shown, mark-shown, guide-cleared}
 use Rattle.run.specs.Unshown.{Unshown}
+use Rattle.run.proofs.Shown.{unshown-still}
 
 module _ {A : Type 0} (L : Layout A) (q : A → Bool) where
   -- ---- a row, by what is told of it
@@ -38,7 +40,7 @@ module _ {A : Type 0} (L : Layout A) (q : A → Bool) where
   none-stays T r l e = end-fails L q T r false (told-passes T r none l e) refl
 
   -- ---- a word that is not shown
-  pub unshown-stays : (T : Table) (s w m : ℕ) → ((r : ℕ) → r < room L T → bit s (r / word % word) ≡ false → passes L q T r ≡ false) → w * word + m ≤ room L T → m ≤ word
+  pub unshown-stays : (T : Table) (s w m : ℕ) → ((r : ℕ) → r < room L T → bit s (word-bit r) ≡ false → passes L q T r ≡ false) → w * word + m ≤ room L T → m ≤ word
       → (s / 2 ^ (w % word) % 2 ≡ 1 → ⊥) → T ≡ ended-from L q T (w * word) m
   unshown-stays T s w m h l g n =
       let e : bit s (w % word) ≡ false = unfold bit in ne-eqb (s / 2 ^ (w % word) % 2) 1 n in
@@ -65,37 +67,45 @@ module _ {A : Type 0} (L : Layout A) (q : A → Bool) where
   same-room T S n e l = ap (room L) e ∙ room-same L (ended-from L q T 0 n) T (ended-below L q T n l .lengths)
 
 -- ---- word after word
-module _ (T S : Table) (G : List ℕ) (t f : ℕ) where
-  -- a guide shows each such row
-  unshown-fails : Guides T G → (r : ℕ) → r < room references T → bit (shown-from G t f) (r / word % word) ≡ false → passes references (from-frame t f) T r ≡ false
-  unshown-fails g r l e = passes-slot references (from-frame t f) T r ∙ go (slot references T r) refl
-    where
-      go : (o : Option Reference) → slot references T r ≡ o → holding (from-frame t f) o ≡ false
-      go none h = refl
-      go (some x) h = at (from-frame t f x) refl
-        where
-          at : (b : Bool) → from-frame t f x ≡ b → b ≡ false
-          at true y = absurd (false≢true (sym e ∙ guide-shows T G t f r x g l h y))
-          at false y = refl
 
-  pub unshown-still : (s n w : ℕ) → Guides T G → n ≡ room references T → s ≡ shown-from G t f → w ≤ n / word → S ≡ ended-from references (from-frame t f) T 0 (w * word)
-      → Unshown s t f S
-  unshown-still s n w g d e u h r k b =
-      let l : w * word ≤ room references T = omega arith in
-      fails-below references (from-frame t f) T S (w * word) r h l
-      (λ _. unshown-fails g r (omega (arith, same-room references (from-frame t f) T S (w * word) h l)) (ap (λ (m : ℕ). bit m (r / word % word)) (sym e) ∙ b))
+-- a mask with a bit for each such row leaves none out
+unshown : (bit-of : ℕ → ℕ) (s t f : ℕ) (T : Table) → ((r : ℕ) (x : Reference) → r < room references T → slot references T r ≡ some x → from-frame t f x ≡ true → bit s (bit-of r) ≡ true)
+    → Unshown bit-of s t f T
+unshown bit-of s t f T h r l e = passes-slot references (from-frame t f) T r ∙ go (slot references T r) refl
+  where
+    go : (o : Option Reference) → slot references T r ≡ o → holding (from-frame t f) o ≡ false
+    go none i = refl
+    go (some x) i = at (from-frame t f x) refl
+      where
+        at : (b : Bool) → from-frame t f x ≡ b → b ≡ false
+        at true y = absurd (false≢true (sym e ∙ h r x l i y))
+        at false y = refl
 
-  -- behind a word whose rows are ended those that are not shown are passed over
-  pub word-next : (R : Table) (s n w p : ℕ) → Guides T G → n ≡ room references T → s ≡ shown-from G t f → R ≡ ended-from references (from-frame t f) T 0 (w * word)
-      → S ≡ ended-from references (from-frame t f) R (w * word) word → w < n / word → w + 1 ≤ p → p ≤ n / word → ((k : ℕ) → w + 1 ≤ k → k < p → bit s (k % word) ≡ false)
-      → S ≡ ended-from references (from-frame t f) T 0 (p * word)
-  word-next R s n w p g d e c a l v u h =
+module _ (T : Table) (G : List ℕ) (t f : ℕ) (g : Guides T G) where
+  pub words-unshown : (s : ℕ) → s ≡ bits-from G words t f → Unshown word-bit s t f T
+  words-unshown s e = unshown word-bit s t f T (λ r x l i y. ap (λ (m : ℕ). bit m (word-bit r)) e ∙ word-shown T G t f r x g l i y)
+
+  pub marks-unshown : (s : ℕ) → s ≡ bits-from G marks t f → Unshown mark-bit s t f T
+  marks-unshown s e = unshown mark-bit s t f T (λ r x l i y. ap (λ (m : ℕ). bit m (mark-bit r)) e ∙ mark-shown T G t f r x g l i y)
+
+-- words that are not shown are passed over: before the first one, and behind one whose rows are ended
+module _ (T : Table) (t f s n : ℕ) (u : Unshown word-bit s t f T) (d : n ≡ room references T) where
+  pub word-first : (w : ℕ) → w ≤ n / word → ((k : ℕ) → 0 ≤ k → k < w → bit s (k % word) ≡ false) → T ≡ ended-from references (from-frame t f) T 0 (w * word)
+  word-first w l h =
+      ended-skip references (from-frame t f) T T 0 0 (w * word) (ended-first references (from-frame t f) T 0) (omega arith)
+      (λ k a b. ap (passes references (from-frame t f) T) (zero-add k) ∙ u k (omega (arith, d)) (h (k / word) (omega arith) (omega arith)))
+
+  pub word-next : (R S : Table) (w p : ℕ) → R ≡ ended-from references (from-frame t f) T 0 (w * word) → S ≡ ended-from references (from-frame t f) R (w * word) word
+      → w < n / word → w + 1 ≤ p → p ≤ n / word → ((k : ℕ) → w + 1 ≤ k → k < p → bit s (k % word) ≡ false) → S ≡ ended-from references (from-frame t f) T 0 (p * word)
+  word-next R S w p c a l v m h =
       let done = ended-word references (from-frame t f) T R S w c a in
       let same : room references S ≡ room references T = same-room references (from-frame t f) T S ((w + 1) * word) done (omega (arith, d)) in
       ended-skip references (from-frame t f) T S 0 ((w + 1) * word) (p * word) done (omega arith)
-      (λ k i j. ap (passes references (from-frame t f) S) (zero-add k) ∙ unshown-still s n (w + 1) g d e (omega arith) done k (omega (arith, d, same)) (h (k / word) (omega arith) (omega arith)))
+      (λ k i j. ap (passes references (from-frame t f) S) (zero-add k)
+      ∙ unshown-still t f word-bit s T S 0 ((w + 1) * word) u done k (omega (arith, d, same)) (h (k / word) (omega arith) (omega arith)))
 
-  -- once all are ended there is none that it must show
+-- once all are ended there is none that the guide must show
+module _ (T S : Table) (G : List ℕ) (t f : ℕ) where
   all-fail : S ≡ ended-all references (from-frame t f) T → (r : ℕ) → r < room references S → passes references (from-frame t f) S r ≡ false
   unfolding ended-all
   all-fail e r l =
@@ -103,17 +113,10 @@ module _ (T S : Table) (G : List ℕ) (t f : ℕ) where
       fails-below references (from-frame t f) T S (room references T) r e n
       (λ k. absurd (omega (arith, same-room references (from-frame t f) T S (room references T) e n)))
 
-  all-cleared : S ≡ ended-all references (from-frame t f) T → Guides S G → t ≤ 16 → Guides S (none-from G t f)
+  all-cleared : S ≡ ended-all references (from-frame t f) T → Guides S G → t ≤ 16 → Guides S (none-from (none-from G words t f) marks t f)
   all-cleared e g a =
-      guide-cleared S G t f g a (λ r x l y. ap (holding (from-frame t f)) (sym y) ∙ sym (passes-slot references (from-frame t f) S r) ∙ all-fail e r l)
+      guide-cleared S t f a (λ r x l y. ap (holding (from-frame t f)) (sym y) ∙ sym (passes-slot references (from-frame t f) S r) ∙ all-fail e r l) G g
 
   pub last-cleared : (R : Table) (H : List ℕ) (w n : ℕ) → n ≡ room references T → w ≤ n / word → n / word ≤ w → R ≡ ended-from references (from-frame t f) T 0 (w * word)
-      → S ≡ ended-from references (from-frame t f) R (n / word * word) (n % word) → Guides S G → t ≤ 16 → H ≡ none-from G t f → Guides S H
+      → S ≡ ended-from references (from-frame t f) R (n / word * word) (n % word) → Guides S G → t ≤ 16 → H ≡ none-from (none-from G words t f) marks t f → Guides S H
   last-cleared R H w n d u v c e g a h = subst (Guides S) (sym h) (all-cleared (ended-last references (from-frame t f) T R S w n d u v c e) g a)
-
--- and before the first one that is
-pub word-first : (T : Table) (G : List ℕ) (t f s n w : ℕ) → Guides T G → n ≡ room references T → s ≡ shown-from G t f → w ≤ n / word
-    → ((k : ℕ) → 0 ≤ k → k < w → bit s (k % word) ≡ false) → T ≡ ended-from references (from-frame t f) T 0 (w * word)
-word-first T G t f s n w g d e u h =
-    ended-skip references (from-frame t f) T T 0 0 (w * word) (ended-first references (from-frame t f) T 0) (omega arith)
-    (λ k a b. ap (passes references (from-frame t f) T) (zero-add k) ∙ unshown-fails T T G t f g k (omega (arith, d)) (ap (λ (m : ℕ). bit m (k / word % word)) (sym e) ∙ h (k / word) (omega arith) (omega arith)))

@@ -8,10 +8,12 @@ use rows::references::Reference;
 ghost use mathlib.Core.Path.{_≡_};
 ghost use mathlib.Core.Bool.{false};
 ghost use Prim.Native.Nat.{ℕ, _+_, _*_, _%_, _≤_, _<_};
-ghost use lib.ListN.{length};
-ghost use Rattle.rows.specs.Marks.{word, bit, used};
+ghost use lib.Bits.{bitAnd};
+ghost use lib.ListN.{length, getD};
+ghost use Rattle.rows.specs.Marks.{word, bit};
 ghost use Rattle.rows.specs.Table.{table, most, room, free-row, stored, taken, ended, ended-if, ended-from, ended-all};
 ghost use Rattle.rows.specs.References.{references, from-frame};
+ghost use Rattle.guide.specs.Masks.{word-bit, mark-bit};
 ghost use Rattle.guide.specs.References.{Guides};
 ghost use Rattle.run.specs.Unshown.{Unshown};
 
@@ -29,6 +31,7 @@ pub(crate) fn store(
 {
     rows::references::store(rows, marks, r, row);
     guide::references::note(rows, marks, guide, r);
+    guide::references::raise(guide, r);
 }
 
 // Takes the lowest free row.
@@ -37,7 +40,7 @@ pub(crate) fn take(rows: &mut [Number], marks: &mut [u64], guide: &mut [u64], ro
     ensures left { λ _. ⌜ table (now (rows .exit)) (now (marks .exit)) ≡ taken references (table (now (rows .entry)) (now (marks .entry))) row ⌝ }
     ensures guided { λ _. ⌜ Guides (table (now (rows .exit)) (now (marks .exit))) (now (guide .exit)) ⌝ }
 {
-    let r = rows::references::lowest_free(rows, marks);
+    let r = guide::references::lowest_free(rows, marks, guide);
     store(rows, marks, guide, r, row);
 }
 
@@ -68,35 +71,36 @@ fn end_if(rows: &mut [Number], marks: &mut [u64], guide: &mut [u64], r: usize, t
     }
 }
 
-// The lowest used row of word w from its row i on, below m, or m.
-fn next_used(marks: &[u64], w: usize, i: usize, m: usize) -> usize
+// The lowest set mark of word w from i on, below m, that is also set in `own`, or m.
+fn next_own(marks: &[u64], own: u64, w: usize, i: usize, m: usize) -> usize
     requires { ⌜ (w * word + m ≤ length (now marks) * word) × (i ≤ m) × (m ≤ word) ⌝ }
-    ensures { λ p. ⌜ (i ≤ p) × (p ≤ m) × ((k : ℕ) → i ≤ k → k < p → used (now (marks .entry)) (w * word + k) ≡ false) ⌝ }
+    ensures { λ p. ⌜ (i ≤ p) × (p ≤ m) × ((k : ℕ) → i ≤ k → k < p → bit (bitAnd (getD (now (marks .entry)) w 0) own) k ≡ false) ⌝ }
 {
     if m <= i {
         return m;
     }
-    lesser(next_bit(marks[w], i), m)
+    lesser(next_bit(marks[w] & own, i), m)
 }
 
-// Ends such rows among the first m of word w; only those that are used are looked at.
+// Ends such rows among the first m of word w; those are looked at whose marks are set, also in `own`.
 fn end_first(
     rows: &mut [Number],
     marks: &mut [u64],
     guide: &mut [u64],
+    own: u64,
     w: usize,
     m: usize,
     t: Number,
     f: Number,
 )
-    requires { ⌜ Guides (table (now rows) (now marks)) (now guide) × (w * word + m ≤ room references (table (now rows) (now marks))) × (m ≤ word) ⌝ }
+    requires { ⌜ Guides (table (now rows) (now marks)) (now guide) × (w * word + m ≤ room references (table (now rows) (now marks))) × (m ≤ word) × Unshown mark-bit own t f (table (now rows) (now marks)) ⌝ }
     ensures left { λ _. ⌜ table (now (rows .exit)) (now (marks .exit)) ≡ ended-from references (from-frame t f) (table (now (rows .entry)) (now (marks .entry))) (w * word) m ⌝ }
     ensures guided { λ _. ⌜ Guides (table (now (rows .exit)) (now (marks .exit))) (now (guide .exit)) ⌝ }
 {
-    let mut i = next_used(marks, w, 0, m);
+    let mut i = next_own(marks, own, w, 0, m);
     while i < m {
         end_if(rows, marks, guide, w * WORD + i, t, f);
-        i = next_used(marks, w, i + 1, m);
+        i = next_own(marks, own, w, i + 1, m);
     }
 }
 
@@ -106,17 +110,18 @@ fn end_shown(
     marks: &mut [u64],
     guide: &mut [u64],
     shown: u64,
+    own: u64,
     w: usize,
     m: usize,
     t: Number,
     f: Number,
 )
-    requires { ⌜ Guides (table (now rows) (now marks)) (now guide) × (w * word + m ≤ room references (table (now rows) (now marks))) × (m ≤ word) × Unshown shown t f (table (now rows) (now marks)) ⌝ }
+    requires { ⌜ Guides (table (now rows) (now marks)) (now guide) × (w * word + m ≤ room references (table (now rows) (now marks))) × (m ≤ word) × Unshown mark-bit own t f (table (now rows) (now marks)) × Unshown word-bit shown t f (table (now rows) (now marks)) ⌝ }
     ensures left { λ _. ⌜ table (now (rows .exit)) (now (marks .exit)) ≡ ended-from references (from-frame t f) (table (now (rows .entry)) (now (marks .entry))) (w * word) m ⌝ }
     ensures guided { λ _. ⌜ Guides (table (now (rows .exit)) (now (marks .exit))) (now (guide .exit)) ⌝ }
 {
     if (shown >> (w % WORD)) % 2 == 1 {
-        end_first(rows, marks, guide, w, m, t, f);
+        end_first(rows, marks, guide, own, w, m, t, f);
     }
 }
 
@@ -141,14 +146,15 @@ pub(crate) fn end_frames(
     ensures guided { λ _. ⌜ Guides (table (now (rows .exit)) (now (marks .exit))) (now (guide .exit)) ⌝ }
 {
     let n = rows::references::room(rows, marks);
-    let shown = guide::references::shown_from(guide, t, f);
+    let shown = guide::references::words_from(guide, t, f);
+    let own = guide::references::marks_from(guide, t, f);
     let full = n / WORD;
     let mut w = next_shown(shown, 0, full);
     while w < full {
-        end_shown(rows, marks, guide, shown, w, WORD, t, f);
+        end_shown(rows, marks, guide, shown, own, w, WORD, t, f);
         w = next_shown(shown, w + 1, full);
     }
-    end_shown(rows, marks, guide, shown, full, n % WORD, t, f);
+    end_shown(rows, marks, guide, shown, own, full, n % WORD, t, f);
     if t <= 16 {
         guide::references::clear_from(guide, t, f);
     }

@@ -7,14 +7,24 @@ use lib.Dec.{eqb, ltb}
 use lib.ListN.{length, getD}
 use borrow.Author.Tests.{eqb-false, ltb-false}
 use Rattle.lines.proofs.Tests.{neither}
-use Rattle.rows.specs.Table.{Table, counted, some-row, found}
+use Rattle.rows.specs.Table.{Table, free-row, alive, counted, some-row, found}
+use Rattle.rows.specs.Frees.{free-from}
 use Rattle.rows.specs.References.{references, in-frame, is-handle}
 use Rattle.rows.specs.Pins.{pins, of-thread, is-buffer}
-use Rattle.guide.specs.References.{places, cell-of, found-in, Guides, Leads, scans, by-guide}
+use Rattle.guide.specs.References.{places, used-at, low-at, cell-of, found-in, Guides, Leads, scans, by-guide}
 use Rattle.guide.specs.Pins as pin
-use Rattle.guide.proofs.GuideLaws.{leads-finds, guide-counts}
+use Rattle.guide.proofs.GuideLaws.{leads-finds, leads-free, guide-counts, guide-used}
 use Rattle.guide.proofs.PinGuideLaws.{pin-leads-finds, pin-guide-counts}
 use Rattle.tables.proofs.RowCounts.{some-row-counted}
+
+module _ (T : Table) (G : List ℕ) where
+  -- where there are words
+  pub rows-used : (n : ℕ) → Leads T G → (length G ≡ 0 → ⊥) → n ≡ getD G used-at 0 → n ≡ alive references T
+  rows-used n (scans z) o e = absurd (o z)
+  rows-used n (by-guide g) o e = e ∙ guide-used T G g
+
+  pub lowest-found : (r : ℕ) → Leads T G → r ≡ free-from references T (getD G low-at 0) → r ≡ free-row references T
+  lowest-found r w e = e ∙ leads-free T G w
 
 module _ (T : Table) (G : List ℕ) (t : ℕ) where
   pub row-found : (h r : ℕ) → Leads T G → r ≡ found-in T G t h → r ≡ found references (is-handle t h) T

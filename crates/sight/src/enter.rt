@@ -1,5 +1,6 @@
 // N: what its refusals look at.
 use crate::seen::local_alive;
+use crate::seen::used_rows;
 use rows::Number;
 use words::Handle;
 ghost use mathlib.Core.Path.{_≡_};
@@ -49,7 +50,7 @@ pub fn enter(
     let elsewhere = book::env_elsewhere(book, t, env as u64);
     let alive = some_alive(rows, marks, guide, t, hs);
     let room = rows::references::room(rows, marks);
-    let used = rows::references::alive(rows, marks);
+    let used = used_rows(rows, marks, guide);
     let frames = book::frames_of(book, t);
     EnterSight {
         env: own,

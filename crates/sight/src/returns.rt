@@ -1,6 +1,7 @@
 // R: what its refusals and its finding look at, and the row that its result will take.
 use crate::seen::alive_in;
 use crate::seen::local_alive;
+use crate::seen::lowest_free;
 use crate::seen::shared_alive;
 use facts::Result;
 use facts::results::is_buffer_result;
@@ -69,7 +70,7 @@ fn handle_made(
     ensures { λ r. ⌜ r ≡ handle-made local (table (now (rows .entry)) (now (marks .entry))) t h ⌝ }
 {
     let alive = is_alive_as(rows, marks, guide, local, t, h);
-    let row = rows::references::lowest_free(rows, marks);
+    let row = lowest_free(rows, marks, guide);
     let room = rows::references::room(rows, marks);
     Made {
         alive,

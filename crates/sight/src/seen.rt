@@ -4,7 +4,7 @@ use words::Handle;
 ghost use mathlib.Core.Path.{_≡_};
 ghost use mathlib.Core.Bool.{false};
 ghost use lib.Dec.{ltb};
-ghost use Rattle.rows.specs.Table.{table, found};
+ghost use Rattle.rows.specs.Table.{table, free-row, alive, found};
 ghost use Rattle.rows.specs.References.{references, is-handle};
 ghost use Rattle.rows.specs.Pins.{pins, is-buffer};
 ghost use Rattle.guide.specs.References.{Leads};
@@ -72,6 +72,25 @@ pub(crate) fn alive_in(rows: &[Number], marks: &[u64], guide: &[u64], t: u32, d:
         return rows::references::count(rows, marks, t, d);
     }
     guide::references::held(guide, t, d) as usize
+}
+
+// How many rows are used.
+pub(crate) fn used_rows(rows: &[Number], marks: &[u64], guide: &[u64]) -> usize
+    requires { ⌜ Leads (table (now rows) (now marks)) (now guide) ⌝ }
+    ensures { λ r. ⌜ r ≡ alive references (table (now (rows .entry)) (now (marks .entry))) ⌝ }
+{
+    if guide.len() == 0 {
+        return rows::references::alive(rows, marks);
+    }
+    guide::references::used(guide) as usize
+}
+
+// The lowest free row, or the room.
+pub(crate) fn lowest_free(rows: &[Number], marks: &[u64], guide: &[u64]) -> usize
+    requires { ⌜ Leads (table (now rows) (now marks)) (now guide) ⌝ }
+    ensures { λ r. ⌜ r ≡ free-row references (table (now (rows .entry)) (now (marks .entry))) ⌝ }
+{
+    guide::references::lowest_free(rows, marks, guide)
 }
 
 // A critical buffer of the thread is outstanding.

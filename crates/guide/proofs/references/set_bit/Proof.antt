@@ -19,4 +19,4 @@ set-bit-spec =
     (λ c. search needs)
     (λ c. search needs)
     (λ c. search needs)
-    (λ c. unfold with-bit in rw (shl-one (c .before .before .args .r / 64 % 64) (omega arith))))
+    (λ c. unfold with-bit in rw (shl-one (c .before .before .args .i) (search needs))))

@@ -15,4 +15,4 @@ end-shown-spec =
     (λ c. search needs)
     (λ c. search needs)
     (λ c. search needs)
-    (λ c. (let pre = c .before .before .before .before .pre in unshown-stays references (from-frame _ _) _ _ _ _ (pre .3) (pre .1) (pre .2) (c .if1 .left), search needs)))
+    (λ c. (let pre = c .before .before .before .before .pre in unshown-stays references (from-frame _ _) _ _ _ _ (pre .4) (pre .1) (pre .2) (c .if1 .left), search needs)))

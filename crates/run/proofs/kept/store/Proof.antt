@@ -10,7 +10,8 @@ store-spec =
     (tie.spec
     (λ c κs. search needs)
     (λ c κs. search needs)
+    (λ c κs. search needs)
     (λ c. search needs)
     (λ c. search needs)
     (λ c. search needs)
-    (λ c. (search needs, search row-stored)))
+    (λ c. let at-raise = c .before .before in let at-note = at-raise .before .before .before .before in let at-store = at-note .before .before .before .before .before .before .before .before in let at-pre = at-store .before .before .before .before .before .before in (at-store .store .ensures, row-stored _ _ _ _ (at-pre .pre .1) (at-store .store .ensures) _ _ _ (at-pre .pre .0) (at-note .note .ensures) (at-raise .raise .ensures))))

@@ -14,5 +14,5 @@ enter-spec =
     (λ c κs. search needs)
     (λ c κs. search needs)
     (λ c κs. search needs)
-    (λ c. rows-within _ _ _ (c .before .before .room .ensures) (c .before .alive .ensures))
-    (λ c. let at-alive = c .before in let at-room = at-alive .before in let at-some-alive = at-room .before in let at-env-elsewhere = at-some-alive .before in let at-env-of = at-env-elsewhere .before in λ ps ns cs. enter-seen _ _ ps ns _ cs _ _ _ _ _ _ _ _ _ (at-env-of .env-of .ensures) (at-env-elsewhere .env-elsewhere .ensures) (at-some-alive .some-alive .ensures) (at-room .room .ensures) (at-alive .alive .ensures) (c .frames-of .ensures .0)))
+    (λ c. rows-within _ _ _ (c .before .before .room .ensures) (c .before .used-rows .ensures))
+    (λ c. let at-used-rows = c .before in let at-room = at-used-rows .before in let at-some-alive = at-room .before in let at-env-elsewhere = at-some-alive .before in let at-env-of = at-env-elsewhere .before in λ ps ns cs. enter-seen _ _ ps ns _ cs _ _ _ _ _ _ _ _ _ (at-env-of .env-of .ensures) (at-env-elsewhere .env-elsewhere .ensures) (at-some-alive .some-alive .ensures) (at-room .room .ensures) (at-used-rows .used-rows .ensures) (c .frames-of .ensures .0)))
