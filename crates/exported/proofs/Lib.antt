@@ -2,3 +2,4 @@ mod Fronts
 mod Answered
 mod Judging
 mod Listing
+mod Piecing

@@ -1,4 +1,5 @@
 -- believed of any tables
 pub mod Told
+pub mod Pieced
 pub mod Judged
 pub mod Listed

@@ -1,8 +1,10 @@
-// The judge for C and Rust: a start and one step over lent slices, the findings as numbers; the list of leaks; and a whole trace with its report.
+// The judge for C and Rust: a start and one step over lent slices, the findings as numbers; a piece of many lines, the findings as bytes; the list of leaks; and a whole trace with its report.
 use answers::Answer;
 use history::Finding;
 use leaks::Listed;
 use rows::Number;
+use run::Passed;
+use run::Stop;
 use trace::Reported;
 use words::Handle;
 ghost use mathlib.Core.Path.{_≡_};
@@ -16,6 +18,7 @@ ghost use Rattle.tables.specs.Listing.{list-of};
 ghost use Rattle.trace.specs.Whole.{whole-outcome};
 ghost use Rattle.exported.specs.Judged.{length-told, judges, judged};
 ghost use Rattle.exported.specs.Listed.{Few, number-listed, tells-list, list-told};
+ghost use Rattle.exported.specs.Pieced.{far-numbers, far-put, stop-told, tells-piece, piece-told};
 ghost use Rattle.exported.specs.Told.{numbers, most-numbers, put-at, in-front, number-told, tells, step-told};
 
 // The numbers of a finding, and of the most findings of a line.
@@ -25,6 +28,11 @@ const MOST_NUMBERS: usize = 24;
 
 // Told where there is no room for them.
 const SHORT_FOUND: i32 = -100;
+
+// The numbers that tell how far the judging of a piece came, and what is told where there is no room for them.
+const FAR: usize = 3;
+
+const SHORT_FAR: i32 = -101;
 
 // Clears all rows, marks, book and class table.
 #[no_mangle]
@@ -100,6 +108,67 @@ pub extern "C" fn weir_step(
     let answer = judge::step(line, rows, marks, pins, pinmarks, book, classes);
     list(found, answer);
     number_told(answer.refusal, answer.count)
+}
+
+// How far the judging of a piece came, at the front of `far`.
+fn put_far(far: &mut [u64], passed: Passed)
+    requires { ⌜ far-numbers ≤ length (now far) ⌝ }
+    ensures { λ _. ⌜ now (far .exit) ≡ far-put passed (now (far .entry)) ⌝ }
+{
+    far[0] = passed.taken as u64;
+    far[1] = passed.put as u64;
+    far[2] = passed.findings as u64;
+}
+
+// Why the judging of a piece stopped; below zero the number given instead of the line that it stopped before.
+fn stop_told(stop: Stop) -> i32
+    ensures { λ r. ⌜ r ≡ stop-told stop ⌝ }
+{
+    match stop {
+        Stop::Refused(k) => 0 - (k as i32),
+        Stop::Full => 1,
+        Stop::More => 0,
+        Stop::End => 2,
+    }
+}
+
+// Judges the lines of a piece of a trace, one after another, over the tables as they stand: as `weir_start` cleared them, or as the piece before left
+// them. Where `ended` is not 0 the trace ends behind the piece. The findings are left at the front of `out`, as lines of the report; at the front of
+// `far` how many bytes of the piece were taken, how many bytes of findings were put and how many findings these are. Told is why it stopped: 0 more
+// is to be read, 1 `out` may have no room for the findings of one more line, 2 the trace is at its end, or below zero the number given instead of the
+// line that it stopped before. Where `far` holds fewer than 3 numbers it is -101, and nothing is touched.
+#[no_mangle]
+pub extern "C" fn weir_piece(
+    piece: &[u8],
+    ended: u32,
+    rows: &mut [Number],
+    marks: &mut [u64],
+    pins: &mut [Number],
+    pinmarks: &mut [u64],
+    book: &mut [u64],
+    classes: &mut [Number],
+    out: &mut [u8],
+    far: &mut [u64],
+) -> i32
+    ensures { λ r. ⌜ tells-piece r (tables (now (rows .exit)) (now (marks .exit)) (now (pins .exit)) (now (pinmarks .exit)) (now (book .exit)) (now (classes .exit))) (now (out .exit)) (now (far .exit)) ≡ piece-told ended (tables (now (rows .entry)) (now (marks .entry)) (now (pins .entry)) (now (pinmarks .entry)) (now (book .entry)) (now (classes .entry))) (now (piece .entry)) (now (out .entry)) (now (far .entry)) ⌝ }
+{
+    if far.len() < FAR {
+        return SHORT_FAR;
+    }
+    let passed = run::run_lines(
+        piece,
+        ended != 0,
+        rows,
+        marks,
+        pins,
+        pinmarks,
+        book,
+        classes,
+        out,
+    );
+    put_far(far, passed);
+    let stop = passed.stop;
+    stop_told(stop)
 }
 
 // How many records were written, or below zero the number given instead.
