@@ -3,3 +3,4 @@ mod Answered
 mod Judging
 mod Listing
 mod Piecing
+mod Reasons

@@ -1,9 +1,9 @@
 -- What C and Rust are told of a piece of a trace: a number, the tables left, the bytes left, and the numbers of how far it came. Assumes nothing.
-use Prim.Native.Nat.{ℕ}
+use Prim.Native.Nat.{ℕ, zero, suc}
 use mathlib.Core.Bool.{Bool, not}
 use mathlib.Core.List.{List, [], _∷_}
 use lib.Dec.{eqb, ltb}
-use lib.IntN.{ℤ, pos, negℤ}
+use lib.IntN.{ℤ, pos, negsuc, negℤ}
 use lib.ListN.{length}
 use Rattle.words.specs.Choice.{if_then_else_}
 use Rattle.tables.specs.Tables.{Tables}
@@ -54,3 +54,10 @@ pieced o ns = tells-piece (stop-told (o .reply .stop)) (o .left) (o .out) (far-p
 -- of a piece over these tables; where there is no room for the three numbers, nothing is touched
 unfoldable pub piece-told : ℕ → Tables → List ℕ → List ℕ → List ℕ → Told-piece
 piece-told ended T piece out ns = if ltb (length ns) far-numbers then tells-piece short-far T out ns else pieced (piece-outcome (is-ended ended) T piece out) ns
+
+-- why it stopped, from the number told where there is room for them
+unfoldable pub stop-of : ℤ → Stop
+stop-of (pos zero) = Stop.More
+stop-of (pos (suc zero)) = Stop.Full
+stop-of (pos (suc (suc n))) = Stop.End
+stop-of (negsuc k) = Stop.Refused (suc k)

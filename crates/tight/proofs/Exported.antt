@@ -2,6 +2,7 @@
 use mathlib.Core.List.{[]}
 use Rattle.exported.proofs as exported
 use Rattle.exported.specs.Told.{Told}
+use Rattle.exported.specs.Pieced.{Told-piece}
 use Rattle.exported.specs.Judged.{Judged}
 use Rattle.exported.specs.Listed.{Told-list}
 use Rattle.tight.specs.Tight.{given, Tight}
@@ -12,6 +13,9 @@ weir-start-tight κs args = (tt, by-tables)
 
 pub weir-step-tight : Tight exported.weir_step.ended exported.weir_step.Reads.Asked exported.weir_step.Reads.Learnt
 weir-step-tight κs args = (tt, λ x y. by (λ (o : Told). given (o .number) (tt, with-tables (o .left) (o .found, tt))))
+
+pub weir-piece-tight : Tight exported.weir_piece.ended exported.weir_piece.Reads.Asked exported.weir_piece.Reads.Learnt
+weir-piece-tight κs args = (tt, λ x y. by (λ (o : Told-piece). given (o .number) (tt, (tt, with-tables (o .left) (o .out, (o .far, tt))))))
 
 pub weir-leaks-tight : Tight exported.weir_leaks.ended exported.weir_leaks.Reads.Asked exported.weir_leaks.Reads.Learnt
 weir-leaks-tight κs args = (tt, λ x y p q. by (λ (o : Told-list). given (o .number) (tt, (tt, (tt, (tt, (tt, (o .left, tt))))))) (p []) (q []))
