@@ -1,51 +1,60 @@
-/* Judges the trace on standard input, line by line, and prints what `./judge --leaks` prints. */
+/* Judges the trace on standard input, piece by piece, and prints what `./judge --leaks` prints: findings as they come. */
 #include <stdio.h>
+#include <string.h>
 
 #include "weir_judge.h"
 
-enum { REFERENCE_ROWS = 2048, PIN_ROWS = 256, WORD = 64, LINE = 129 };
+/* The bytes of the trace that are held at once, 129 or more, and those of findings, WEIR_SHOWN or more. */
+#ifndef PIECE
+#define PIECE 65536
+#define OUT 65536
+#endif
+
+enum { REFERENCE_ROWS = 2048, PIN_ROWS = 256, WORD = 64 };
 
 static uint32_t rows[REFERENCE_ROWS * WEIR_REFERENCE], pins[PIN_ROWS * WEIR_PIN], classes[WEIR_CLASSES];
 static uint64_t marks[REFERENCE_ROWS / WORD], pin_marks[PIN_ROWS / WORD], book[WEIR_BOOK];
 static uint32_t leaks[(REFERENCE_ROWS + PIN_ROWS) * WEIR_LEAK];
+static uint8_t piece[PIECE], out[OUT];
 
 #define COUNT(slice) (sizeof(slice) / sizeof((slice)[0]))
 #define TABLES rows, COUNT(rows), marks, COUNT(marks), pins, COUNT(pins), pin_marks, COUNT(pin_marks), book, COUNT(book)
 #define CLASSES classes, COUNT(classes)
 
-/* The next line with its LF, or all that is left, or so much of it that it is too long: how many bytes. */
-static size_t next(uint8_t line[LINE])
+/* How many lines end in these bytes. */
+static unsigned long lines_in(const uint8_t *bytes, size_t length)
 {
-    size_t length = 0;
-    int byte;
-    while (length < LINE && (byte = getchar()) != EOF) {
-        line[length++] = (uint8_t)byte;
-        if (byte == '\n')
-            break;
-    }
-    return length;
+    unsigned long lines = 0;
+
+    for (size_t i = 0; i < length; i++)
+        lines += bytes[i] == '\n';
+    return lines;
 }
 
 int main(void)
 {
-    uint8_t line[LINE];
-    uint32_t found[WEIR_FOUND];
+    uint64_t far[WEIR_FAR];
     unsigned long lines = 0, findings = 0;
-    size_t length;
-    int32_t refusal = 0, count;
+    size_t held = 0, taken;
+    int32_t stop = WEIR_MORE, refusal, count;
 
     weir_start(TABLES, CLASSES);
-    while (refusal == 0 && (length = next(line)) > 0) {
-        count = weir_step(line, length, TABLES, CLASSES, found, COUNT(found));
-        if (count < 0) {
-            refusal = -count;
-            continue;
+    while (stop == WEIR_MORE || stop == WEIR_FULL) {
+        if (stop == WEIR_MORE)
+            held += fread(piece + held, 1, sizeof piece - held, stdin);
+        if (ferror(stdin)) {
+            perror("standard input");
+            return 1;
         }
-        lines++;
-        findings += (unsigned long)count;
-        for (const uint32_t *f = found; f < found + count * WEIR_FINDING; f += WEIR_FINDING)
-            printf("%u\t%u\t%u\t%u\n", f[0], f[1], f[2], f[3]);
+        stop = weir_piece(piece, held, feof(stdin) != 0, TABLES, CLASSES, out, sizeof out, far, COUNT(far));
+        taken = (size_t)far[0];
+        lines += lines_in(piece, taken);
+        findings += (unsigned long)far[2];
+        fwrite(out, 1, (size_t)far[1], stdout);
+        held -= taken;
+        memmove(piece, piece + taken, held);
     }
+    refusal = stop < 0 ? -stop : 0;
     count = weir_leaks(TABLES, leaks, COUNT(leaks));
     printf("end\t%s\t%lu\t%d\t%lu\n", refusal ? "refused" : count < 0 ? "open" : "closed", lines, refusal, findings);
     for (const uint32_t *leak = leaks; count > 0; leak += WEIR_LEAK, count--)

@@ -1,4 +1,6 @@
-/* The judge for C: a start, one line at a time, the leaks after Z, and a whole trace. It is the library `exported`; a recorder does not need it.
+/* The judge for C: a start, one line at a time, a piece of many lines, the leaks after Z, and a whole trace. It is the library `exported`; a recorder
+ * does not need it. weir_step judges a line as it comes, and gives its findings as numbers. weir_piece judges all lines of a piece, which is faster,
+ * and gives their findings as lines of the report. weir_judge wants a whole trace in memory, and gives its whole report.
  *
  * All that the judge knows of a trace stands in tables that the caller lends with each call, the same ones from a start on. It allocates nothing and
  * keeps nothing between calls, so several traces may be judged at once, each with tables of its own. Any contents are safe, and so is any length.
@@ -8,13 +10,14 @@
  *   pins       pin rows, WEIR_PIN numbers each: thread (0 unless critical), family 0 to 11, buffer, the line that made it
  *   marks      one bit for each reference row, 64 to a word: it is used
  *   pin_marks  one bit for each pin row
- *   book       WEIR_BOOK numbers: the threads, and the count of lines. With fewer weir_step and weir_leaks give -8, and weir_judge 0
+ *   book       WEIR_BOOK numbers: the threads, and the count of lines. With fewer weir_step, weir_leaks and, at a line, weir_piece give -8, and
+ *              weir_judge 0
  *   classes    WEIR_CLASSES numbers: that of class c, at classes[c - 1], is its super, 0 where no K declared it; those of the reserved classes 1 to 4
- *              stay 0. With fewer weir_step gives -8, and weir_judge 0; weir_leaks does not need it
+ *              stay 0. With fewer weir_step and, at a line, weir_piece give -8, and weir_judge 0; weir_leaks does not need it
  *
  * There is room for as many handles, and buffers, as the lesser of rows and marks, at most 65,536. `./judge` lends 2,048 rows and 256 pins.
- * Every length is in numbers (rows, pins, classes, found, leaks), words (marks, pin_marks, book) or bytes (line, trace, out). A pointer may be NULL
- * only where its length is 0, and no two of the slices overlap.
+ * Every length is in numbers (rows, pins, classes, found, far, leaks), words (marks, pin_marks, book) or bytes (line, piece, trace, out). A pointer may
+ * be NULL only where its length is 0, and no two of the slices overlap.
  */
 #ifndef WEIR_JUDGE_H
 #define WEIR_JUDGE_H
@@ -42,6 +45,18 @@ extern "C" {
 /* weir_step: `found` holds fewer than WEIR_FOUND numbers. */
 #define WEIR_SHORT_FOUND (-100)
 
+/* weir_piece, why it stopped: more is to be read; `out` may have no room for the findings of one more line; the trace is at its end. */
+#define WEIR_MORE 0
+#define WEIR_FULL 1
+#define WEIR_END 2
+
+/* The bytes of `out` that the findings of a line may need, and the numbers that tell how far it came. */
+#define WEIR_SHOWN 504
+#define WEIR_FAR 3
+
+/* weir_piece: `far` holds fewer than WEIR_FAR numbers. */
+#define WEIR_SHORT_FAR (-101)
+
 /* Clears all rows, marks, book and class table. */
 void weir_start(uint32_t *rows, size_t rows_length, uint64_t *marks, size_t marks_length, uint32_t *pins, size_t pins_length,
                 uint64_t *pin_marks, size_t pin_marks_length, uint64_t *book, size_t book_length, uint32_t *classes,
@@ -53,6 +68,29 @@ void weir_start(uint32_t *rows, size_t rows_length, uint64_t *marks, size_t mark
 int32_t weir_step(const uint8_t *line, size_t line_length, uint32_t *rows, size_t rows_length, uint64_t *marks, size_t marks_length,
                   uint32_t *pins, size_t pins_length, uint64_t *pin_marks, size_t pin_marks_length, uint64_t *book, size_t book_length,
                   uint32_t *classes, size_t classes_length, uint32_t *found, size_t found_length);
+
+/* Judges the lines of a piece of a trace, one after another, over tables as weir_start cleared them or as the calls before left them. `ended` is 0
+ * where more of the trace may follow the piece, and any other number where the trace ends behind it. The piece may be cut anywhere: a line that
+ * is not whole is left till more is read; at the end of the trace it is judged as it is, and refused.
+ *
+ * The findings are left at the front of `out`, as lines of the report; what is behind them stays. Left at the front of `far` are how many bytes of the
+ * piece were taken, how many bytes of findings were put, and how many findings these are. Each line that is accepted has its LF, so as many lines were
+ * accepted as there are LFs among the bytes taken. Returns why it stopped:
+ *
+ *   WEIR_MORE   all whole lines of the piece are judged. The bytes that were not taken, at most 128, are handed in again, in front of what is read next
+ *   WEIR_FULL   fewer than WEIR_SHOWN bytes of `out` are left. Empty it, and call again with the rest of the piece. Where `out` has WEIR_SHOWN bytes
+ *               or more, a line at least was taken
+ *   WEIR_END    the trace is at its end
+ *   below 0     the refusal, -1 to -10 (docs/RULES.md), of the line behind the bytes taken, which changed nothing; or WEIR_SHORT_FAR, and nothing at
+ *               all is touched
+ *
+ * Rows are found by words on the stack, so a piece of 4,096 bytes or more takes over 313 KB of stack, and is judged fast. Each call fills those words
+ * anew: pieces are best of 64 KiB or more, and `out` so long that it is seldom full. A shorter piece than 4,096 bytes does without these words.
+ */
+int32_t weir_piece(const uint8_t *piece, size_t piece_length, uint32_t ended, uint32_t *rows, size_t rows_length, uint64_t *marks,
+                   size_t marks_length, uint32_t *pins, size_t pins_length, uint64_t *pin_marks, size_t pin_marks_length, uint64_t *book,
+                   size_t book_length, uint32_t *classes, size_t classes_length, uint8_t *out, size_t out_length, uint64_t *far,
+                   size_t far_length);
 
 /* Lists what is outstanding and alive after Z. Returns how many leaks there are: they are left at the front of `leaks`, rule, thread, value and making
  * line of each, ordered by making line, then rule and row; what is behind them stays. Below 0 nothing is written: -8 the book is not fit, -4 there
