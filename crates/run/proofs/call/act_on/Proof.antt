@@ -1,8 +1,24 @@
 -- `run::call::act_on` meets its contract. Assumes nothing.
+use mathlib.Core.Path.{_∙_}
 use borrow.Author.Needs.{needs}
 use Rattle.act.proofs.Calling.{references-called, tables-called}
 use Rattle.run.proofs.call.act_on.Statement.{statement}
 use Rattle.run.proofs.call.act_on.Tie as tie
+
+abbrev at-release : tie.After-slice-known17 → tie.After-release
+at-release c = c .before .before .before .before .before .before .before .before .before .before
+
+abbrev at-end-top : tie.After-release → tie.After-end-top
+at-end-top c = c .before .before .before .before .before .before .before .before .before .before
+
+abbrev at-delete : tie.After-end-top → tie.After-delete
+at-delete c = c .before .before .before .before .before .before .before .before .before .before .before
+
+returns : tie.Need-returns
+returns c =
+    let release = at-release c in
+    let end-top = at-end-top release in
+    ((λ cs. tables-called _ _ _ _ _ cs _ _ _ _ _ _ _ _ _ _ _ (references-called _ _ _ _ _ _ _ _ (at-delete end-top .delete .ensures .0) (end-top .end-top .ensures .0)) (release .release .ensures .0) (c .before .before .write-book .ensures)), (end-top .end-top .ensures .1, release .release .ensures .1))
 
 pub act-on-spec : {M : Type 1} → statement M
 act-on-spec =
@@ -12,11 +28,11 @@ act-on-spec =
     (λ c κs. search needs)
     (λ c κs. search needs)
     (λ c κs. search needs)
-    (λ c. search needs)
-    (λ c. search needs)
-    (λ c. search needs)
-    (λ c. search needs)
-    (λ c. search needs)
-    (λ c. search needs)
-    (λ c. search needs)
-    (λ c. let at-write-book = c .before .before in let at-release = at-write-book .before .before .before .before .before .before .before .before in let at-end-top = at-release .before .before .before .before .before .before .before .before .before .before in let at-delete = at-end-top .before .before .before .before .before .before .before .before .before .before .before in ((λ cs. tables-called _ _ _ _ _ cs _ _ _ _ _ _ _ _ _ _ _ (references-called _ _ _ _ _ _ _ _ (at-delete .delete .ensures .0) (at-end-top .end-top .ensures .0)) (at-release .release .ensures .0) (at-write-book .write-book .ensures)), (at-end-top .end-top .ensures .1, at-release .release .ensures .1))))
+    (λ c. let end-top = at-end-top (at-release c) in end-top .end-top .kept .0 ∙ at-delete end-top .delete .kept .0)
+    (λ c. let end-top = at-end-top (at-release c) in end-top .end-top .kept .1 .0 ∙ at-delete end-top .delete .kept .1 .0)
+    (λ c. let end-top = at-end-top (at-release c) in end-top .end-top .kept .1 .1 .0 ∙ at-delete end-top .delete .kept .1 .1 .0)
+    (λ c. at-release c .release .kept .0)
+    (λ c. at-release c .release .kept .1 .0)
+    (λ c. at-release c .release .kept .1 .1 .0)
+    (λ c. c .before .before .write-book .kept .0)
+    returns)

@@ -1,4 +1,5 @@
 -- `run::call::call` meets its contract. Assumes nothing.
+use mathlib.Core.Path.{refl}
 use borrow.Author.Needs.{needs}
 use Rattle.guide.specs.References.{by-guide}
 use Rattle.guide.specs.Pins.{by-guide as pins-by-guide}
@@ -6,8 +7,26 @@ use Rattle.events.proofs.Following.{call-stays, call-goes}
 use Rattle.run.proofs.call.call.Statement.{statement}
 use Rattle.run.proofs.call.call.Tie as tie
 
+abbrev at-act-on : tie.After-findings → tie.After-act-on
+at-act-on c = c .before .before .before .before .before .before .before .before .before .before .before .before .before .before .before
+
+abbrev at-start : tie.After-is-closed → tie.Start
+at-start c = c .before .before .before .before .before .before .before .before .before .before
+
+returns : tie.Need-returns
+returns c =
+    let is-closed = c .before .before .before in
+    ((λ n. call-stays _ _ _ _ _ _ _ _ _ _ _ _ _ (is-closed .is-closed .ensures) (c .before .before .refusal .ensures) _ (c .before .if1 .taken) (c .refused .ensures)), at-start is-closed .pre)
+
+act-on-requires : tie.Need-act-on-requires
+act-on-requires c κs = at-start (c .before .before .before .before .before .before .before .before .before .before .before .before .before .before .before .before .before .before .before) .pre
+
 returns-2 : tie.Need-returns-2
-returns-2 c = let at-act-on = c .before .before .before .before .before .before .before .before .before .before .before .before .before .before .before in let at-call = at-act-on .before .before .before .before .before .before .before .before .before .before in let at-if1 = at-call .before .before .before .before .before .before .before .before in let at-refusal = at-if1 .before in let at-is-closed = at-refusal .before in ((λ n. call-goes _ _ _ _ _ _ _ _ _ _ _ _ _ (at-is-closed .is-closed .ensures) (at-refusal .refusal .ensures) _ _ _ (at-if1 .if1 .left) (at-call .call .ensures) (at-act-on .act-on .ensures .0 _) (c .findings .ensures)), at-act-on .act-on .ensures .1)
+returns-2 c =
+    let act-on = at-act-on c in
+    let call = act-on .before .before .before .before .before .before .before .before .before .before in
+    let if1 = call .before .before .before .before .before .before .before .before in
+    ((λ n. call-goes _ _ _ _ _ _ _ _ _ _ _ _ _ (if1 .before .before .is-closed .ensures) (if1 .before .refusal .ensures) (call .call .result) _ _ (if1 .if1 .left) (call .call .ensures) (act-on .act-on .ensures .0 _) (c .findings .ensures)), act-on .act-on .ensures .1)
 
 pub call-spec : {M : Type 1} → statement M
 call-spec =
@@ -16,16 +35,16 @@ call-spec =
     (λ c κs. search needs)
     (λ c κs. search needs)
     (λ c κs. search needs)
-    (λ c. search needs)
-    (λ c. ((λ n. call-stays _ _ _ _ _ _ _ _ _ _ _ _ _ (c .before .before .before .is-closed .ensures) (c .before .before .refusal .ensures) _ (c .before .if1 .taken) (c .refused .ensures)), search needs))
+    (λ c. refl)
+    returns
     (λ c κs. (by-guide (search needs), pins-by-guide (search needs)))
-    (λ c κs. let at-call = c .before .before .before .before .before .before .before .before .before in let at-is-closed = at-call .before .before .before .before .before .before .before .before .before .before in let at-start = at-is-closed .before .before .before .before .before .before .before .before .before .before in at-start .pre)
+    act-on-requires
     (λ c κs. search needs)
-    (λ c. search needs)
-    (λ c. search needs)
-    (λ c. search needs)
-    (λ c. search needs)
-    (λ c. search needs)
-    (λ c. search needs)
-    (λ c. search needs)
+    (λ c. at-act-on c .act-on .kept .0)
+    (λ c. at-act-on c .act-on .kept .1 .0)
+    (λ c. at-act-on c .act-on .kept .1 .1 .0)
+    (λ c. at-act-on c .act-on .kept .1 .1 .1 .0)
+    (λ c. at-act-on c .act-on .kept .1 .1 .1 .1 .0)
+    (λ c. at-act-on c .act-on .kept .1 .1 .1 .1 .1 .0)
+    (λ c. at-act-on c .act-on .kept .1 .1 .1 .1 .1 .1 .0)
     returns-2)

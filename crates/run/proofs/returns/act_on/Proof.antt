@@ -5,6 +5,24 @@ use Rattle.act.proofs.Returning.{all-returned}
 use Rattle.run.proofs.returns.act_on.Statement.{statement}
 use Rattle.run.proofs.returns.act_on.Tie as tie
 
+abbrev at-get : tie.After-slice-known14 → tie.After-get
+at-get c = c .before .before .before .before .before .before
+
+abbrev at-make : tie.After-get → tie.After-make
+at-make c = c .before .before .before .before .before .before .before .before .before .before
+
+abbrev at-write-book : tie.After-make → tie.After-write-book
+at-write-book c = c .before .before .before .before .before .before
+
+returns : tie.Need-returns
+returns c =
+    let get = at-get c in
+    let make = at-make get in
+    let write-book = at-write-book make in
+    let frames-of = write-book .before .before .before .before in
+    let start = frames-of .before .before .before .before .before .before .before .before .before in
+    ((λ cs. all-returned _ _ _ _ _ cs _ _ _ _ _ _ _ _ _ _ _ _ _ _ _ _ (frames-of .frames-of .ensures .0) (toZ-ofZ (start .fits .status)) (write-book .write-book .ensures) (make .make .ensures .0) (get .get .ensures .0)), (make .make .ensures .1, get .get .ensures .1))
+
 pub act-on-spec : {M : Type 1} → statement M
 act-on-spec =
     tie.close
@@ -13,11 +31,11 @@ act-on-spec =
     (λ c κs. search needs)
     (λ c κs. search needs)
     (λ c κs. search needs)
-    (λ c. search needs)
-    (λ c. search needs)
-    (λ c. search needs)
-    (λ c. search needs)
-    (λ c. search needs)
-    (λ c. search needs)
-    (λ c. search needs)
-    (λ c. let at-get = c .before .before .before .before .before .before in let at-make = at-get .before .before .before .before .before .before .before .before .before .before in let at-write-book = at-make .before .before .before .before .before .before in let at-frames-of = at-write-book .before .before .before .before in let at-fits = at-frames-of .before .before .before .before .before .before .before .before .before in ((λ cs. all-returned _ _ _ _ _ cs _ _ _ _ _ _ _ _ _ _ _ _ _ _ _ _ (at-frames-of .frames-of .ensures .0) (toZ-ofZ (at-fits .fits .status)) (at-write-book .write-book .ensures) (at-make .make .ensures .0) (at-get .get .ensures .0)), (at-make .make .ensures .1, at-get .get .ensures .1))))
+    (λ c. at-make (at-get c) .make .kept .0)
+    (λ c. at-make (at-get c) .make .kept .1 .0)
+    (λ c. at-make (at-get c) .make .kept .1 .1 .0)
+    (λ c. at-get c .get .kept .0)
+    (λ c. at-get c .get .kept .1 .0)
+    (λ c. at-get c .get .kept .1 .1 .0)
+    (λ c. at-write-book (at-make (at-get c)) .write-book .kept .1 .1 .0)
+    returns)

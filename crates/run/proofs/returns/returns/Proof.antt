@@ -1,4 +1,5 @@
 -- `run::returns::returns` meets its contract. Assumes nothing.
+use mathlib.Core.Path.{refl}
 use mir.Facts.{toZ-ofZ}
 use borrow.Author.Needs.{needs}
 use Rattle.guide.specs.References.{by-guide}
@@ -8,11 +9,46 @@ use Rattle.run.proofs.Making.{handle-lowest, buffer-lowest}
 use Rattle.run.proofs.returns.returns.Statement.{statement}
 use Rattle.run.proofs.returns.returns.Tie as tie
 
+abbrev at-act-on : tie.After-findings → tie.After-act-on
+at-act-on c = c .before .before .before .before .before .before .before .before .before .before .before .before .before .before .before
+
+abbrev at-if1 : tie.After-returns → tie.Else1
+at-if1 c = c .before .before .before .before .before .before .before
+
+abbrev at-start : tie.After-is-closed → tie.Start
+at-start c = c .before .before .before .before .before .before .before .before .before
+
+returns : tie.Need-returns
+returns c =
+    let is-closed = c .before .before .before in
+    ((λ cs many. return-out _ _ _ _ _ _ _ _ _ _ _ (is-closed .is-closed .ensures) (c .before .before .in-turn .ensures) _ (c .before .if1 .taken) (c .refused .ensures)), at-start is-closed .pre)
+
 returns-2 : tie.Need-returns-2
-returns-2 c = let at-if2 = c .before in let at-refusal = at-if2 .before in let at-returns = at-refusal .before in let at-if1 = at-returns .before .before .before .before .before .before .before in let at-in-turn = at-if1 .before in let at-is-closed = at-in-turn .before in let at-fits = at-is-closed .before .before .before .before .before .before .before .before .before in ((λ cs many. return-stays _ _ _ _ _ _ _ _ _ _ _ (at-is-closed .is-closed .ensures) (at-in-turn .in-turn .ensures) _ _ _ (at-if1 .if1 .left) (at-returns .returns .ensures cs) (zero-bits _ (at-fits .fits .status)) (at-refusal .refusal .ensures) _ (at-if2 .if2 .taken) (c .refused2 .ensures)), search needs)
+returns-2 c =
+    let refusal = c .before .before in
+    let sight = refusal .before in
+    let if1 = at-if1 sight in
+    let is-closed = if1 .before .before in
+    let start = at-start is-closed in
+    ((λ cs many. return-stays _ _ _ _ _ _ _ _ _ _ _ (is-closed .is-closed .ensures) (if1 .before .in-turn .ensures) (sight .returns .result) _ _ (if1 .if1 .left) (sight .returns .ensures cs) (zero-bits _ (start .fits .status)) (refusal .refusal .ensures) _ (c .before .if2 .taken) (c .refused2 .ensures)), start .pre)
+
+act-on-requires : tie.Need-act-on-requires
+act-on-requires c κs =
+    let sight = c .before .before .before .before .before .before .before .before .before .before .before in
+    let pre = at-start (at-if1 sight .before .before) .pre in
+    (pre .0, pre .1, handle-lowest _ _ _ _ _ _ _ _ (sight .returns .result) (sight .returns .ensures), buffer-lowest _ _ _ _ _ _ _ _ (sight .returns .result) (sight .returns .ensures))
 
 returns-3 : tie.Need-returns-3
-returns-3 c = let at-act-on = c .before .before .before .before .before .before .before .before .before .before .before .before .before .before .before in let at-capacity-asked = at-act-on .before in let at-if2 = at-capacity-asked .before .before .before .before .before .before .before .before .before in let at-refusal = at-if2 .before in let at-returns = at-refusal .before in let at-if1 = at-returns .before .before .before .before .before .before .before in let at-in-turn = at-if1 .before in let at-is-closed = at-in-turn .before in let at-fits = at-is-closed .before .before .before .before .before .before .before .before .before in ((λ cs many. return-goes _ _ _ _ _ _ _ _ _ _ _ (at-is-closed .is-closed .ensures) (at-in-turn .in-turn .ensures) _ _ _ (at-if1 .if1 .left) (at-returns .returns .ensures cs) (zero-bits _ (at-fits .fits .status)) (at-refusal .refusal .ensures) _ _ _ _ (at-if2 .if2 .left) (toZ-ofZ (at-fits .fits .status)) (at-capacity-asked .capacity-asked .ensures) (at-act-on .act-on .ensures .0 cs) (c .findings .ensures)), at-act-on .act-on .ensures .1)
+returns-3 c =
+    let act-on = at-act-on c in
+    let capacity-asked = act-on .before in
+    let if2 = capacity-asked .before .before .before .before .before .before .before .before .before in
+    let refusal = if2 .before in
+    let sight = refusal .before in
+    let if1 = at-if1 sight in
+    let is-closed = if1 .before .before in
+    let status = at-start is-closed .fits .status in
+    ((λ cs many. return-goes _ _ _ _ _ _ _ _ _ _ _ (is-closed .is-closed .ensures) (if1 .before .in-turn .ensures) (sight .returns .result) _ _ (if1 .if1 .left) (sight .returns .ensures cs) (zero-bits _ status) (refusal .refusal .ensures) _ _ _ _ (if2 .if2 .left) (toZ-ofZ status) (capacity-asked .capacity-asked .ensures) (act-on .act-on .ensures .0 cs) (c .findings .ensures)), act-on .act-on .ensures .1)
 
 pub returns-spec : {M : Type 1} → statement M
 returns-spec =
@@ -21,26 +57,26 @@ returns-spec =
     (λ c κs. search needs)
     (λ c κs. search needs)
     (λ c κs. search needs)
-    (λ c. search needs)
-    (λ c. ((λ cs many. return-out _ _ _ _ _ _ _ _ _ _ _ (c .before .before .before .is-closed .ensures) (c .before .before .in-turn .ensures) _ (c .before .if1 .taken) (c .refused .ensures)), search needs))
+    (λ c. refl)
+    returns
     (λ c κs. by-guide (search needs))
     (λ c κs. search needs)
     (λ c κs. search needs)
-    (λ c. search needs)
-    (λ c. search needs)
-    (λ c. search needs)
-    (λ c. search needs)
-    (λ c. search needs)
-    (λ c. search needs)
+    (λ c. refl)
+    (λ c. refl)
+    (λ c. refl)
+    (λ c. refl)
+    (λ c. refl)
+    (λ c. refl)
     returns-2
     (λ c κs. search needs)
-    (λ c κs. let at-returns = c .before .before .before .before .before .before .before .before .before .before .before in let at-start = at-returns .before .before .before .before .before .before .before .before .before .before .before .before .before .before .before .before .before .before in (at-start .pre .0, at-start .pre .1, handle-lowest _ _ _ _ _ _ _ _ _ (at-returns .returns .ensures), buffer-lowest _ _ _ _ _ _ _ _ _ (at-returns .returns .ensures)))
+    act-on-requires
     (λ c κs. search needs)
-    (λ c. search needs)
-    (λ c. search needs)
-    (λ c. search needs)
-    (λ c. search needs)
-    (λ c. search needs)
-    (λ c. search needs)
-    (λ c. search needs)
+    (λ c. at-act-on c .act-on .kept .0)
+    (λ c. at-act-on c .act-on .kept .1 .0)
+    (λ c. at-act-on c .act-on .kept .1 .1 .0)
+    (λ c. at-act-on c .act-on .kept .1 .1 .1 .0)
+    (λ c. at-act-on c .act-on .kept .1 .1 .1 .1 .0)
+    (λ c. at-act-on c .act-on .kept .1 .1 .1 .1 .1 .0)
+    (λ c. at-act-on c .act-on .kept .1 .1 .1 .1 .1 .1 .0)
     returns-3)

@@ -9,6 +9,27 @@ use Rattle.judge.proofs.Dispatch.{of-enter, of-leave, of-call, of-return, of-de
 use Rattle.run.proofs.step.on_event.Statement.{statement}
 use Rattle.run.proofs.step.on_event.Tie as tie
 
+abbrev at-enter : tie.After-slice-known12 → tie.After-enter
+at-enter c = c .before .before .before .before .before .before .before .before
+
+abbrev at-leave : tie.After-slice-known16 → tie.After-leave
+at-leave c = c .before .before .before .before .before .before .before .before
+
+abbrev at-call : tie.After-slice-known23 → tie.After-call
+at-call c = c .before .before .before .before .before .before .before .before .before .before .before .before .before .before
+
+abbrev at-returns : tie.After-slice-known30 → tie.After-returns
+at-returns c = c .before .before .before .before .before .before .before .before .before .before .before .before .before .before
+
+abbrev at-declare : tie.After-slice-known32 → tie.After-declare
+at-declare c = c .before .before .before .before
+
+abbrev at-state : tie.After-slice-known34 → tie.After-state
+at-state c = c .before .before .before .before
+
+abbrev at-end : tie.After-slice-known35 → tie.After-end
+at-end c = c .before .before
+
 array-share-prefix-handles : tie.Need-array-share-prefix-handles
 array-share-prefix-handles c = let at-event = c .before .before .before .before .before in let at-pre = at-event .before .before .before .before .before .before .before .before .before .before in omega (arith, few-named _ ((at-pre .pre) .0) ((at-event .event) .given .1))
 
@@ -62,49 +83,49 @@ on-event-spec =
     (λ c κs. search needs)
     (λ c. search needs)
     (λ c κs. search needs)
-    (λ c. search needs)
-    (λ c. search needs)
-    (λ c. search needs)
-    (λ c. search needs)
+    (λ c. at-enter c .enter .kept .0)
+    (λ c. at-enter c .enter .kept .1 .0)
+    (λ c. at-enter c .enter .kept .1 .1 .0)
+    (λ c. at-enter c .enter .kept .1 .1 .1 .0)
     returns
-    (λ c. search needs)
-    (λ c. search needs)
-    (λ c. search needs)
-    (λ c. search needs)
-    (λ c. search needs)
-    (λ c. search needs)
-    (λ c. search needs)
+    (λ c. at-leave c .leave .kept .0)
+    (λ c. at-leave c .leave .kept .1 .0)
+    (λ c. at-leave c .leave .kept .1 .1 .0)
+    (λ c. refl)
+    (λ c. refl)
+    (λ c. refl)
+    (λ c. at-leave c .leave .kept .1 .1 .1 .1 .1 .1 .0)
     returns-2
-    (λ c. search needs)
-    (λ c. search needs)
-    (λ c. search needs)
-    (λ c. search needs)
-    (λ c. search needs)
-    (λ c. search needs)
-    (λ c. search needs)
-    (λ c. search needs)
+    (λ c. at-call c .call .kept .0)
+    (λ c. at-call c .call .kept .1 .0)
+    (λ c. at-call c .call .kept .1 .1 .0)
+    (λ c. at-call c .call .kept .1 .1 .1 .0)
+    (λ c. at-call c .call .kept .1 .1 .1 .1 .0)
+    (λ c. at-call c .call .kept .1 .1 .1 .1 .1 .0)
+    (λ c. at-call c .call .kept .1 .1 .1 .1 .1 .1 .0)
+    (λ c. refl)
     returns-3
-    (λ c. search needs)
-    (λ c. search needs)
-    (λ c. search needs)
-    (λ c. search needs)
-    (λ c. search needs)
-    (λ c. search needs)
-    (λ c. search needs)
+    (λ c. at-returns c .returns .kept .0)
+    (λ c. at-returns c .returns .kept .1 .0)
+    (λ c. at-returns c .returns .kept .1 .1 .0)
+    (λ c. at-returns c .returns .kept .1 .1 .1 .0)
+    (λ c. at-returns c .returns .kept .1 .1 .1 .1 .0)
+    (λ c. at-returns c .returns .kept .1 .1 .1 .1 .1 .0)
+    (λ c. at-returns c .returns .kept .1 .1 .1 .1 .1 .1 .0)
     returns-4
-    (λ c. search needs)
-    (λ c. search needs)
+    (λ c. at-declare c .declare .kept .0)
+    (λ c. at-declare c .declare .kept .1 .0)
     returns-5
-    (λ c. search needs)
-    (λ c. search needs)
-    (λ c. search needs)
-    (λ c. search needs)
-    (λ c. search needs)
+    (λ c. at-state c .state .kept .0)
+    (λ c. refl)
+    (λ c. refl)
+    (λ c. at-state c .state .kept .1 .1 .1 .0)
+    (λ c. refl)
     returns-6
-    (λ c. search needs)
-    (λ c. search needs)
-    (λ c. search needs)
-    (λ c. search needs)
-    (λ c. search needs)
+    (λ c. refl)
+    (λ c. refl)
+    (λ c. refl)
+    (λ c. refl)
+    (λ c. at-end c .end .kept .1 .1 .1 .1 .0)
     returns-7
     returns-8)
