@@ -5,7 +5,7 @@ use borrow.Author.Needs.{needs}
 use Rattle.rows.specs.Table.{table}
 use Rattle.guide.specs.References.{Guides}
 use Rattle.guide.specs.Pins.{Guides as PinGuides}
-use Rattle.tables.specs.Tables.{tables}
+use Rattle.tables.specs.Tables.{Tables, tables}
 use Rattle.demands.specs.Calls.{Alike}
 use Rattle.run.specs.Fit.{Fit-but}
 use Rattle.run.proofs.Going.{Going, going-start, going-on, going-told, roomy, still, less}
@@ -37,6 +37,9 @@ at-loop c = c .before .before
 abbrev at-end : tie.After-how-far Inv-loop μ-loop → tie.At-loop Inv-loop μ-loop
 at-end c = c .before .before .before
 
+abbrev left : tie.After-step Inv-loop μ-loop → Tables
+left c = tables (c .step .last .1 .0) (c .step .last .1 .1 .0) (c .step .last .1 .1 .1 .1 .0) (c .step .last .1 .1 .1 .1 .1 .0) (c .step .last .1 .1 .1 .1 .1 .1 .1 .0) (c .step .last .1 .1 .1 .1 .1 .1 .1 .1 .0)
+
 loop-holds : tie.Need-loop-holds Inv-loop μ-loop
 loop-holds c = let at-fill2 = c .before .before in let at-fill = at-fill2 .before .before .before .before .before in let at-pre = at-fill .before .before .before .before .before .before .before .before .before .before .before .before in (record { reference-rows = refl; reference-marks = refl; pin-rows = refl; pin-marks = refl; books = refl; class-tables = refl }, going-start ((c .start) .ensures .0) ((c .start) .ensures .1) ((c .start) .ensures .2) ((c .start) .ensures .3), guided _ _ ((at-fill .fill) .ensures), pin-guided _ _ ((at-fill2 .fill2) .ensures), fit-unless-8 _ _ (at-pre .pre))
 
@@ -44,7 +47,7 @@ part-step-end : tie.Need-part-step-end Inv-loop μ-loop
 part-step-end c = at-loop c .loop .inv .1 .line (c .if1 .taken) .within
 
 heard-requires : tie.Need-heard-requires Inv-loop μ-loop
-heard-requires c κs = let step = c .before .before .before .before .before .before .before .before .before .before .before .before .before .before .before in let if1 = at-if1 step in roomy (at-loop if1 .loop .inv .1) (if1 .if1 .taken) (step .step .ensures .0)
+heard-requires c κs = let step = c .before .before .before .before .before .before .before .before .before .before .before .before .before .before .before in let if1 = at-if1 step in roomy (at-loop if1 .loop .inv .1) (if1 .if1 .taken) {S' = left step} (step .step .ensures .0)
 
 loop-less : tie.Need-loop-less Inv-loop μ-loop
 loop-less c = let if1 = at-if1 (at-step c) in less (at-loop if1 .loop .inv .1) (if1 .if1 .taken) (c .before .before .heard .ensures)
@@ -62,7 +65,7 @@ loop-again c =
         books = step .step .kept .1 .1 .1 .1 .1 .1 .1 .0 ∙ inv .0 .books;
         class-tables = step .step .kept .1 .1 .1 .1 .1 .1 .1 .1 .0 ∙ inv .0 .class-tables;
       },
-      going-on (inv .1) (if1 .if1 .taken) (step .step .ensures .0) (c .before .before .heard .ensures),
+      going-on (inv .1) (if1 .if1 .taken) {S' = left step} (step .step .ensures .0) (c .before .before .heard .ensures),
       step .step .ensures .1 .0 .0,
       step .step .ensures .1 .0 .1,
       step .step .ensures .1 .1,
@@ -88,7 +91,7 @@ run-by-guides-spec =
     part-step-end
     (λ c. search needs)
     (λ c. search needs)
-    (λ c κs. search needs)
+    (λ c κs. let inv = at-loop (c .before .before .before .before .before .before .before .before .before .before) .loop .inv in (inv .2, inv .3, inv .4))
     heard-requires
     loop-less
     loop-again

@@ -2,7 +2,7 @@
 use mathlib.Core.Path.{refl, _∙_}
 use native.Mathlib.Omega.{arith}
 use borrow.Author.Needs.{needs}
-use Rattle.tables.specs.Tables.{tables}
+use Rattle.tables.specs.Tables.{Tables, tables}
 use Rattle.demands.specs.Calls.{Alike}
 use Rattle.run.proofs.Going.{Going, going-start, going-on, going-told, roomy, still, less}
 use Rattle.run.proofs.run_by_scans.Statement.{statement}
@@ -28,6 +28,9 @@ at-loop c = c .before .before
 abbrev at-end : tie.After-how-far Inv-loop μ-loop → tie.At-loop Inv-loop μ-loop
 at-end c = c .before .before .before
 
+abbrev left : tie.After-step Inv-loop μ-loop → Tables
+left c = tables (c .step .last .1 .0) (c .step .last .1 .1 .0) (c .step .last .1 .1 .1 .0) (c .step .last .1 .1 .1 .1 .0) (c .step .last .1 .1 .1 .1 .1 .0) (c .step .last .1 .1 .1 .1 .1 .1 .0)
+
 loop-holds : tie.Need-loop-holds Inv-loop μ-loop
 loop-holds c = (record { reference-rows = refl; reference-marks = refl; pin-rows = refl; pin-marks = refl; books = refl; class-tables = refl }, going-start ((c .start) .ensures .0) ((c .start) .ensures .1) ((c .start) .ensures .2) ((c .start) .ensures .3))
 
@@ -35,7 +38,7 @@ part-step-end : tie.Need-part-step-end Inv-loop μ-loop
 part-step-end c = at-loop c .loop .inv .1 .line (c .if1 .taken) .within
 
 heard-requires : tie.Need-heard-requires Inv-loop μ-loop
-heard-requires c κs = let step = c .before .before .before .before .before .before .before .before .before .before .before .before .before in let if1 = at-if1 step in roomy (at-loop if1 .loop .inv .1) (if1 .if1 .taken) (step .step .ensures)
+heard-requires c κs = let step = c .before .before .before .before .before .before .before .before .before .before .before .before .before in let if1 = at-if1 step in roomy (at-loop if1 .loop .inv .1) (if1 .if1 .taken) {S' = left step} (step .step .ensures)
 
 loop-less : tie.Need-loop-less Inv-loop μ-loop
 loop-less c = let if1 = at-if1 (at-step c) in less (at-loop if1 .loop .inv .1) (if1 .if1 .taken) (c .before .before .heard .ensures)
@@ -53,7 +56,7 @@ loop-again c =
         books = step .step .kept .1 .1 .1 .1 .1 .0 ∙ inv .0 .books;
         class-tables = step .step .kept .1 .1 .1 .1 .1 .1 .0 ∙ inv .0 .class-tables;
       },
-      going-on (inv .1) (if1 .if1 .taken) (step .step .ensures) (c .before .before .heard .ensures),
+      going-on (inv .1) (if1 .if1 .taken) {S' = left step} (step .step .ensures) (c .before .before .heard .ensures),
     )
 
 returns : tie.Need-returns Inv-loop μ-loop

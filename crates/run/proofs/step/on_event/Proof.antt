@@ -4,6 +4,8 @@ use mathlib.Core.Path.{refl, sym}
 use mir.Facts.{toZ-ofZ}
 use lib.Seq.{length-take-le}
 use borrow.Author.Needs.{needs, sfits-of}
+use Rattle.tables.specs.Tables.{Tables, tables}
+use Rattle.events.specs.Outcome.{leaves}
 use Rattle.judge.proofs.Reading.{few-named}
 use Rattle.judge.proofs.Dispatch.{of-enter, of-leave, of-call, of-return, of-declare, of-state, of-end, of-refused}
 use Rattle.run.proofs.step.on_event.Statement.{statement}
@@ -30,35 +32,87 @@ at-state c = c .before .before .before .before
 abbrev at-end : tie.After-slice-known35 → tie.After-end
 at-end c = c .before .before
 
+abbrev at-start : tie.After-slice-known8 → tie.Start
+at-start c = c .before .before .before .before .before .before .before .before
+
+abbrev given : tie.Start → Tables
+given c = tables (c .args .rows .now) (c .args .marks .now) (c .args .pins .now) (c .args .pinmarks .now) (c .args .book .now) (c .args .classes .now)
+
 array-share-prefix-handles : tie.Need-array-share-prefix-handles
-array-share-prefix-handles c = let at-event = c .before .before .before .before .before in let at-pre = at-event .before .before .before .before .before .before .before .before .before .before in omega (arith, few-named _ ((at-pre .pre) .0) ((at-event .event) .given .1))
+array-share-prefix-handles c = let event = c .before .before .before .before .before in omega (arith, few-named _ (at-start (event .before .before) .pre .0) (event .event .given .1))
 
 slice-aggregate-enter : tie.Need-slice-aggregate-enter
-slice-aggregate-enter c = let at-event = c .before .before .before .before .before .before in let at-pre = at-event .before .before .before .before .before .before .before .before .before .before in sym (length-take-le _ _ (omega (arith, few-named _ ((at-pre .pre) .0) ((at-event .event) .given .1))))
+slice-aggregate-enter c =
+    let event = c .before .before .before .before .before .before in
+    sym (length-take-le _ _ (omega (arith, few-named _ (at-start (event .before .before) .pre .0) (event .event .given .1))))
 
 returns : tie.Need-returns
-returns c = let at-enter = c .before .before .before .before .before .before .before .before in let at-event = at-enter .before .before .before .before .before .before .before in let at-pre = at-event .before .before .before .before .before .before .before .before .before .before in (of-enter _ _ _ _ _ _ _ ((at-event .event) .given .1) ((at-enter .enter) .ensures .0 _ _ _), ((at-enter .enter) .ensures .1, (at-pre .pre) .2))
+returns c =
+    let enter = at-enter c in
+    let event = enter .before .before .before .before .before .before .before in
+    let start = at-start (event .before .before) in
+    let args = start .args in
+    let last = enter .enter .last in
+    (of-enter _ _ _ _ _ (given start) (leaves (enter .enter .result) (tables (last .0) (last .1 .0) (args .pins .now) (args .pinmarks .now) (last .1 .1 .1 .0) (args .classes .now))) (event .event .given .1) (enter .enter .ensures .0 (args .pins .now) (args .pinmarks .now) (args .classes .now)), (enter .enter .ensures .1, start .pre .2))
 
 returns-2 : tie.Need-returns-2
-returns-2 c = let at-leave = c .before .before .before .before .before .before .before .before in let at-event2 = at-leave .before .before .before .before .before .before .before .before .before in let at-pre = at-event2 .before .before .before .before .before .before .before .before .before .before in (of-leave _ _ _ _ _ _ _ ((at-event2 .event2) .given .1) ((at-leave .leave) .ensures .0 _ _), ((at-leave .leave) .ensures .1, (at-pre .pre) .2))
+returns-2 c =
+    let leave = at-leave c in
+    let event = leave .before .before .before .before .before .before .before .before .before in
+    let start = at-start (event .before .before) in
+    let args = start .args in
+    let last = leave .leave .last in
+    (of-leave _ _ _ _ _ (given start) (leaves (leave .leave .result) (tables (last .0) (last .1 .0) (args .pins .now) (args .pinmarks .now) (last .1 .1 .1 .1 .1 .1 .0) (args .classes .now))) (event .event2 .given .1) (leave .leave .ensures .0 (args .classes .now) (args .many)), (leave .leave .ensures .1, start .pre .2))
 
 returns-3 : tie.Need-returns-3
-returns-3 c = let at-call = c .before .before .before .before .before .before .before .before .before .before .before .before .before .before in let at-event3 = at-call .before .before .before .before .before .before .before .before .before .before in (of-call _ _ _ _ _ _ _ ((at-event3 .event3) .given .1) ((at-call .call) .ensures .0 _), (at-call .call) .ensures .1)
+returns-3 c =
+    let call = at-call c in
+    let event = call .before .before .before .before .before .before .before .before .before .before in
+    let start = at-start (event .before .before) in
+    let args = start .args in
+    let last = call .call .last in
+    (of-call _ _ _ _ _ (given start) (leaves (call .call .result) (tables (last .0) (last .1 .0) (last .1 .1 .1 .0) (last .1 .1 .1 .1 .0) (last .1 .1 .1 .1 .1 .1 .0) (args .classes .now))) (event .event3 .given .1) (call .call .ensures .0 _), call .call .ensures .1)
 
 returns-4 : tie.Need-returns-4
-returns-4 c = let at-returns = c .before .before .before .before .before .before .before .before .before .before .before .before .before .before in let at-known-told4 = at-returns .before .before .before .before .before .before .before .before in let at-event4 = at-known-told4 .before in (of-return _ _ _ _ _ _ _ _ (toZ-ofZ (sfits-of ((at-known-told4 .known-told4) .given .1 .1 .1 .0 .1))) ((at-event4 .event4) .given .1) ((at-returns .returns) .ensures .0 _ _), (at-returns .returns) .ensures .1)
+returns-4 c =
+    let returns = at-returns c in
+    let event = returns .before .before .before .before .before .before .before .before .before in
+    let start = at-start (event .before .before) in
+    let args = start .args in
+    let last = returns .returns .last in
+    (of-return _ _ _ _ _ (given start) (leaves (returns .returns .result) (tables (last .0) (last .1 .0) (last .1 .1 .1 .0) (last .1 .1 .1 .1 .0) (last .1 .1 .1 .1 .1 .1 .0) (args .classes .now))) _ (toZ-ofZ (sfits-of (returns .before .before .before .before .before .before .before .before .known-told4 .given .1 .1 .1 .0 .1))) (event .event4 .given .1) (returns .returns .ensures .0 (args .classes .now) (args .many)), returns .returns .ensures .1)
 
 returns-5 : tie.Need-returns-5
-returns-5 c = let at-declare = c .before .before .before .before in let at-event5 = at-declare .before .before .before .before in let at-pre = at-event5 .before .before .before .before .before .before .before .before .before .before in (of-declare _ _ _ _ _ _ _ ((at-event5 .event5) .given .1) ((at-declare .declare) .ensures _ _ _ _ _ _ _), ((at-pre .pre) .1, (at-pre .pre) .2))
+returns-5 c =
+    let declare = at-declare c in
+    let event = declare .before .before .before .before in
+    let start = at-start (event .before .before) in
+    let args = start .args in
+    let last = declare .declare .last in
+    (of-declare _ _ _ _ _ (given start) (leaves (declare .declare .result) (tables (args .rows .now) (args .marks .now) (args .pins .now) (args .pinmarks .now) (last .0) (last .1 .0))) (event .event5 .given .1) (declare .declare .ensures (args .rows .now) (args .marks .now) (args .pins .now) (args .pinmarks .now) _ _ (args .many)), (start .pre .1, start .pre .2))
 
 returns-6 : tie.Need-returns-6
-returns-6 c = let at-state = c .before .before .before .before in let at-event6 = at-state .before .before .before .before .before .before .before in let at-pre = at-event6 .before .before .before .before .before .before .before .before .before .before in (of-state _ _ _ _ _ _ _ ((at-event6 .event6) .given .1) ((at-state .state) .ensures .0 _ _ _ _ _), ((at-state .state) .ensures .1, (at-pre .pre) .2))
+returns-6 c =
+    let state = at-state c in
+    let event = state .before .before .before .before .before .before .before in
+    let start = at-start (event .before .before) in
+    let args = start .args in
+    let last = state .state .last in
+    (of-state _ _ _ _ _ (given start) (leaves (state .state .result) (tables (last .0) (args .marks .now) (args .pins .now) (args .pinmarks .now) (last .1 .1 .1 .0) (args .classes .now))) (event .event6 .given .1) (state .state .ensures .0 (args .pins .now) (args .pinmarks .now) _ _ (args .many)), (state .state .ensures .1, start .pre .2))
 
 returns-7 : tie.Need-returns-7
-returns-7 c = let at-end = c .before .before in let at-enum-told = at-end .before .before .before .before .before .before in let at-pre = at-enum-told .before .before .before .before .before .before .before .before .before .before in (of-end _ _ _ _ _ _ _ ((at-enum-told .enum-told) .given .1) ((at-end .end) .ensures _ _ _), ((at-pre .pre) .1, (at-pre .pre) .2))
+returns-7 c =
+    let end = at-end c in
+    let event = end .before .before .before .before .before .before in
+    let start = at-start (event .before .before) in
+    let args = start .args in
+    let last = end .end .last in
+    (of-end _ _ _ _ _ (given start) (leaves (end .end .result) (tables (args .rows .now) (args .marks .now) (args .pins .now) (args .pinmarks .now) (last .1 .1 .1 .1 .0) (args .classes .now))) (event .enum-told .given .1) (end .end .ensures (args .classes .now) _ (args .many)), (start .pre .1, start .pre .2))
 
 returns-8 : tie.Need-returns-8
-returns-8 c = let at-event7 = c .before .before in let at-pre = at-event7 .before .before .before .before .before .before .before .before .before .before in (of-refused _ _ _ _ _ _ _ _ ((at-event7 .event7) .given .1) ((c .refused) .ensures) refl, ((at-pre .pre) .1, (at-pre .pre) .2))
+returns-8 c =
+    let start = at-start (c .before .before .before .before) in
+    (of-refused _ _ _ _ _ (given start) _ _ (c .before .before .event7 .given .1) (c .refused .ensures) refl, (start .pre .1, start .pre .2))
 
 pub on-event-spec : {M : Type 1} → statement M
 on-event-spec =
@@ -68,17 +122,17 @@ on-event-spec =
     (λ c. search needs)
     array-share-prefix-handles
     slice-aggregate-enter
-    (λ c κs. search needs)
+    (λ c κs. at-start (c .before .before .before .before .before .before .before .before) .pre .1)
+    (λ c. search needs)
+    (λ c κs. let pre = at-start (c .before .before .before .before .before .before .before .before .before .before) .pre in (pre .1, pre .2))
+    (λ c. search needs)
+    (λ c κs. let pre = at-start (c .before .before .before .before .before .before .before .before .before .before .before) .pre in (pre .1, pre .2))
+    (λ c. search needs)
+    (λ c κs. let pre = at-start (c .before .before .before .before .before .before .before .before .before .before) .pre in (pre .1, pre .2))
     (λ c. search needs)
     (λ c κs. search needs)
     (λ c. search needs)
-    (λ c κs. search needs)
-    (λ c. search needs)
-    (λ c κs. search needs)
-    (λ c. search needs)
-    (λ c κs. search needs)
-    (λ c. search needs)
-    (λ c κs. search needs)
+    (λ c κs. at-start (c .before .before .before .before .before .before .before .before) .pre .1)
     (λ c. search needs)
     (λ c κs. search needs)
     (λ c. search needs)
