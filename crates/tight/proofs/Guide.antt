@@ -23,11 +23,23 @@ references-forget-tight κs args = (tt, by-guide)
 pub references-held-tight : Tight guide.references.held.ended guide.references.held.Reads.Asked guide.references.held.Reads.Learnt
 references-held-tight κs args = (tt, by-reply)
 
-pub references-shown-from-tight : Tight guide.references.shown_from.ended guide.references.shown_from.Reads.Asked guide.references.shown_from.Reads.Learnt
-references-shown-from-tight κs args = (tt, by-reply)
+pub references-words-from-tight : Tight guide.references.words_from.ended guide.references.words_from.Reads.Asked guide.references.words_from.Reads.Learnt
+references-words-from-tight κs args = (tt, by-reply)
+
+pub references-marks-from-tight : Tight guide.references.marks_from.ended guide.references.marks_from.Reads.Asked guide.references.marks_from.Reads.Learnt
+references-marks-from-tight κs args = (tt, by-reply)
 
 pub references-clear-from-tight : Tight guide.references.clear_from.ended guide.references.clear_from.Reads.Asked guide.references.clear_from.Reads.Learnt
 references-clear-from-tight κs args = (tt, by-slice)
+
+pub references-used-tight : Tight guide.references.used.ended guide.references.used.Reads.Asked guide.references.used.Reads.Learnt
+references-used-tight κs args = (tt, by-reply)
+
+pub references-raise-tight : Tight guide.references.raise.ended guide.references.raise.Reads.Asked guide.references.raise.Reads.Learnt
+references-raise-tight κs args = (tt, by-slice)
+
+pub references-lowest-free-tight : Tight guide.references.lowest_free.ended guide.references.lowest_free.Reads.Asked guide.references.lowest_free.Reads.Learnt
+references-lowest-free-tight κs args = (tt, by-reply)
 
 pub references-fill-tight : Tight guide.references.fill.ended guide.references.fill.Reads.Asked guide.references.fill.Reads.Learnt
 references-fill-tight κs args = (tt, by-guide)

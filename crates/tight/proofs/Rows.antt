@@ -18,6 +18,9 @@ references-room-tight κs args = (tt, by-reply)
 pub references-lowest-free-tight : Tight rows.references.lowest_free.ended rows.references.lowest_free.Reads.Asked rows.references.lowest_free.Reads.Learnt
 references-lowest-free-tight κs args = (tt, by-reply)
 
+pub references-free-from-tight : Tight rows.references.free_from.ended rows.references.free_from.Reads.Asked rows.references.free_from.Reads.Learnt
+references-free-from-tight κs args = (tt, by-reply)
+
 pub references-alive-tight : Tight rows.references.alive.ended rows.references.alive.Reads.Asked rows.references.alive.Reads.Learnt
 references-alive-tight κs args = (tt, by-reply)
 

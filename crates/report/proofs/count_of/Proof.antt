@@ -6,5 +6,5 @@ use Rattle.report.proofs.count_of.Tie as tie
 
 pub count-of-spec : {M : Type 1} → statement M
 count-of-spec = tie.close (tie.spec
-    (λ c. let a = c .before .before .args .answer in let k = length-take (a .count) (a .found) in (omega (arith, simp length-map at (c .before .before .good .0 .1 .1 .1 .1 .0 .1 .0 .1)), omega arith))
-    (λ c. let a = c .before .before .args .answer in let k = length-take (a .count) (a .found) in (omega (arith, simp length-map at (c .before .before .good .0 .1 .1 .1 .1 .0 .1 .0 .1)), omega arith)))
+    (λ c. let a = c .before .before .args .answer in let k = length-take (a .count) (a .found) in (omega (arith, simp length-map at (c .before .before .good .0 .1 .1 .0 .1 .0 .1)), omega arith))
+    (λ c. let a = c .before .before .args .answer in let k = length-take (a .count) (a .found) in (omega (arith, simp length-map at (c .before .before .good .0 .1 .1 .0 .1 .0 .1)), omega arith)))
