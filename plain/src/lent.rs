@@ -1,4 +1,4 @@
-//! The judge over lent tables, whatever they hold: a start, a step and the leak list.
+//! The judge over lent tables, whatever they hold: a start, a step, a piece of many lines and the leak list.
 //!
 //! Document 01 gives the layout and the rules. Where it says nothing of foreign numbers they mean what the definitions
 //! of the proved judge make of them; a comment says so at each such place.
@@ -7,6 +7,7 @@ pub mod book;
 pub mod classes;
 pub mod leaks;
 pub mod lookup;
+pub mod piece;
 pub mod pins;
 pub mod references;
 pub mod reply;

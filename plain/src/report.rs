@@ -99,11 +99,7 @@ impl<L: Lookup, W: Write> Run<L, W> {
         match self.judge.step(line) {
             Ok(findings) => {
                 for found in findings.iter() {
-                    writeln!(
-                        self.output,
-                        "{}\t{}\t{}\t{}",
-                        found.line, found.rule, found.place, found.thing
-                    )?;
+                    writeln!(self.output, "{found}")?;
                 }
                 self.printed += findings.len() as u64;
             }

@@ -13,6 +13,7 @@ mod leaks;
 mod lent;
 mod lines;
 mod maker;
+mod pieces;
 mod programs;
 mod shut_out;
 mod single;
