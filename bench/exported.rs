@@ -36,6 +36,27 @@ extern "C" {
         found: *mut Number,
         found_length: usize,
     ) -> i32;
+    fn weir_piece(
+        piece: *const u8,
+        piece_length: usize,
+        ended: u32,
+        rows: *mut Number,
+        rows_length: usize,
+        marks: *mut Word,
+        marks_length: usize,
+        pins: *mut Number,
+        pins_length: usize,
+        pin_marks: *mut Word,
+        pin_marks_length: usize,
+        book: *mut Word,
+        book_length: usize,
+        classes: *mut Number,
+        classes_length: usize,
+        out: *mut u8,
+        out_length: usize,
+        far: *mut Word,
+        far_length: usize,
+    ) -> i32;
     fn weir_judge(
         trace: *const u8,
         trace_length: usize,
@@ -110,6 +131,33 @@ pub fn step(line: &[u8], lent: Lent, found: &mut [Number]) -> i32 {
             lent.classes.len(),
             found.as_mut_ptr(),
             found.len(),
+        )
+    }
+}
+
+pub fn piece(piece: &[u8], ended: u32, lent: Lent, out: &mut [u8], far: &mut [Word]) -> i32 {
+    // SAFETY: each pointer is that of a slice of the length that follows it.
+    unsafe {
+        weir_piece(
+            piece.as_ptr(),
+            piece.len(),
+            ended,
+            lent.rows.as_mut_ptr(),
+            lent.rows.len(),
+            lent.marks.as_mut_ptr(),
+            lent.marks.len(),
+            lent.pins.as_mut_ptr(),
+            lent.pins.len(),
+            lent.pin_marks.as_mut_ptr(),
+            lent.pin_marks.len(),
+            lent.book.as_mut_ptr(),
+            lent.book.len(),
+            lent.classes.as_mut_ptr(),
+            lent.classes.len(),
+            out.as_mut_ptr(),
+            out.len(),
+            far.as_mut_ptr(),
+            far.len(),
         )
     }
 }

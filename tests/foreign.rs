@@ -1,8 +1,9 @@
-//! Holds the proved judge to the plain one over foreign tables: each reply, the findings, the reports of whole traces, the leak lists, every number of every slice and those around it.
+//! Holds the proved judge to the plain one over foreign tables: each reply, the findings, pieces of many lines, the reports of whole traces, the leak lists, every number of every slice and those around it.
 
 mod common;
 #[path = "../bench/exported.rs"]
 mod exported;
+mod pieces;
 
 use common::{ended, shown, Wish};
 use plain::coverage::Coverage;
@@ -24,7 +25,9 @@ const GUARD: usize = 300;
 /// The most steps of a case, and of one with a great room.
 const STEPS: usize = 24;
 const GREAT_STEPS: usize = 8;
-/// The leak lists that are asked for after the steps of a case, each in a slice of another length.
+/// How many of a hundred steps are pieces.
+const PIECES: u32 = 15;
+/// The leak lists that are asked for after the steps of a case, each in a slice of another length; with a great room, one.
 const LISTS: usize = 3;
 /// The lines of a long trace, and a report's bytes beyond which its findings are copied in more pieces than one.
 const LONG_TRACE: usize = 4_000;
@@ -39,6 +42,7 @@ struct Seen {
     steps_and_lists: Coverage,
     /// Steps not taken, as there was no room for the most findings of a line.
     short_found: u64,
+    pieces: pieces::Seen,
     /// Whole traces: their reports written, the long ones among them, slices short for them, books short, and class tables short beside whole books.
     reports: u64,
     long_reports: u64,
@@ -52,6 +56,7 @@ impl Seen {
         Seen {
             steps_and_lists: Coverage::of_foreign(),
             short_found: 0,
+            pieces: pieces::Seen::new(),
             reports: 0,
             long_reports: 0,
             short_slices: 0,
@@ -69,7 +74,7 @@ impl Seen {
             self.short_books,
             self.short_classes,
         ];
-        self.steps_and_lists.is_whole() && !told.contains(&0)
+        self.steps_and_lists.is_whole() && self.pieces.is_whole() && !told.contains(&0)
     }
 }
 
@@ -77,6 +82,7 @@ impl Display for Seen {
     fn fmt(&self, out: &mut Formatter) -> fmt::Result {
         write!(out, "{}", self.steps_and_lists)?;
         write!(out, "; short found: {}", self.short_found)?;
+        write!(out, "; {}", self.pieces)?;
         write!(out, "; whole traces: reports {}", self.reports)?;
         write!(out, " (long {})", self.long_reports)?;
         write!(out, ", short slices {}", self.short_slices)?;
@@ -112,10 +118,11 @@ fn compare(seed: u64, seen: &mut Seen) -> Result<(), String> {
         slices,
         mut lines,
     } = foreign::make(&mut random);
-    let most = if slices.rows.len() + slices.pins.len() > MOST_ROOM {
-        GREAT_STEPS
+    let is_great = slices.rows.len() + slices.pins.len() > MOST_ROOM;
+    let (most, lists) = if is_great {
+        (GREAT_STEPS, 1)
     } else {
-        STEPS
+        (STEPS, LISTS)
     };
     let mut plain = Slices {
         rows: Guarded::new(slices.rows, &mut random),
@@ -141,6 +148,10 @@ fn compare(seed: u64, seen: &mut Seen) -> Result<(), String> {
             let same = compare_reports(&mut plain, &mut proved, seen, &mut random)
                 .and_then(|()| compare_lists(&mut plain, &mut proved, seen, &mut random));
             ("a whole trace".to_string(), same)
+        } else if random.percent(PIECES) {
+            let (seen, random) = (&mut seen.pieces, &mut random);
+            let same = pieces::compare(&mut plain, &mut proved, &mut lines, seen, random);
+            ("a piece".to_string(), same)
         } else if random.percent(5) {
             let same = compare_lists(&mut plain, &mut proved, seen, &mut random);
             ("a leak list".to_string(), same)
@@ -163,7 +174,7 @@ fn compare(seed: u64, seen: &mut Seen) -> Result<(), String> {
             }
         }
     }
-    for _ in 0..LISTS {
+    for _ in 0..lists {
         compare_lists(&mut plain, &mut proved, seen, &mut random)
             .and_then(|()| compare_slices(&proved, &plain))
             .map_err(|what| format!("tables {profile}, a leak list after {steps} steps: {what}"))?;

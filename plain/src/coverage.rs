@@ -167,15 +167,15 @@ impl Coverage {
 
     /// Of steps and leak lists over foreign tables.
     pub fn of_foreign() -> Coverage {
-        let causes = FOREIGN_CAUSES.map(|(refusal, cause)| What::Refused(refusal, cause));
         let leaks = [&LEAKS[..], &[FOREIGN_LEAK]].concat();
         let in_lists = in_lists(&leaks, &ORDERS, &[UNFIT_TABLES, OUT_OF_STEP, NO_ROOM]);
-        let classes = [CLASS, STRING, THROWABLE].into_iter().flat_map(|class| {
-            let standings = STANDINGS.into_iter().chain(FOREIGN_STANDINGS);
-            standings.map(move |standing| What::OfClass(class, standing))
-        });
-        let also = [What::Start].into_iter().chain(causes).chain(classes);
+        let also = in_foreign().chain([What::Start]);
         Coverage::of(also.chain(in_lists))
+    }
+
+    /// Of the lines of pieces over foreign tables.
+    pub fn of_foreign_pieces() -> Coverage {
+        Coverage::of(in_foreign())
     }
 
     /// What can come up everywhere, and this.
@@ -350,6 +350,16 @@ fn in_traces() -> impl Iterator<Item = What> {
     });
     let ended = [What::Ended("open"), What::Ended("closed")];
     unused.chain(classed()).chain(ended)
+}
+
+/// What comes up over foreign tables alone.
+fn in_foreign() -> impl Iterator<Item = What> {
+    let causes = FOREIGN_CAUSES.map(|(refusal, cause)| What::Refused(refusal, cause));
+    let classes = [CLASS, STRING, THROWABLE].into_iter().flat_map(|class| {
+        let standings = STANDINGS.into_iter().chain(FOREIGN_STANDINGS);
+        standings.map(move |standing| What::OfClass(class, standing))
+    });
+    causes.into_iter().chain(classes)
 }
 
 /// Each place that has a class, with a handle of each standing from a start.

@@ -1,10 +1,13 @@
-//! Foreign tables made from a seed, the lines to step over them, and the lists to ask of them.
+//! Foreign tables made from a seed, the lines and pieces to judge over them, and the lists to ask of them.
 
 mod classes;
 mod contents;
+mod crowd;
 mod lengths;
 mod lines;
+mod pieces;
 
 pub use contents::{a_z, make, Foreign};
 pub use lengths::of_list;
 pub use lines::{is_over, line};
+pub use pieces::{piece, LONG};

@@ -1,8 +1,9 @@
 //! What foreign tables hold: any numbers, numbers that fit each other in part, or what a judge left with some numbers changed.
 
 use super::classes;
+use super::crowd::crowd;
 use super::lengths::{great, of_book, of_classes, of_rows};
-use crate::facts::{FIRST_FUNCTION, GLOBAL, LAST_FUNCTION, LOCAL, WEAK};
+use crate::facts::{FIRST_FUNCTION, GLOBAL, LAST_FUNCTION, LOCAL, PUSH_LOCAL_FRAME, WEAK};
 use crate::lent::book::*;
 use crate::lent::references::{Reference, CLASS, HANDLE};
 use crate::lent::rows::{LINE, WORD};
@@ -67,6 +68,9 @@ fn small(random: &mut Random) -> Slices {
     let threads = random.pick(&[1, 2, 4, THREADS]);
     fill(&mut slices.rows, || small_reference(random, threads));
     fill(&mut slices.pins, || small_pin(random, threads));
+    if random.percent(15) {
+        crowd(slices.rows.as_chunks_mut().0);
+    }
     some_marks(random, &mut slices.marks);
     some_marks(random, &mut slices.pin_marks);
     classes::small(random, &mut slices.classes);
@@ -374,6 +378,9 @@ fn small_thread(random: &mut Random, row: &mut [Word], number: u32, is_open: boo
             HIGH + 3,
             Word::MAX,
         ]);
+    }
+    if row[FRAMES] == MOST_FRAMES as Word && row[ITEMS] > 0 && random.percent(40) {
+        row[FUNCTIONS + row[ITEMS] as usize - 1] = PUSH_LOCAL_FRAME.into();
     }
     let natives = random.below(row[FRAMES].min(row[ITEMS]) as usize + 1);
     row[NATIVES] = native_marks(random, row[ITEMS] as usize, natives);

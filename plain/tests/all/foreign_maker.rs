@@ -2,8 +2,9 @@
 
 use crate::common::Lent;
 use plain::coverage::Coverage;
-use plain::foreign::{a_z, line, make, of_list};
+use plain::foreign::{a_z, line, make, of_list, piece, LONG};
 use plain::lent::book::CLOSED;
+use plain::lent::piece::{judge_piece, END, FAR, MORE};
 use plain::lent::rows::LINE;
 use plain::lent::slices::Slices;
 use plain::limits::{Number, PIN_NUMBERS, REFERENCE_NUMBERS};
@@ -38,6 +39,36 @@ fn every_refusal_rule_place_and_kind_of_leak_comes_up_over_foreign_tables() {
     }
     assert!(coverage.is_whole(), "{coverage}");
     assert_eq!(profiles.len(), 6, "{profiles:?}");
+}
+
+#[test]
+fn every_refusal_rule_and_place_comes_up_in_long_pieces_and_each_sort_of_piece() {
+    let mut coverage = Coverage::of_foreign_pieces();
+    let (mut replies, mut taken_whole, mut lengths) = (BTreeSet::new(), 0, BTreeSet::new());
+    for seed in 0..12_000 {
+        let mut random = Random::new(seed);
+        let mut foreign = make(&mut random);
+        let piece = piece(&mut foreign.slices.clone(), &mut foreign.lines, &mut random);
+        let ended = random.percent(50);
+        let (mut out, mut far) = (vec![0; 50_000], [0; FAR]);
+        let step = |line: &[u8]| {
+            let stepped = foreign.slices.step(line);
+            if piece.len() >= LONG {
+                coverage.add(&foreign.slices.tables(), line, &stepped);
+            }
+            stepped
+        };
+        replies.insert(judge_piece(step, &piece, ended, &mut out, &mut far));
+        taken_whole += u64::from(piece.len() >= LONG && far[0] == piece.len() as u64);
+        if (LONG - 1..=LONG).contains(&piece.len()) {
+            lengths.insert(piece.len());
+        }
+    }
+    assert!(coverage.is_whole(), "{coverage}");
+    let all = (-10..0).chain([MORE, END]);
+    assert_eq!(replies, all.collect());
+    assert!(taken_whole > 50, "{taken_whole}");
+    assert_eq!(lengths, BTreeSet::from([LONG - 1, LONG]));
 }
 
 #[test]
