@@ -1,4 +1,7 @@
-//! Holds the proved step and the indexed judge to the plain judge on every line of the given traces, then times all three over the rows that their kind takes.
+//! Holds the proved step, the proved loop and the indexed judge to the plain judge on the given traces, then times all four over the rows that their kind takes.
+//!
+//! The loop is handed all lines that are timed in one call, the others are handed them one by one, in turns. All read them in the same memory. That the loop finds
+//! where a line ends, fills its guides first and writes its findings as bytes is counted as its own; the others get each line cut off, and give findings as numbers.
 
 mod clock;
 #[allow(dead_code)] // whole traces and leak lists are not timed here
@@ -8,26 +11,34 @@ use clock::{median, time};
 use plain::big::kind;
 use plain::judge::Judge;
 use plain::lent::lookup::Lookup;
+use plain::lent::piece::{END, FAR};
 use plain::lent::reply::{reply, MOST_NUMBERS};
 use plain::lent::slices::Slices;
-use plain::limits::{Number, PIN_ROWS, REFERENCE_ROWS};
+use plain::limits::{Number, Word, PIN_ROWS, REFERENCE_ROWS};
+use std::fmt::{self, Display, Formatter, Write};
 use std::hint::black_box;
 use std::path::Path;
 use std::process::ExitCode;
 
-/// The judges take turns after so many lines.
+/// The judges that are handed single lines take turns after so many.
 const TURN: usize = 10_000;
+/// The bytes that the loop is lent for its findings: some 40,000 of them.
+const OUT: usize = 1 << 20;
 
 /// The judges that are timed, each over so many reference rows.
-const JUDGES: [(&str, fn(usize) -> Box<dyn Timed>); 3] = [
-    ("proved", |rows| Box::new(Proved::new(rows))),
+const JUDGES: [(&str, fn(usize) -> Box<dyn Timed>); 4] = [
+    ("step", |rows| Box::new(Step::new(rows))),
+    ("loop", |rows| Box::new(Loop::new(rows))),
     ("plain", |rows| Box::new(Judge::new(rows, PIN_ROWS))),
     ("indexed", |rows| Box::new(Judge::indexed(rows, PIN_ROWS))),
 ];
+const STEP: usize = 0;
+const LOOP: usize = 1;
 /// The judge that the others are held to.
-const PLAIN: usize = 1;
+const PLAIN: usize = 2;
+const INDEXED: usize = 3;
 /// Whose time is divided by whose.
-const RATIOS: [(usize, usize); 2] = [(0, PLAIN), (0, 2)];
+const RATIOS: [(usize, usize); 3] = [(STEP, PLAIN), (LOOP, PLAIN), (LOOP, INDEXED)];
 
 const USAGE: &str = "usage: judge ROUNDS [--last LINES] TRACE..";
 
@@ -46,7 +57,7 @@ fn main() -> ExitCode {
         eprintln!("{USAGE}");
         return ExitCode::from(2);
     };
-    println!("the step, processor time in ns a line");
+    println!("in one process, processor time in ns a line, with the loop's filling of its guides");
     print_head();
     for file in wish.files {
         if let Err(error) = measure(file, &wish) {
@@ -80,16 +91,20 @@ fn print_head() {
         print!(" {name:>9}");
     }
     for (one, other) in RATIOS {
-        print!(" {:>15}", format!("{}/{}", JUDGES[one].0, JUDGES[other].0));
+        print!(" {:>13}", format!("{}/{}", JUDGES[one].0, JUDGES[other].0));
     }
     println!();
 }
 
 fn measure(file: &str, wish: &Wish) -> Result<(), String> {
     let trace = std::fs::read(file).map_err(|error| error.to_string())?;
-    let lines: Vec<&[u8]> = trace.split_inclusive(|&byte| byte == b'\n').collect();
-    let last = wish.last.unwrap_or(lines.len()).min(lines.len());
-    let (before, timed) = lines.split_at(lines.len() - last);
+    let each: Vec<&[u8]> = trace.split_inclusive(|&byte| byte == b'\n').collect();
+    let lines = Lines {
+        piece: &trace,
+        each: &each,
+    };
+    let last = wish.last.unwrap_or(each.len()).min(each.len());
+    let (before, timed) = lines.split_at(each.len() - last);
     let name = Path::new(file).file_stem().unwrap_or_default();
     let name = name.to_string_lossy();
     let rows = kind(&name).map_or(REFERENCE_ROWS, |kind| kind.reference_rows);
@@ -105,74 +120,150 @@ fn measure(file: &str, wish: &Wish) -> Result<(), String> {
         print!(" {time:9.1}");
     }
     for (one, other) in RATIOS {
-        print!(" {:15.2}", times[one] / times[other]);
+        print!(" {:13.2}", times[one] / times[other]);
     }
     println!();
     Ok(())
 }
 
-/// All judges on every line, and what they leave after the last: how many findings, or where one differs from the plain judge.
-fn hold(judges: &mut [Box<dyn Timed>], lines: &[&[u8]]) -> Result<usize, String> {
-    let mut findings = 0;
-    for (line, number) in lines.iter().zip(1..) {
-        let replies: Vec<_> = judges.iter_mut().map(|judge| judge.replied(line)).collect();
-        for ((name, _), reply) in JUDGES.iter().zip(&replies) {
-            if *reply != replies[PLAIN] {
-                let (line, wanted) = (String::from_utf8_lossy(line), replies[PLAIN]);
-                return Err(format!(
-                    "line {number}, {line:?}: {name} {reply:?}, plain {wanted:?}"
-                ));
-            }
+/// All judges on all lines, and what they leave: how many findings, or where one differs from the plain judge or refuses a line.
+fn hold(judges: &mut [Box<dyn Timed>], lines: Lines) -> Result<usize, String> {
+    let judged: Vec<_> = judges.iter_mut().map(|judge| judge.judge(lines)).collect();
+    let plain = &judged[PLAIN];
+    for (index, (name, _)) in JUDGES.iter().enumerate() {
+        let given = &judged[index];
+        if given != plain {
+            let at = given.report.lines().zip(plain.report.lines());
+            let at = at.take_while(|(line, wanted)| line == wanted).count();
+            let [line, wanted] = [given, plain].map(|judged| judged.report.lines().nth(at));
+            return Err(format!(
+                "{name} {given}, plain {plain}; finding {at} is {line:?}, not {wanted:?}"
+            ));
         }
-        findings += replies[PLAIN].0.max(0) as usize;
-    }
-    for ((name, _), judge) in JUDGES.iter().zip(&*judges) {
-        if judge.slices() != judges[PLAIN].slices() {
+        if judges[index].slices() != judges[PLAIN].slices() {
             return Err(format!("{name} leaves other tables than plain"));
         }
     }
-    Ok(findings)
+    if plain.reply != END {
+        return Err(format!("a line is refused: plain {plain}"));
+    }
+    Ok(plain.findings)
 }
 
 /// The nanoseconds a line takes each judge as it stands at the start, medians of so many rounds over all lines.
-fn times(start: &[Box<dyn Timed>], lines: &[&[u8]], rounds: usize) -> Vec<f64> {
+fn times(start: &[Box<dyn Timed>], lines: Lines, rounds: usize) -> Vec<f64> {
     let mut taken = vec![Vec::new(); start.len()];
     for _ in 0..rounds {
         let mut judges: Vec<_> = start.iter().map(|judge| judge.copy()).collect();
         let mut sums = vec![0.0; start.len()];
-        for turn in lines.chunks(TURN) {
-            for (sum, judge) in sums.iter_mut().zip(&mut judges) {
-                *sum += time(|| judge.turn(turn));
+        let mut rests = vec![lines; start.len()];
+        while rests.iter().any(|rest| !rest.each.is_empty()) {
+            for (index, rest) in rests.iter_mut().enumerate() {
+                if !rest.each.is_empty() {
+                    let (turn, behind) = rest.split_at(judges[index].turn().min(rest.each.len()));
+                    sums[index] += time(|| judges[index].take(turn));
+                    *rest = behind;
+                }
             }
         }
         for (taken, sum) in taken.iter_mut().zip(sums) {
-            taken.push(sum / lines.len() as f64);
+            taken.push(sum / lines.each.len() as f64);
         }
     }
     taken.into_iter().map(median).collect()
 }
 
+/// Lines one behind another, as a piece and each by itself.
+#[derive(Clone, Copy)]
+struct Lines<'a> {
+    piece: &'a [u8],
+    each: &'a [&'a [u8]],
+}
+
+impl<'a> Lines<'a> {
+    fn split_at(self, count: usize) -> (Lines<'a>, Lines<'a>) {
+        let (each, behind) = self.each.split_at(count);
+        let bytes = each.iter().map(|line| line.len()).sum();
+        let (piece, rest) = self.piece.split_at(bytes);
+        let behind = Lines {
+            piece: rest,
+            each: behind,
+        };
+        (Lines { piece, each }, behind)
+    }
+}
+
+/// What a judge says of lines: the reply as to a piece at the end of its trace, how many bytes were accepted, how many findings there are, and these as lines of the report.
+#[derive(PartialEq)]
+struct Judged {
+    reply: i32,
+    taken: usize,
+    findings: usize,
+    report: String,
+}
+
+impl Display for Judged {
+    fn fmt(&self, out: &mut Formatter) -> fmt::Result {
+        let (reply, taken, findings) = (self.reply, self.taken, self.findings);
+        write!(
+            out,
+            "replies {reply} behind {taken} bytes, {findings} findings"
+        )
+    }
+}
+
 /// A judge and its tables.
 trait Timed {
-    /// The reply to a line, and the numbers of its findings.
-    fn replied(&mut self, line: &[u8]) -> (i32, Found);
+    /// Judges lines up to the first that is refused.
+    fn judge(&mut self, lines: Lines) -> Judged;
+
+    /// How many lines it takes in a turn.
+    fn turn(&self) -> usize;
 
     /// Judges the lines of a turn.
-    fn turn(&mut self, lines: &[&[u8]]);
+    fn take(&mut self, lines: Lines);
 
     fn slices(&self) -> &Slices;
 
     fn copy(&self) -> Box<dyn Timed>;
 }
 
-impl<L: Lookup + Clone + 'static> Timed for Judge<L> {
-    fn replied(&mut self, line: &[u8]) -> (i32, Found) {
+/// What is said of lines that are handed over one by one, by the replies to them and the numbers of their findings.
+fn one_by_one(lines: Lines, mut reply: impl FnMut(&[u8], &mut Found) -> i32) -> Judged {
+    let mut judged = Judged {
+        reply: END,
+        taken: 0,
+        findings: 0,
+        report: String::new(),
+    };
+    for line in lines.each {
         let mut found = [0; MOST_NUMBERS];
-        (reply(|| self.step(line), &mut found), found)
+        let reply = reply(line, &mut found);
+        if reply < 0 {
+            judged.reply = reply;
+            break;
+        }
+        judged.taken += line.len();
+        judged.findings += reply as usize;
+        let (findings, _) = found.as_chunks();
+        for [line, rule, place, thing] in &findings[..reply as usize] {
+            let _ = writeln!(judged.report, "{line}\t{rule}\t{place}\t{thing}");
+        }
+    }
+    judged
+}
+
+impl<L: Lookup + Clone + 'static> Timed for Judge<L> {
+    fn judge(&mut self, lines: Lines) -> Judged {
+        one_by_one(lines, |line, found| reply(|| self.step(line), found))
     }
 
-    fn turn(&mut self, lines: &[&[u8]]) {
-        for line in lines {
+    fn turn(&self) -> usize {
+        TURN
+    }
+
+    fn take(&mut self, lines: Lines) {
+        for line in lines.each {
             let _ = black_box(self.step(black_box(line)));
         }
     }
@@ -186,39 +277,103 @@ impl<L: Lookup + Clone + 'static> Timed for Judge<L> {
     }
 }
 
-/// The proved step over tables that it has started.
+/// Tables that the proved judge has started.
+fn started(reference_rows: usize) -> Slices {
+    let mut slices = Slices::new(reference_rows, PIN_ROWS);
+    exported::start(slices.lend());
+    slices
+}
+
+/// The proved step.
 #[derive(Clone)]
-struct Proved {
+struct Step {
     slices: Slices,
     found: Found,
 }
 
-impl Proved {
-    fn new(reference_rows: usize) -> Proved {
-        let mut slices = Slices::new(reference_rows, PIN_ROWS);
-        exported::start(slices.lend());
-        Proved {
-            slices,
+impl Step {
+    fn new(reference_rows: usize) -> Step {
+        Step {
+            slices: started(reference_rows),
             found: [0; MOST_NUMBERS],
         }
     }
+}
 
-    fn step(&mut self, line: &[u8]) -> i32 {
-        exported::step(line, self.slices.lend(), &mut self.found)
+impl Timed for Step {
+    fn judge(&mut self, lines: Lines) -> Judged {
+        one_by_one(lines, |line, found| {
+            exported::step(line, self.slices.lend(), found)
+        })
+    }
+
+    fn turn(&self) -> usize {
+        TURN
+    }
+
+    fn take(&mut self, lines: Lines) {
+        for line in lines.each {
+            black_box(exported::step(
+                black_box(line),
+                self.slices.lend(),
+                &mut self.found,
+            ));
+            black_box(&self.found);
+        }
+    }
+
+    fn slices(&self) -> &Slices {
+        &self.slices
+    }
+
+    fn copy(&self) -> Box<dyn Timed> {
+        Box::new(self.clone())
     }
 }
 
-impl Timed for Proved {
-    fn replied(&mut self, line: &[u8]) -> (i32, Found) {
-        self.found = [0; MOST_NUMBERS];
-        (self.step(line), self.found)
+/// The proved loop, with what it is lent beside the tables.
+#[derive(Clone)]
+struct Loop {
+    slices: Slices,
+    out: Vec<u8>,
+    far: [Word; FAR],
+}
+
+impl Loop {
+    fn new(reference_rows: usize) -> Loop {
+        Loop {
+            slices: started(reference_rows),
+            out: vec![0; OUT],
+            far: [0; FAR],
+        }
     }
 
-    fn turn(&mut self, lines: &[&[u8]]) {
-        for line in lines {
-            black_box(self.step(black_box(line)));
-            black_box(&self.found);
+    /// One call, as if the trace ended behind the piece.
+    fn call(&mut self, piece: &[u8]) -> i32 {
+        exported::piece(piece, 1, self.slices.lend(), &mut self.out, &mut self.far)
+    }
+}
+
+impl Timed for Loop {
+    fn judge(&mut self, lines: Lines) -> Judged {
+        let reply = self.call(lines.piece);
+        let [taken, put, findings] = self.far.map(|number| number as usize);
+        Judged {
+            reply,
+            taken,
+            findings,
+            report: String::from_utf8_lossy(&self.out[..put]).into_owned(),
         }
+    }
+
+    /// All that there are.
+    fn turn(&self) -> usize {
+        usize::MAX
+    }
+
+    fn take(&mut self, lines: Lines) {
+        black_box(self.call(black_box(lines.piece)));
+        black_box((&self.out, &self.far));
     }
 
     fn slices(&self) -> &Slices {
