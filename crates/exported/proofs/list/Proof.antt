@@ -28,6 +28,6 @@ list-spec =
     (λ c κs. search needs)
     (λ c. search needs)
     (λ c. search needs)
-    (λ c. let at-put = c .before .before in let at-loop = at-put .before .before .before .before in let at-good = at-loop .before .before in (search needs, next-put _ _ _ _ (omega (arith, simp length-map at (at-good .good .1 .0 .1 .1 .1 .1 .0 .1 .0 .1))) (search needs) (at-loop .loop .inv .1) (at-put .put .ensures), at-put .put .kept .0 ∙ at-loop .loop .inv .2))
+    (λ c. let at-put = c .before .before in let at-loop = at-put .before .before .before .before in let at-good = at-loop .before .before in (search needs, next-put _ _ _ _ (omega (arith, simp length-map at (at-good .good .1 .0 .1 .1 .0 .1 .0 .1))) (search needs) (at-loop .loop .inv .1) (at-put .put .ensures), at-put .put .kept .0 ∙ at-loop .loop .inv .2))
     (λ c. c .before .loop .inv .2)
     (λ c. all-put _ _ (c .before .loop .at) (c .before .before .before .args .t2 .count) (search needs) (c .before .loop .inv .1)))
