@@ -3,7 +3,7 @@ use mathlib.Core.Path.{_≡_, refl, sym, ap, ap₂, _∙_}
 use mathlib.Core.Bool.{Bool, true, false, not, _&&_, _||_}
 use mathlib.Core.List.{List}
 use mathlib.Core.Option.{Option, none, some}
-use Prim.Native.Nat.{ℕ, min}
+use Prim.Native.Nat.{ℕ, _-_, _≤_, _<_, min}
 use native.Mathlib.Omega.{arith}
 use lib.Dec.{eqb}
 use lib.ListN.{length, getD, List·getD-eq-default}
@@ -13,7 +13,7 @@ use Rattle.rows.specs.Scan.{lowest}
 use Rattle.rows.specs.Slots.{holding}
 use Rattle.rows.specs.Table.{Layout, Table, room, found}
 use Rattle.rows.specs.View.{slot, view}
-use Rattle.rows.proofs.ScanLaws.{lowest-ext}
+use Rattle.rows.proofs.ScanLaws.{lowest-le, lowest-ext}
 use Rattle.rows.proofs.ViewLaws.{passes-slot, view-at, view-past}
 use Rattle.guide.specs.Words.{full-word, name-a, name-b, name-c, is-full, named}
 use Rattle.guide.specs.Listing.{word-at, lists, found-by}
@@ -116,23 +116,31 @@ module _ {A : Type 0} (L : Layout A) (q : A → Bool) (T : Table) where
     pub found-scanned : (r : ℕ) → r ≡ found L q T → length G ≡ 0 → r ≡ found-by L G a b q T
     found-scanned r er e = er ∙ sym (found-unguided e)
 
-    module _ (i v : ℕ) (ei : i ≡ a) (ev : v ≡ word-at G i) where
-      at-first : v ≡ word-at G a
-      at-first = ev ∙ ap (word-at G) ei
+    -- ---- one place after the other: so many are left, the next is s, and `best` is the lowest row that those before it name
+    pub data Looks (left s best : ℕ) : Type 0 where
+      at-first-place : left ≡ 2 → s ≡ a → best ≡ room L T → Looks left s best
+      at-second-place : left ≡ 1 → s ≡ b → is-full (word-at G a) ≡ true → best ≡ low (word-at G a) → Looks left s best
+      at-none : left ≡ 0 → is-full (word-at G a) ≡ true → is-full (word-at G b) ≡ true → Looks left s best
 
-      pub found-first : (f : Bool) (r : ℕ) → r ≡ low v → f ≡ is-full v → not f ≡ true → r ≡ found-by L G a b q T
-      found-first f r er ef h = er ∙ ap low at-first ∙ sym (open-first (sym (ef ∙ ap is-full at-first) ∙ not-true f h))
+    low-least : (w : ℕ) → min (room L T) (low w) ≡ low w
+    low-least w = omega (arith, lowest-le (λ k. test k && named w k) (room L T))
 
-      module _ (j w : ℕ) (ej : j ≡ b) (ew : w ≡ word-at G j) (f g : Bool) (ef : f ≡ is-full v) (h : not f ≡ false) (eg : g ≡ is-full w) where
-        at-second : w ≡ word-at G b
-        at-second = ew ∙ ap (word-at G) ej
+    module _ (left s best w r m : ℕ) (f : Bool) (ew : w ≡ word-at G s) (er : r ≡ low w) (em : m ≡ min best r) (ef : f ≡ is-full w) where
+      pub found-open : Looks left s best → 0 < left → not f ≡ true → m ≡ found-by L G a b q T
+      found-open (at-first-place n es eb) l h =
+          em ∙ ap₂ min eb er ∙ low-least w ∙ ap low (ew ∙ ap (word-at G) es) ∙ sym (open-first (sym (ef ∙ ap is-full (ew ∙ ap (word-at G) es)) ∙ not-true f h))
+      found-open (at-second-place n es full eb) l h =
+          em ∙ ap₂ min eb (er ∙ ap low (ew ∙ ap (word-at G) es)) ∙ sym (open-second full (sym (ef ∙ ap is-full (ew ∙ ap (word-at G) es)) ∙ not-true f h))
+      found-open (at-none n x y) l h = absurd (omega (arith, n, l))
 
-        first-full : is-full (word-at G a) ≡ true
-        first-full = sym (ef ∙ ap is-full at-first) ∙ not-false f h
+      pub looks-on : (s' : ℕ) → Looks left s best → 0 < left → not f ≡ false → s' ≡ b → Looks (left - 1) s' m
+      looks-on s' (at-first-place n es eb) l h e =
+          let its : w ≡ word-at G a = ew ∙ ap (word-at G) es in
+          at-second-place (omega (arith, n)) e (sym (ef ∙ ap is-full its) ∙ not-false f h) (em ∙ ap₂ min eb er ∙ low-least w ∙ ap low its)
+      looks-on s' (at-second-place n es full eb) l h e = at-none (omega (arith, n)) full (sym (ef ∙ ap is-full (ew ∙ ap (word-at G) es)) ∙ not-false f h)
+      looks-on s' (at-none n x y) l h e = absurd (omega (arith, n, l))
 
-        pub found-second : (r s m : ℕ) → r ≡ low v → s ≡ low w → m ≡ min r s → not g ≡ true → m ≡ found-by L G a b q T
-        found-second r s m er es em k =
-            em ∙ ap₂ min (er ∙ ap low at-first) (es ∙ ap low at-second) ∙ sym (open-second first-full (sym (eg ∙ ap is-full at-second) ∙ not-true g k))
-
-        pub found-all : (r : ℕ) → r ≡ found L q T → not g ≡ false → r ≡ found-by L G a b q T
-        found-all r er k = er ∙ sym (both-full first-full (sym (eg ∙ ap is-full at-second) ∙ not-false g k))
+    pub found-none : (left s best r : ℕ) → Looks left s best → left ≤ 0 → r ≡ found L q T → r ≡ found-by L G a b q T
+    found-none left s best r (at-first-place n es eb) l e = absurd (omega (arith, n, l))
+    found-none left s best r (at-second-place n es full eb) l e = absurd (omega (arith, n, l))
+    found-none left s best r (at-none n x y) l e = e ∙ sym (both-full x y)

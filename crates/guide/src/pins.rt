@@ -102,15 +102,17 @@ pub fn find(rows: &[Number], marks: &[u64], guide: &[u64], t: Number, f: Number,
     if guide.len() == 0 {
         return rows::pins::find(rows, marks, t, f, b);
     }
-    let v = word_at(guide, first_of(t, f, b));
-    let r = named_row(rows, marks, v, t, f, b);
-    if !is_full(v) {
-        return r;
-    }
-    let w = word_at(guide, second_of(t, f, b));
-    let s = named_row(rows, marks, w, t, f, b);
-    if !is_full(w) {
-        return lesser(r, s);
+    let mut s = first_of(t, f, b);
+    let mut best = rows::pins::room(rows, marks);
+    let mut left: usize = 2;
+    while 0 < left {
+        let w = word_at(guide, s);
+        best = lesser(best, named_row(rows, marks, w, t, f, b));
+        if !is_full(w) {
+            return best;
+        }
+        s = second_of(t, f, b);
+        left -= 1;
     }
     rows::pins::find(rows, marks, t, f, b)
 }

@@ -105,22 +105,24 @@ fn named_row(rows: &[Number], marks: &[u64], w: u64, t: Number, h: Number) -> us
     lesser(lesser(a, b), c)
 }
 
-// The lowest used row of handle h in thread t, of those that the guide lists for it, or the room.
+// The lowest used row of handle h in thread t, of those that the guide lists for it, or the room. It names `named_row` once, so that this is compiled into it: a call would copy the slices.
 pub fn find(rows: &[Number], marks: &[u64], guide: &[u64], t: Number, h: Number) -> usize
     ensures { λ r. ⌜ r ≡ found-in (table (now (rows .entry)) (now (marks .entry))) (now (guide .entry)) t h ⌝ }
 {
     if guide.len() == 0 {
         return rows::references::find(rows, marks, t, h);
     }
-    let v = word_at(guide, first_of(t, h));
-    let r = named_row(rows, marks, v, t, h);
-    if !is_full(v) {
-        return r;
-    }
-    let w = word_at(guide, second_of(t, h));
-    let s = named_row(rows, marks, w, t, h);
-    if !is_full(w) {
-        return lesser(r, s);
+    let mut s = first_of(t, h);
+    let mut best = rows::references::room(rows, marks);
+    let mut left: usize = 2;
+    while 0 < left {
+        let w = word_at(guide, s);
+        best = lesser(best, named_row(rows, marks, w, t, h));
+        if !is_full(w) {
+            return best;
+        }
+        s = second_of(t, h);
+        left -= 1;
     }
     rows::references::find(rows, marks, t, h)
 }

@@ -1,27 +1,39 @@
--- `guide::pins::find` meets its contract. Assumes nothing.
+-- `guide::pins::find` meets its contract; the invariant: the places before s are full, and `best` is the lowest row that they name. Assumes nothing.
+use mathlib.Core.Path.{refl}
+use native.Mathlib.Omega.{arith}
 use borrow.Author.Needs.{needs}
+use Rattle.rows.specs.Table.{table}
 use Rattle.rows.specs.Pins.{pins, is-buffer}
-use Rattle.guide.specs.Pins.{found-in}
-use Rattle.guide.proofs.NamedLaws.{found-scanned, found-first, found-second, found-all}
+use Rattle.guide.specs.Pins.{first-of, second-of, found-in}
+use Rattle.guide.proofs.NamedLaws.{found-scanned, Looks, at-first-place, found-open, looks-on, found-none}
 use Rattle.guide.proofs.pins.find.Statement.{statement}
 use Rattle.guide.proofs.pins.find.Tie as tie
+
+abbrev Inv-loop : tie.InvT-loop
+Inv-loop rows marks guide t f b s₀ best₀ left₀ s best left = Looks pins (is-buffer t f b) (table rows marks) guide (first-of t f b) (second-of t f b) left s best
+
+abbrev μ-loop : tie.MeasureT-loop
+μ-loop rows marks guide t f b s₀ best₀ left₀ s best left = left
 
 pub find-spec : {M : Type 1} → statement M
 find-spec =
     tie.close
     (tie.spec
+    Inv-loop
+    μ-loop
     (λ c κs. search needs)
     (λ c. let at-if1 = c .before in let at-args = at-if1 .before .before .before .before in unfold found-in in found-scanned pins (is-buffer (at-args .args .t) (at-args .args .f) (at-args .args .b)) _ _ _ _ _ (c .find .ensures) (at-if1 .if1 .taken))
     (λ c κs. search needs)
     (λ c κs. search needs)
-    (λ c κs. search needs)
-    (λ c κs. search needs)
-    (λ c. let at-is-full = c .before in let at-named-row = at-is-full .before in let at-word-at = at-named-row .before in let at-first-of = at-word-at .before in let at-args = at-first-of .before .before .before .before .before in unfold found-in in found-first pins (is-buffer (at-args .args .t) (at-args .args .f) (at-args .args .b)) _ _ _ _ _ _ (at-first-of .first-of .ensures) (at-word-at .word-at .ensures) _ _ (at-named-row .named-row .ensures) (at-is-full .is-full .ensures) (c .if2 .taken))
-    (λ c κs. search needs)
+    (λ c. at-first-place refl (c .before .first-of .ensures) (c .room .ensures))
     (λ c κs. search needs)
     (λ c κs. search needs)
     (λ c κs. search needs)
     (λ c κs. search needs)
-    (λ c. let at-if3 = c .before in let at-is-full2 = at-if3 .before in let at-named-row2 = at-is-full2 .before in let at-word-at2 = at-named-row2 .before in let at-second-of = at-word-at2 .before in let at-if2 = at-second-of .before in let at-is-full = at-if2 .before in let at-named-row = at-is-full .before in let at-word-at = at-named-row .before in let at-first-of = at-word-at .before in let at-args = at-first-of .before .before .before .before .before in unfold found-in in found-second pins (is-buffer (at-args .args .t) (at-args .args .f) (at-args .args .b)) _ _ _ _ _ _ (at-first-of .first-of .ensures) (at-word-at .word-at .ensures) _ _ (at-second-of .second-of .ensures) (at-word-at2 .word-at2 .ensures) _ _ (at-is-full .is-full .ensures) (at-if2 .if2 .left) (at-is-full2 .is-full2 .ensures) _ _ _ (at-named-row .named-row .ensures) (at-named-row2 .named-row2 .ensures) (c .lesser .ensures) (at-if3 .if3 .taken))
+    (λ c. let at-full = c .before in let at-lesser = at-full .before in let at-named = at-lesser .before in let at-word = at-named .before in let at-test = at-word .before in let at-loop = at-test .before in unfold found-in in found-open pins (is-buffer _ _ _) _ _ _ _ _ _ _ _ _ _ _ (at-word .word-at .ensures) (at-named .named-row .ensures) (at-lesser .lesser .ensures) (at-full .is-full .ensures) (at-loop .loop .inv) (at-test .loop-test .taken) (c .if2 .taken))
     (λ c κs. search needs)
-    (λ c. let at-if3 = c .before in let at-is-full2 = at-if3 .before in let at-word-at2 = at-is-full2 .before .before in let at-second-of = at-word-at2 .before in let at-if2 = at-second-of .before in let at-is-full = at-if2 .before in let at-word-at = at-is-full .before .before in let at-first-of = at-word-at .before in let at-args = at-first-of .before .before .before .before .before in unfold found-in in found-all pins (is-buffer (at-args .args .t) (at-args .args .f) (at-args .args .b)) _ _ _ _ _ _ (at-first-of .first-of .ensures) (at-word-at .word-at .ensures) _ _ (at-second-of .second-of .ensures) (at-word-at2 .word-at2 .ensures) _ _ (at-is-full .is-full .ensures) (at-if2 .if2 .left) (at-is-full2 .is-full2 .ensures) _ (c .find2 .ensures) (at-if3 .if3 .left)))
+    (λ c. omega arith)
+    (λ c. omega arith)
+    (λ c. let at-if = c .before in let at-full = at-if .before in let at-lesser = at-full .before in let at-named = at-lesser .before in let at-word = at-named .before in let at-test = at-word .before in let at-loop = at-test .before in looks-on pins (is-buffer _ _ _) _ _ _ _ _ _ _ _ _ _ _ (at-word .word-at .ensures) (at-named .named-row .ensures) (at-lesser .lesser .ensures) (at-full .is-full .ensures) _ (at-loop .loop .inv) (at-test .loop-test .taken) (at-if .if2 .left) (c .second-of .ensures))
+    (λ c κs. search needs)
+    (λ c. let at-test = c .before in unfold found-in in found-none pins (is-buffer _ _ _) _ _ _ _ _ _ _ _ (at-test .before .loop .inv) (at-test .loop-test .left) (c .find2 .ensures)))
