@@ -19,6 +19,7 @@ use Rattle.report.specs.Shown.{most-shown, shown-answer}
 use Rattle.report.proofs.Answered.{shown-accepted}
 use Rattle.tables.specs.Tables.{Tables}
 use Rattle.tables.specs.Stepping.{step-of}
+use Rattle.demands.specs.Calls.{Alike}
 use Rattle.events.specs.Outcome.{leaves as answers-leaving}
 use Rattle.judge.specs.Outcome.{step-outcome}
 use Rattle.pieces.specs.declared.Next.the-variants as Next
@@ -52,6 +53,19 @@ behind-stops fs n T stop i = stands T (append-nil fs i) (add-zero n i) stop
 
 behind-both : (fs gs : List Finding) (n m : ℕ) (r : Run) → behind fs n (behind gs m r) ≡ behind (fs ++ gs) (n + m) r
 behind-both fs gs n m r i = stands (r .left) (sym (append-assoc fs gs (r .found)) i) (sym (add-assoc n m (r .taken)) i) (r .stop)
+
+-- ---- tables of the same lengths
+
+pub alike-still : {R S T : Tables} → Alike R S → Alike S T → Alike R T
+alike-still r s =
+    record {
+      reference-rows = r .reference-rows ∙ s .reference-rows;
+      reference-marks = r .reference-marks ∙ s .reference-marks;
+      pin-rows = r .pin-rows ∙ s .pin-rows;
+      pin-marks = r .pin-marks ∙ s .pin-marks;
+      books = r .books ∙ s .books;
+      class-tables = r .class-tables ∙ s .class-tables;
+    }
 
 -- ---- before the byte `at` of the piece
 

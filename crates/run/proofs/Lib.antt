@@ -12,3 +12,4 @@ mod Making
 mod Stating
 mod Touching
 mod Fitting
+mod Guided

@@ -1,10 +1,10 @@
 -- `run::run_by_scans` meets its contract. The loop keeps what was judged before its place. Assumes nothing.
-use mathlib.Core.Path.{refl, _∙_}
+use mathlib.Core.Path.{refl}
 use native.Mathlib.Omega.{arith}
 use borrow.Author.Needs.{needs}
 use Rattle.tables.specs.Tables.{Tables, tables}
 use Rattle.demands.specs.Calls.{Alike}
-use Rattle.run.proofs.Going.{Going, going-start, going-on, going-told, roomy, still, less}
+use Rattle.run.proofs.Going.{Going, going-start, going-on, going-told, alike-still, roomy, still, less}
 use Rattle.run.proofs.run_by_scans.Statement.{statement}
 use Rattle.run.proofs.run_by_scans.Tie as tie
 
@@ -28,8 +28,22 @@ at-loop c = c .before .before
 abbrev at-end : tie.After-how-far Inv-loop μ-loop → tie.At-loop Inv-loop μ-loop
 at-end c = c .before .before .before
 
+abbrev held : tie.At-loop Inv-loop μ-loop → Tables
+held c = tables (c .loop .rows) (c .loop .marks) (c .loop .pins) (c .loop .pinmarks) (c .loop .book) (c .loop .classes)
+
 abbrev left : tie.After-step Inv-loop μ-loop → Tables
 left c = tables (c .step .last .1 .0) (c .step .last .1 .1 .0) (c .step .last .1 .1 .1 .0) (c .step .last .1 .1 .1 .1 .0) (c .step .last .1 .1 .1 .1 .1 .0) (c .step .last .1 .1 .1 .1 .1 .1 .0)
+
+as-long : (c : tie.After-step Inv-loop μ-loop) → Alike (left c) (held (at-loop (at-if1 c)))
+as-long c =
+    record {
+      reference-rows = c .step .kept .1 .0;
+      reference-marks = c .step .kept .1 .1 .0;
+      pin-rows = c .step .kept .1 .1 .1 .0;
+      pin-marks = c .step .kept .1 .1 .1 .1 .0;
+      books = c .step .kept .1 .1 .1 .1 .1 .0;
+      class-tables = c .step .kept .1 .1 .1 .1 .1 .1 .0;
+    }
 
 loop-holds : tie.Need-loop-holds Inv-loop μ-loop
 loop-holds c = (record { reference-rows = refl; reference-marks = refl; pin-rows = refl; pin-marks = refl; books = refl; class-tables = refl }, going-start ((c .start) .ensures .0) ((c .start) .ensures .1) ((c .start) .ensures .2) ((c .start) .ensures .3))
@@ -47,16 +61,9 @@ loop-again : tie.Need-loop-again Inv-loop μ-loop
 loop-again c =
     let step = at-step c in
     let if1 = at-if1 step in
-    let inv = at-loop if1 .loop .inv in (
-      record {
-        reference-rows = step .step .kept .1 .0 ∙ inv .0 .reference-rows;
-        reference-marks = step .step .kept .1 .1 .0 ∙ inv .0 .reference-marks;
-        pin-rows = step .step .kept .1 .1 .1 .0 ∙ inv .0 .pin-rows;
-        pin-marks = step .step .kept .1 .1 .1 .1 .0 ∙ inv .0 .pin-marks;
-        books = step .step .kept .1 .1 .1 .1 .1 .0 ∙ inv .0 .books;
-        class-tables = step .step .kept .1 .1 .1 .1 .1 .1 .0 ∙ inv .0 .class-tables;
-      },
-      going-on (inv .1) (if1 .if1 .taken) {S' = left step} (step .step .ensures) (c .before .before .heard .ensures),
+    let loop = at-loop if1 in (
+      alike-still {S = held loop} (as-long step) (loop .loop .inv .0),
+      going-on (loop .loop .inv .1) (if1 .if1 .taken) {S' = left step} (step .step .ensures) (c .before .before .heard .ensures),
     )
 
 returns : tie.Need-returns Inv-loop μ-loop
