@@ -84,8 +84,8 @@ int32_t weir_step(const uint8_t *line, size_t line_length, uint32_t *rows, size_
  *   below 0     the refusal, -1 to -10 (docs/RULES.md), of the line behind the bytes taken, which changed nothing; or WEIR_SHORT_FAR, and nothing at
  *               all is touched
  *
- * Rows are found by words on the stack, so a piece of 4,096 bytes or more takes over 322 KB of stack, and is judged fast. Each call fills those words
- * anew: pieces are best of 64 KiB or more, and `out` so long that it is seldom full. A shorter piece than 4,096 bytes does without these words.
+ * Rows are found by words on the stack: a call takes some 330 KB of it, whatever the piece. Each call fills those words anew, so pieces are best of 64 KiB
+ * or more, and `out` so long that it is seldom full. A piece shorter than 4,096 bytes is judged without them, no faster than by weir_step.
  */
 int32_t weir_piece(const uint8_t *piece, size_t piece_length, uint32_t ended, uint32_t *rows, size_t rows_length, uint64_t *marks,
                    size_t marks_length, uint32_t *pins, size_t pins_length, uint64_t *pin_marks, size_t pin_marks_length, uint64_t *book,
@@ -102,7 +102,7 @@ int32_t weir_leaks(const uint32_t *rows, size_t rows_length, const uint64_t *mar
 
 /* Judges a whole trace from a start of its own. Returns how many bytes its report has; it stands at the front of `out` where that is no shorter, else
  * nothing is written there. 0: the book or the class table is short, and nothing was touched. The tables are left as the run left them, so weir_leaks
- * may follow. A trace of 4,096 bytes or more takes over 322 KB of stack, for words by which rows are found.
+ * may follow. A call takes some 335 KB of stack, for words by which rows are found.
  */
 size_t weir_judge(const uint8_t *trace, size_t trace_length, uint32_t *rows, size_t rows_length, uint64_t *marks, size_t marks_length,
                   uint32_t *pins, size_t pins_length, uint64_t *pin_marks, size_t pin_marks_length, uint64_t *book, size_t book_length,
