@@ -89,10 +89,21 @@ come-by-most {leaks} {T} {r} g = omega (arith, few-of (g .follows), g .within, o
 
 -- ---- the loop has passed a part of what is unread
 
-module _ {leaks : Bool} {T S : Tables} {r : Run} {buf out' : List ℕ} {p : Passed} {ended : Bool} (out : List ℕ) (g : Going leaks T r buf) (room : length out ≡ buffer-size) (kept : length out' ≡ length out)
-    (told : ended ≡ r .streams .ended) (e : leaves p S out' ≡ piece-outcome ended T (unread-in buf r) out) where
-  known : Learnt (r .streams .ended) T (unread-in buf r) out p S out'
-  known = learnt kept (e ∙ ap (λ (b : Bool). piece-outcome b T (unread-in buf r) out) told)
+pub record Passing (leaks : Bool) (T : Tables) (r : Run) (buf : List ℕ) (p : Passed) (S : Tables) (out' : List ℕ) : Type 0 where
+  pub out : List ℕ
+  pub ended : Bool
+  pub going : Going leaks T r buf
+  pub room : length out ≡ buffer-size
+  pub kept : length out' ≡ length out
+  pub told : ended ≡ r .streams .ended
+  pub outcome : leaves p S out' ≡ piece-outcome ended T (unread-in buf r) out
+
+module _ {leaks : Bool} {T S : Tables} {r : Run} {buf out' : List ℕ} {p : Passed} (u : Passing leaks T r buf p S out') where
+  abbrev g : Going leaks T r buf
+  g = u .going
+
+  known : Learnt (r .streams .ended) T (unread-in buf r) (u .out) p S out'
+  known = learnt (u .kept) (u .outcome ∙ ap (λ (b : Bool). piece-outcome b T (unread-in buf r) (u .out)) (u .told))
 
   lines : ℕ
   lines = known .passes .lines
@@ -116,7 +127,7 @@ module _ {leaks : Bool} {T S : Tables} {r : Run} {buf out' : List ℕ} {p : Pass
 
   few-printed : r .streams .printed + p .put ≤ buffer-size * lines-accepted S
   unfolding lines
-  few-printed = omega (arith, g .printed, few-bytes {size = buffer-size} known (omega (arith, room)), accepted)
+  few-printed = omega (arith, g .printed, few-bytes {size = buffer-size} known (omega (arith, u .room)), accepted)
 
   taken-within : r .from + p .taken ≤ r .to
   taken-within = omega (arith, known .passes .within, long, g .ordered)
@@ -137,7 +148,7 @@ module _ {leaks : Bool} {T S : Tables} {r : Run} {buf out' : List ℕ} {p : Pass
       within = g .within;
       few = few-unread;
       findings = omega (arith, few-found, few-lines);
-      put = omega (arith, known .fits, kept);
+      put = omega (arith, known .fits, u .kept);
       streams = record { read = omega (arith, g .read, few-lines, accepted, g .within); printed = omega (arith, few-printed, few-lines) };
       due = due (g .judged) known;
     },
@@ -219,7 +230,7 @@ module _ {leaks : Bool} {T S : Tables} {r : Run} {buf out' : List ℕ} {p : Pass
     more : Turned r p buf q buf' → come-by T r < come-by S q
     unfolding lines
     more (is-full h on is) =
-        let line = known .passes .full h (omega (arith, room)) in
+        let line = known .passes .full h (omega (arith, u .room)) in
         omega (arith, line, covered, accepted, taken-within, on .from, on .to, ap (λ (x : Streams). one-if (x .ended)) (on .streams))
     more (wants-more h w on n reads) = go n refl
       where

@@ -278,12 +278,17 @@ fn is_closed(book: &[u64; BOOK_NUMBERS]) -> bool
     book::is_closed(book)
 }
 
+// A function apart, so that the check of its caller need not count the bytes.
+fn empty_buffer() -> [u8; BUFFER] {
+    [0; BUFFER]
+}
+
 // Judges standard input, and says on standard error what its report cannot say.
 fn judge_input(leaks: bool) -> Streams
     ensures { λ q. ⌜ (q .leaks ≡ leaks) × Reported q ⌝ }
 {
-    let mut buf = [0; BUFFER];
-    let mut out = [0; BUFFER];
+    let mut buf = empty_buffer();
+    let mut out = empty_buffer();
     let mut rows = [0; REFERENCE_NUMBERS];
     let mut marks = [0; REFERENCE_MARKS];
     let mut pins = [0; PIN_NUMBERS];
