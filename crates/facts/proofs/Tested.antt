@@ -1,5 +1,5 @@
 -- A column of the code that passes one computed test has the letter of every number. Assumes nothing.
-use mathlib.Core.Path.{_≡_, ap, sym, _∙_}
+use mathlib.Core.Path.{_≡_, refl, ap, sym, _∙_}
 use mathlib.Core.Bool.{Bool, true, false, not}
 use mathlib.Core.List.{List}
 use Prim.Native.Nat.{ℕ, _*_, _<_}
@@ -9,11 +9,13 @@ use lib.Dec.{eqb}
 use borrow.Author.Tests.{lt-ltb, le-ltb, eqb-true}
 use Rattle.words.specs.Choice.{one}
 use Rattle.facts.specs.Table.{place, result, Fact, fact-of, no-fact, is-function, family}
-use Rattle.facts.specs.Classes.{no-class}
-use Rattle.facts.specs.Letters.{no-letter, place-letter, result-letter, family-in, class-in, line-length, lines, in-lines, letter-at}
+use Rattle.facts.specs.Classes.{class-a, class-b}
+use Rattle.facts.specs.Places.{places-of}
+use Rattle.facts.specs.Letters.{no-letter, place-letter, result-letter, family-in, places-in, line-length, lines, in-lines, letter-at}
 use Rattle.facts.specs.declared.Place.{Place}
+use Rattle.facts.specs.declared.places.Places.{Places}
 use Rattle.facts.specs.declared.Result.{Result}
-use Rattle.facts.proofs.Outside.{no-fact-outside, no-family-outside, above-last}
+use Rattle.facts.proofs.Outside.{no-fact-outside, no-family-outside, no-class-a-outside, no-class-b-outside, above-last}
 use Rattle.facts.proofs.Each.{each, each-at}
 use Rattle.facts.proofs.Letters.{place-back, result-back, one-back}
 
@@ -38,11 +40,27 @@ module _ (t : List (List ℕ)) where
       go (no l) = rw (le-ltb f numbers (omega arith)) (sym (outside f (above-last f (omega arith))))
 
   module _ {x : ℕ} (f : ℕ) (here : x ≡ letter-at t f) where
-    pub place-there : (part : Fact → Place) → agrees (λ n. n) (λ f. place-letter (part (fact-of f))) t ≡ true → place-letter (part no-fact) ≡ no-letter → {r : Place} → r ≡ place x → r ≡ part (fact-of f)
-    place-there part tested none given =
+    pub places-there : agrees (λ n. place-letter (places-in n .a)) (λ f. place-letter (fact-of f .a)) t ≡ true → agrees (λ n. place-letter (places-in n .b)) (λ f. place-letter (fact-of f .b)) t ≡ true
+        → agrees (λ n. place-letter (places-in n .c)) (λ f. place-letter (fact-of f .c)) t ≡ true → agrees (λ n. places-in n .first) class-a t ≡ true → agrees (λ n. places-in n .second) class-b t ≡ true
+        → {r : Places} → r ≡ places-in x → r ≡ places-of f
+    places-there in-a in-b in-c at-first at-second given =
         given
-        ∙ ap place (here ∙ at-every (λ n. n) (λ f. place-letter (part (fact-of f))) tested (λ f e. ap (λ x. place-letter (part x)) (no-fact-outside f e) ∙ none) f)
-        ∙ place-back (part (fact-of f))
+        ∙ ap places-in here
+        ∙ (λ i.
+        record {
+          a = place-told (λ p. p .a) (λ y. y .a) in-a refl i;
+          b = place-told (λ p. p .b) (λ y. y .b) in-b refl i;
+          c = place-told (λ p. p .c) (λ y. y .c) in-c refl i;
+          first = at-every (λ n. places-in n .first) class-a at-first no-class-a-outside f i;
+          second = at-every (λ n. places-in n .second) class-b at-second no-class-b-outside f i;
+        })
+      where
+        place-told : (read : Places → Place) (part : Fact → Place) → agrees (λ n. place-letter (read (places-in n))) (λ f. place-letter (part (fact-of f))) t ≡ true
+            → part no-fact ≡ read (places-in no-letter) → read (places-in (letter-at t f)) ≡ part (fact-of f)
+        place-told read part tested none =
+            sym (place-back (read (places-in (letter-at t f))))
+            ∙ ap place (at-every (λ n. place-letter (read (places-in n))) (λ f. place-letter (part (fact-of f))) tested (λ f e. ap (λ x. place-letter (part x)) (no-fact-outside f e) ∙ ap place-letter none) f)
+            ∙ place-back (part (fact-of f))
 
     pub result-there : agrees (λ n. n) (λ f. result-letter (fact-of f .result)) t ≡ true → {r : Result} → r ≡ result x → r ≡ fact-of f .result
     result-there tested given =
@@ -57,6 +75,3 @@ module _ (t : List (List ℕ)) where
 
     pub family-there : agrees family-in family t ≡ true → {r : ℕ} → r ≡ family-in x → r ≡ family f
     family-there tested given = given ∙ ap family-in here ∙ at-every family-in family tested no-family-outside f
-
-    pub class-there : (fixed : ℕ → ℕ) → agrees class-in fixed t ≡ true → ((f : ℕ) → is-function f ≡ false → fixed f ≡ no-class) → {r : ℕ} → r ≡ class-in x → r ≡ fixed f
-    class-there fixed tested none given = given ∙ ap class-in here ∙ at-every class-in fixed tested none f

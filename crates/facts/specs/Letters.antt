@@ -5,10 +5,12 @@ use mathlib.Core.List.{List, []}
 use lib.Dec.{eqb, ltb}
 use lib.ListN.{length, getD}
 use Rattle.words.specs.Choice.{if_then_else_}
-use Rattle.facts.specs.Table.{families}
+use Rattle.words.specs.Text.{bytes}
+use Rattle.facts.specs.Table.{place, families}
 use Rattle.facts.specs.Classes.{class, string, throwable, no-class}
 use Rattle.facts.specs.declared.Place.{Place}
 use Rattle.facts.specs.declared.Place.the-variants as Place
+use Rattle.facts.specs.declared.places.Places.{Places}
 use Rattle.facts.specs.declared.Result.{Result}
 use Rattle.facts.specs.declared.Result.the-variants as Result
 
@@ -49,6 +51,42 @@ class-in x =
     else if eqb x (code "s") then string
     else if eqb x (code "t") then throwable
     else no-class
+
+-- places a b c, a space, the classes fixed for a and b
+abbrev shape : List ℕ → Places
+shape s =
+    record {
+      a = place (getD s 0 0);
+      b = place (getD s 1 0);
+      c = place (getD s 2 0);
+      first = class-in (getD s 4 0);
+      second = class-in (getD s 5 0);
+    }
+
+-- the places that a letter stands for
+abbrev pub places-in : ℕ → Places
+places-in x =
+    if eqb x (code "A") then shape (bytes "o-- --")
+    else if eqb x (code "B") then shape (bytes "g-- --")
+    else if eqb x (code "C") then shape (bytes "l-- --")
+    else if eqb x (code "D") then shape (bytes "w-- --")
+    else if eqb x (code "E") then shape (bytes "r-- --")
+    else if eqb x (code "F") then shape (bytes "r-- c-")
+    else if eqb x (code "G") then shape (bytes "r-- s-")
+    else if eqb x (code "H") then shape (bytes "r-- t-")
+    else if eqb x (code "I") then shape (bytes "rr- cc")
+    else if eqb x (code "J") then shape (bytes "oo- --")
+    else if eqb x (code "K") then shape (bytes "or- -c")
+    else if eqb x (code "L") then shape (bytes "ri- --")
+    else if eqb x (code "M") then shape (bytes "ri- c-")
+    else if eqb x (code "N") then shape (bytes "rri -c")
+    else if eqb x (code "O") then shape (bytes "rio --")
+    else if eqb x (code "P") then shape (bytes "rio c-")
+    else if eqb x (code "Q") then shape (bytes "ro- --")
+    else if eqb x (code "R") then shape (bytes "ro- c-")
+    else if eqb x (code "S") then shape (bytes "rb- --")
+    else if eqb x (code "T") then shape (bytes "rb- s-")
+    else shape (bytes "--- --")
 
 -- ---- a column: a letter for each number from 0 on, eight to a line
 

@@ -5,7 +5,7 @@ ghost use Prim.Native.Nat.{_<_};
 ghost use lib.ListN.{getD};
 ghost use Rattle.facts.specs.Letters.{lines, letter-at};
 
-// No letter: unused, nothing, not allowed, no family, no class; and no function.
+// No letter: no places, nothing, not allowed, no family; and no function.
 pub(crate) const NONE: u8 = b'-';
 
 const LETTERS: usize = 8;
@@ -17,103 +17,37 @@ const NUMBERS: usize = LINES * LETTERS;
 // A letter for each number from 0 on, eight to a line. Beside a line stands its first number.
 pub(crate) type Column = [[u8; LETTERS]; LINES];
 
-// What stands at the places: `r` handle, `o` handle or null, `l` `g` `w` handle of that kind or null, `i` identity, `b` buffer.
-pub(crate) const PLACE_A: Column = [
-    *b"-----o-r", // 0
-    *b"rrrrrrr-", // 8
-    *b"----oogl", // 16
-    *b"oo-rrrrr", // 24
-    *b"orrrrrrr", // 32
-    *b"rrrrrrrr", // 40
-    *b"rrrrrrrr", // 48
-    *b"rrrrrrrr", // 56
-    *b"rrrrrrrr", // 64
-    *b"rrrrrrrr", // 72
-    *b"rrrrrrrr", // 80
-    *b"rrrrrrrr", // 88
-    *b"rrrrrrrr", // 96
-    *b"rrrrrrrr", // 104
-    *b"rrrrrrrr", // 112
-    *b"rrrrrrrr", // 120
-    *b"rrrrrrrr", // 128
-    *b"rrrrrrrr", // 136
-    *b"rrrrrrrr", // 144
-    *b"rrrrrrrr", // 152
-    *b"rrr-rrr-", // 160
-    *b"rrrrrrr-", // 168
-    *b"-------r", // 176
-    *b"rrrrrrrr", // 184
-    *b"rrrrrrrr", // 192
-    *b"rrrrrrrr", // 200
-    *b"rrrrrrrr", // 208
-    *b"rrr-rrrr", // 216
-    *b"rrow--rr", // 224
-    *b"--------", // 232
-];
-
-pub(crate) const PLACE_B: Column = [
-    *b"--------", // 0
-    *b"-i-ri---", // 8
-    *b"--------", // 16
-    *b"o---iii-", // 24
-    *b"r-iiiiii", // 32
-    *b"iiiiiiii", // 40
-    *b"iiiiiiii", // 48
-    *b"iiiiiiii", // 56
-    *b"rrrrrrrr", // 64
-    *b"rrrrrrrr", // 72
-    *b"rrrrrrrr", // 80
-    *b"rrrrrr-i", // 88
-    *b"iiiiiiii", // 96
-    *b"iiiiiiii", // 104
-    *b"i-iiiiii", // 112
-    *b"iiiiiiii", // 120
-    *b"iiiiiiii", // 128
-    *b"iiiiiiii", // 136
-    *b"-iiiiiii", // 144
-    *b"iiiiiiii", // 152
-    *b"iii---b-", // 160
-    *b"--b-o-o-", // 168
-    *b"--------", // 176
-    *b"-------b", // 184
-    *b"bbbbbbb-", // 192
-    *b"--------", // 200
-    *b"--------", // 208
-    *b"-------b", // 216
-    *b"-b------", // 224
-    *b"--------", // 232
-];
-
-pub(crate) const PLACE_C: Column = [
-    *b"--------", // 0
-    *b"--------", // 8
-    *b"--------", // 16
-    *b"--------", // 24
-    *b"--------", // 32
-    *b"--------", // 40
-    *b"--------", // 48
-    *b"--------", // 56
-    *b"iiiiiiii", // 64
-    *b"iiiiiiii", // 72
-    *b"iiiiiiii", // 80
-    *b"iiiiii--", // 88
-    *b"--------", // 96
-    *b"o-------", // 104
-    *b"--------", // 112
-    *b"--------", // 120
-    *b"--------", // 128
-    *b"--------", // 136
-    *b"--------", // 144
-    *b"--o-----", // 152
-    *b"--------", // 160
-    *b"--------", // 168
-    *b"--------", // 176
-    *b"--------", // 184
-    *b"--------", // 192
-    *b"--------", // 200
-    *b"--------", // 208
-    *b"--------", // 216
-    *b"--------", // 224
+// What stands at the places, and the classes fixed for them, by the letters of `places::as_places`.
+pub(crate) const PLACES: Column = [
+    *b"-----A-E", // 0
+    *b"EMFIMHF-", // 8
+    *b"----AABC", // 16
+    *b"JA-FMMME", // 24
+    *b"KFLLLLLL", // 32
+    *b"LLLLLLLL", // 40
+    *b"LLLLLLLL", // 48
+    *b"LLLLLLLL", // 56
+    *b"NNNNNNNN", // 64
+    *b"NNNNNNNN", // 72
+    *b"NNNNNNNN", // 80
+    *b"NNNNNNFL", // 88
+    *b"LLLLLLLL", // 96
+    *b"OLLLLLLL", // 104
+    *b"LFMMMMMM", // 112
+    *b"MMMMMMMM", // 120
+    *b"MMMMMMMM", // 128
+    *b"MMMMMMMM", // 136
+    *b"FMMMMMMM", // 144
+    *b"MMPMMMMM", // 152
+    *b"MMM-GGT-", // 160
+    *b"GGTEREQ-", // 168
+    *b"-------E", // 176
+    *b"EEEEEEES", // 184
+    *b"SSSSSSSE", // 192
+    *b"EEEEEEEE", // 200
+    *b"EEEEEEEF", // 208
+    *b"FEE-GGES", // 216
+    *b"GTAD--EE", // 224
     *b"--------", // 232
 ];
 
@@ -250,73 +184,6 @@ pub(crate) const FAMILY: Column = [
     *b"--------", // 208
     *b"------KK", // 216
     *b"LL------", // 224
-    *b"--------", // 232
-];
-
-// The class fixed for a place: `c` class, `s` string, `t` throwable.
-pub(crate) const CLASS_A: Column = [
-    *b"--------", // 0
-    *b"-cccctc-", // 8
-    *b"--------", // 16
-    *b"---cccc-", // 24
-    *b"-c------", // 32
-    *b"--------", // 40
-    *b"--------", // 48
-    *b"--------", // 56
-    *b"--------", // 64
-    *b"--------", // 72
-    *b"--------", // 80
-    *b"------c-", // 88
-    *b"--------", // 96
-    *b"--------", // 104
-    *b"-ccccccc", // 112
-    *b"cccccccc", // 120
-    *b"cccccccc", // 128
-    *b"cccccccc", // 136
-    *b"cccccccc", // 144
-    *b"cccccccc", // 152
-    *b"ccc-sss-", // 160
-    *b"sss-c---", // 168
-    *b"--------", // 176
-    *b"--------", // 184
-    *b"--------", // 192
-    *b"--------", // 200
-    *b"-------c", // 208
-    *b"c---ss--", // 216
-    *b"ss------", // 224
-    *b"--------", // 232
-];
-
-pub(crate) const CLASS_B: Column = [
-    *b"--------", // 0
-    *b"---c----", // 8
-    *b"--------", // 16
-    *b"--------", // 24
-    *b"c-------", // 32
-    *b"--------", // 40
-    *b"--------", // 48
-    *b"--------", // 56
-    *b"cccccccc", // 64
-    *b"cccccccc", // 72
-    *b"cccccccc", // 80
-    *b"cccccc--", // 88
-    *b"--------", // 96
-    *b"--------", // 104
-    *b"--------", // 112
-    *b"--------", // 120
-    *b"--------", // 128
-    *b"--------", // 136
-    *b"--------", // 144
-    *b"--------", // 152
-    *b"--------", // 160
-    *b"--------", // 168
-    *b"--------", // 176
-    *b"--------", // 184
-    *b"--------", // 192
-    *b"--------", // 200
-    *b"--------", // 208
-    *b"--------", // 216
-    *b"--------", // 224
     *b"--------", // 232
 ];
 

@@ -2,13 +2,14 @@
 use columns::NONE;
 use columns::letter;
 ghost use mathlib.Core.Path.{_≡_};
-ghost use Rattle.facts.specs.Table.{place, result, fact-of, is-allowed-pending, is-allowed-critical, family, is-critical};
+ghost use Rattle.facts.specs.Table.{result, fact-of, is-allowed-pending, is-allowed-critical, family, is-critical};
 ghost use Rattle.facts.specs.Letters.{family-in};
 
 pub mod classes;
 mod columns; // columns.rt: the table of functions
 pub mod functions;
 pub mod handles;
+pub mod places;
 pub mod results;
 
 const NO_FAMILY: u32 = 12;
@@ -41,33 +42,6 @@ pub enum Result {
 }
 
 // What the letters stand for.
-fn as_place(b: u8) -> Place
-    ensures { λ r. ⌜ r ≡ place b ⌝ }
-{
-    if b == b'r' {
-        return Place::Handle;
-    }
-    if b == b'o' {
-        return Place::HandleOrNull;
-    }
-    if b == b'l' {
-        return Place::LocalOrNull;
-    }
-    if b == b'g' {
-        return Place::GlobalOrNull;
-    }
-    if b == b'w' {
-        return Place::WeakOrNull;
-    }
-    if b == b'i' {
-        return Place::Identity;
-    }
-    if b == b'b' {
-        return Place::Buffer;
-    }
-    Place::Unused
-}
-
 fn as_result(b: u8) -> Result
     ensures { λ r. ⌜ r ≡ result b ⌝ }
 {
@@ -99,24 +73,6 @@ fn as_family(b: u8) -> u32
         return NO_FAMILY;
     }
     (b - b'A') as u32
-}
-
-pub fn place_a(f: u32) -> Place
-    ensures { λ r. ⌜ r ≡ fact-of f .a ⌝ }
-{
-    as_place(letter(columns::PLACE_A, f))
-}
-
-pub fn place_b(f: u32) -> Place
-    ensures { λ r. ⌜ r ≡ fact-of f .b ⌝ }
-{
-    as_place(letter(columns::PLACE_B, f))
-}
-
-pub fn place_c(f: u32) -> Place
-    ensures { λ r. ⌜ r ≡ fact-of f .c ⌝ }
-{
-    as_place(letter(columns::PLACE_C, f))
 }
 
 pub fn result_of(f: u32) -> Result

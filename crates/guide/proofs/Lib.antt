@@ -1,4 +1,4 @@
--- `GuideLaws` and `PinGuideLaws` have what a caller cites: what a guide tells of the rows, and that it stays one. The others serve the proofs of this crate.
+-- `Telling`, `Staying`, `Clearing`, `Filling` and, for buffers, `PinGuideLaws` have what a caller cites: what a guide tells of the rows, and that it stays one. The others serve the proofs of this crate.
 mod Lowest
 mod WordLaws
 mod TallyLaws
@@ -8,7 +8,12 @@ mod NamedLaws
 mod MaskLaws
 mod Kept
 mod FreeLaws
-pub mod GuideLaws
+mod Cells
+pub mod Telling
+mod Known
+pub mod Staying
+pub mod Clearing
+pub mod Filling
 pub mod PinGuideLaws
 mod Steps
 mod RowSteps

@@ -201,12 +201,16 @@ pub(crate) fn call_allows(
 ) -> bool
     ensures { λ r. ⌜ r ≡ is-allowed (C thread env f a b c (signed minus n)) ⌝ }
 {
+    let at = facts::places::places_of(f);
+    let pa = at.a;
+    let pb = at.b;
+    let pc = at.c;
     is_thread(thread)
         & is_env(env)
         & is_function(f)
-        & place_allows(facts::place_a(f), a)
-        & place_allows(facts::place_b(f), b)
-        & place_allows(facts::place_c(f), c)
+        & place_allows(pa, a)
+        & place_allows(pb, b)
+        & place_allows(pc, c)
         & capacity_allows(f, minus, n)
 }
 

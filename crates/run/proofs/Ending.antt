@@ -21,7 +21,8 @@ use Rattle.rows.proofs.TableLaws.{end-passes, end-fails, ended-none, ended-firs
 use Rattle.rows.proofs.ViewLaws.{room-same, passes-slot, view-at, ended-below}
 use Rattle.guide.specs.Masks.{word-bit, mark-bit}
 use Rattle.guide.specs.References.{words, marks, bits-from, none-from, Guides}
-use Rattle.guide.proofs.GuideLaws.{word-shown, mark-shown, guide-cleared}
+use Rattle.guide.proofs.Telling.{word-shown, mark-shown}
+use Rattle.guide.proofs.Clearing.{guide-cleared}
 use Rattle.run.specs.Unshown.{Unshown}
 use Rattle.run.proofs.Shown.{unshown-still}
 

@@ -8,7 +8,7 @@ use Rattle.rows.specs.References.{references}
 use Rattle.rows.specs.Pins.{pins}
 use Rattle.guide.specs.References.{size, filled, Guides}
 use Rattle.guide.specs.Pins.{size as pin-size, filled as pin-filled, Guides as PinGuides}
-use Rattle.guide.proofs.GuideLaws.{guide-filled}
+use Rattle.guide.proofs.Filling.{guide-filled}
 use Rattle.guide.proofs.PinGuideLaws.{pin-guide-filled}
 
 pub guided : (T : Table) (G : List ℕ) → G ≡ filled T (replicate size 0) (room references T) → Guides T G

@@ -4,7 +4,7 @@ use mathlib.Core.Path.{_≡_, sym, ap, subst}
 use mathlib.Core.List.{List}
 use Rattle.rows.specs.Table.{Table, table}
 use Rattle.guide.specs.References.{Guides}
-use Rattle.guide.proofs.GuideLaws.{guide-stated}
+use Rattle.guide.proofs.Staying.{guide-stated}
 use Rattle.tables.specs.Tables.{Tables, tables}
 use Rattle.act.specs.Statements.{stated}
 

@@ -13,7 +13,7 @@ use Rattle.rows.specs.References.{references, in-frame, is-handle}
 use Rattle.rows.specs.Pins.{pins, of-thread, is-buffer}
 use Rattle.guide.specs.References.{places, used-at, low-at, cell-of, found-in, Guides, Leads, scans, by-guide}
 use Rattle.guide.specs.Pins as pin
-use Rattle.guide.proofs.GuideLaws.{leads-finds, leads-free, guide-counts, guide-used}
+use Rattle.guide.proofs.Telling.{leads-finds, leads-free, guide-counts, guide-used}
 use Rattle.guide.proofs.PinGuideLaws.{pin-leads-finds, pin-guide-counts}
 use Rattle.tables.proofs.RowCounts.{some-row-counted}
 

@@ -7,9 +7,9 @@ use native.Mathlib.Omega.{arith}
 use lib.Dec.{ltb}
 use lib.ListN.{length}
 use Rattle.words.specs.Lists.{sum}
-use Rattle.facts.specs.Table.{fact-of}
-use Rattle.facts.specs.Classes.{no-class, class-a, class-b}
-use Rattle.facts.specs.declared.Place.{Place}
+use Rattle.facts.specs.Classes.{no-class}
+use Rattle.facts.specs.Places.{places-of}
+use Rattle.facts.specs.declared.places.Places.{Places}
 use Rattle.rows.specs.Table.{Table, table, room, alive, most}
 use Rattle.rows.specs.References.{references}
 use Rattle.rows.specs.Pins.{pins}
@@ -32,27 +32,26 @@ use Rattle.sight.specs.Sights.{call-sight, leave-sight, some-alive, ente
 -- ---- C and X
 
 module _ (rs ms ps ns d cs : List ℕ) (t : ℕ) where
-  pub call-seen : (f a b c own thrown held u v : ℕ) (pushed region : Bool) (p q r : Place) (x y z : Spot)
+  pub call-seen : (f a b c own thrown held : ℕ) (pushed region : Bool) (at : Places) (x y z : Spot)
       → own ≡ thread-in d t .env → thrown ≡ thread-in d t .pending → held ≡ thread-in d t .monitors → pushed ≡ top-pushed (thread-in d t .frames)
-      → region ≡ ltb 0 (buffers-in (table ps ns) (critical-of t)) → p ≡ fact-of f .a → q ≡ fact-of f .b → r ≡ fact-of f .c
-      → u ≡ class-a f → v ≡ class-b f
-      → ((e : List ℕ) → x ≡ place-spot u p (tables rs ms ps ns e cs) t f a) → ((e : List ℕ) → y ≡ place-spot v q (tables rs ms ps ns e cs) t f b)
-      → ((e : List ℕ) → z ≡ place-spot no-class r (tables rs ms ps ns e cs) t f c)
-      → record { env = own; pending = thrown; monitors = held; pushed = pushed; critical = region; pa = p; pb = q; pc = r; a = x; b = y; c = z } ≡ call-sight (tables rs ms ps ns d cs) t f a b c
+      → region ≡ ltb 0 (buffers-in (table ps ns) (critical-of t)) → at ≡ places-of f
+      → ((e : List ℕ) → x ≡ place-spot (at .first) (at .a) (tables rs ms ps ns e cs) t f a) → ((e : List ℕ) → y ≡ place-spot (at .second) (at .b) (tables rs ms ps ns e cs) t f b)
+      → ((e : List ℕ) → z ≡ place-spot no-class (at .c) (tables rs ms ps ns e cs) t f c)
+      → record { env = own; pending = thrown; monitors = held; pushed = pushed; critical = region; pa = at .a; pb = at .b; pc = at .c; a = x; b = y; c = z } ≡ call-sight (tables rs ms ps ns d cs) t f a b c
   unfolding call-sight seen-in in-critical
-  call-seen f a b c own thrown held u v pushed region p q r x y z eo et eh ed er ep eq es eu ev ex ey ez i =
+  call-seen f a b c own thrown held pushed region at x y z eo et eh ed er ep ex ey ez i =
       record {
         env = eo i;
         pending = et i;
         monitors = eh i;
         pushed = ed i;
         critical = er i;
-        pa = ep i;
-        pb = eq i;
-        pc = es i;
-        a = (ex d ∙ ap₂ (λ (w : ℕ) (k : Place). place-spot w k (tables rs ms ps ns d cs) t f a) eu ep) i;
-        b = (ey d ∙ ap₂ (λ (w : ℕ) (k : Place). place-spot w k (tables rs ms ps ns d cs) t f b) ev eq) i;
-        c = (ez d ∙ ap (λ (k : Place). place-spot no-class k (tables rs ms ps ns d cs) t f c) es) i;
+        pa = ep i .a;
+        pb = ep i .b;
+        pc = ep i .c;
+        a = (ex d ∙ ap (λ (p : Places). place-spot (p .first) (p .a) (tables rs ms ps ns d cs) t f a) ep) i;
+        b = (ey d ∙ ap (λ (p : Places). place-spot (p .second) (p .b) (tables rs ms ps ns d cs) t f b) ep) i;
+        c = (ez d ∙ ap (λ (p : Places). place-spot no-class (p .c) (tables rs ms ps ns d cs) t f c) ep) i;
       }
 
   pub leave-seen : (r : ℕ) (region : Bool) (x : Spot) → region ≡ ltb 0 (buffers-in (table ps ns) (critical-of t)) → ((qs os e ks : List ℕ) → x ≡ handle-spot no-class (tables rs ms qs os e ks) t r)

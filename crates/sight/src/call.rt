@@ -50,11 +50,10 @@ pub fn call(
     let monitors = book::monitors_of(book, t);
     let pushed = book::top_pushed(book, t);
     let critical = in_critical(pins, pinmarks, pinguide, t);
-    let pa = facts::place_a(f);
-    let pb = facts::place_b(f);
-    let pc = facts::place_c(f);
-    let class_a = facts::classes::class_a(f);
-    let class_b = facts::classes::class_b(f);
+    let at = facts::places::places_of(f);
+    let pa = at.a;
+    let pb = at.b;
+    let pc = at.c;
     let at_a = place(
         rows,
         marks,
@@ -64,7 +63,7 @@ pub fn call(
         pinguide,
         classes,
         pa,
-        class_a,
+        at.first,
         t,
         f,
         a,
@@ -78,7 +77,7 @@ pub fn call(
         pinguide,
         classes,
         pb,
-        class_b,
+        at.second,
         t,
         f,
         b,

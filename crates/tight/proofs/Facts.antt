@@ -3,14 +3,8 @@ use Rattle.facts.proofs as facts
 use Rattle.tight.specs.Tight.{Tight}
 use Rattle.tight.proofs.Shapes.{by-reply}
 
-pub place-a-tight : Tight facts.place_a.ended facts.place_a.Reads.Asked facts.place_a.Reads.Learnt
-place-a-tight κs args = (tt, by-reply)
-
-pub place-b-tight : Tight facts.place_b.ended facts.place_b.Reads.Asked facts.place_b.Reads.Learnt
-place-b-tight κs args = (tt, by-reply)
-
-pub place-c-tight : Tight facts.place_c.ended facts.place_c.Reads.Asked facts.place_c.Reads.Learnt
-place-c-tight κs args = (tt, by-reply)
+pub places-of-tight : Tight facts.places.places_of.ended facts.places.places_of.Reads.Asked facts.places.places_of.Reads.Learnt
+places-of-tight κs args = (tt, by-reply)
 
 pub result-of-tight : Tight facts.result_of.ended facts.result_of.Reads.Asked facts.result_of.Reads.Learnt
 result-of-tight κs args = (tt, by-reply)
@@ -44,12 +38,6 @@ is-buffer-place-tight κs args = (tt, by-reply)
 
 pub is-reserved-tight : Tight facts.classes.is_reserved.ended facts.classes.is_reserved.Reads.Asked facts.classes.is_reserved.Reads.Learnt
 is-reserved-tight κs args = (tt, by-reply)
-
-pub class-a-tight : Tight facts.classes.class_a.ended facts.classes.class_a.Reads.Asked facts.classes.class_a.Reads.Learnt
-class-a-tight κs args = (tt, by-reply)
-
-pub class-b-tight : Tight facts.classes.class_b.ended facts.classes.class_b.Reads.Asked facts.classes.class_b.Reads.Learnt
-class-b-tight κs args = (tt, by-reply)
 
 pub class-made-tight : Tight facts.classes.class_made.ended facts.classes.class_made.Reads.Asked facts.classes.class_made.Reads.Learnt
 class-made-tight κs args = (tt, by-reply)

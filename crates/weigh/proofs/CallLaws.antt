@@ -51,14 +51,14 @@ module _ (closed : Bool) (top : Option Item) (many : ℕ) (x : Bool) (e : x ≡ 
 
 -- ---- what is judged
 
-pub call-judged : (line env f a b c : ℕ) (s : CallSight) (p3 c3 : Bool) (r1 r2 r3 : ℕ) → p3 ≡ is-allowed-pending f → c3 ≡ is-allowed-critical f
+pub call-judged : (line env f a b c : ℕ) (s : CallSight) (p3 c3 : Bool) (r1 r2 r3 : ℕ) → p3 ≡ (eqb (s .pending) 1 && not (is-allowed-pending f)) → c3 ≡ (s .critical && not (is-allowed-critical f))
     → r1 ≡ rule-number (place-rule (s .pa) a (s .a .there) (s .a .fits)) → r2 ≡ rule-number (place-rule (s .pb) b (s .b .there) (s .b .fits)) → r3 ≡ rule-number (place-rule (s .pc) c (s .c .there) (s .c .fits))
     → record {
       line = line;
       foreign = not (eqb env (s .env));
       env = env;
-      pending = eqb (s .pending) 1 && not p3;
-      critical = s .critical && not c3;
+      pending = p3;
+      critical = c3;
       unheld = eqb f MonitorExit && eqb (s .monitors) 0;
       unpushed = eqb f PopLocalFrame && not (s .pushed);
       rule1 = r1;
@@ -74,8 +74,8 @@ call-judged line env f a b c s p3 c3 r1 r2 r3 e3 ec k1 k2 k3 i =
       line = line;
       foreign = not (eqb env (s .env));
       env = env;
-      pending = eqb (s .pending) 1 && not (e3 i);
-      critical = s .critical && not (ec i);
+      pending = e3 i;
+      critical = ec i;
       unheld = eqb f MonitorExit && eqb (s .monitors) 0;
       unpushed = eqb f PopLocalFrame && not (s .pushed);
       rule1 = k1 i;

@@ -13,4 +13,4 @@ judge-spec =
     (λ c κs. search needs)
     (λ c κs. search needs)
     (λ c κs. search needs)
-    (λ c. let at-allowed-critical = c .before .before .before in let at-allowed-pending = at-allowed-critical .before in let at-place-rule3 = at-allowed-pending .before .before .before in let at-place-rule2 = at-place-rule3 .before in let at-place-rule = at-place-rule2 .before in call-judged _ _ _ _ _ _ _ _ _ _ _ _ (at-allowed-pending .allowed-pending .ensures) (at-allowed-critical .allowed-critical .ensures) (at-place-rule .place-rule .ensures) (at-place-rule2 .place-rule2 .ensures) (at-place-rule3 .place-rule3 .ensures)))
+    (λ c. let at-critical = c .before .before .before in let at-pending = at-critical .before in let at-place-rule3 = at-pending .before in let at-place-rule2 = at-place-rule3 .before in let at-place-rule = at-place-rule2 .before in call-judged _ _ _ _ _ _ _ _ _ _ _ _ (at-pending .against-pending .ensures) (at-critical .against-critical .ensures) (at-place-rule .place-rule .ensures) (at-place-rule2 .place-rule2 .ensures) (at-place-rule3 .place-rule3 .ensures)))
