@@ -1,4 +1,4 @@
--- The facts of a function in document 01's letters, and in letters of our own for the classes of document 02; and the columns in which the code has them. Assumes nothing.
+-- The facts of a function in document 01's letters, the classes of document 02 in letters of our own, and a letter for each row of places that both make; and the columns in which the code has them. Assumes nothing.
 use Prim.Native.Nat.{ℕ, _-_, _*_, _/_, _%_}
 use Prim.Native.Char.{code}
 use mathlib.Core.List.{List, []}
