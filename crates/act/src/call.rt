@@ -57,7 +57,7 @@ fn end_top(rows: &mut [Number], marks: &mut [u64], book: &[u64], t: u32, f: u32)
     ensures { λ _. ⌜ table (now (rows .exit)) (now (marks .exit)) ≡ top-ended (table (now (rows .entry)) (now (marks .entry))) (now (book .entry)) t f ⌝ }
 {
     if pops(book, t, f) {
-        rows::references::end_frames(rows, marks, t, book::frames_of(book, t));
+        rows::references::end_frames(rows, marks, t as Number, book::frames_of(book, t) as Number);
     }
 }
 

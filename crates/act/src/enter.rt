@@ -28,11 +28,11 @@ fn take_all(rows: &mut [Number], marks: &mut [u64], line: u32, t: u32, d: u32, h
             rows,
             marks,
             Reference {
-                thread: t,
+                thread: t as Number,
                 handle: hs[i],
-                frame: d,
-                line,
-                class: NO_CLASS,
+                frame: d as Number,
+                line: line as Number,
+                class: NO_CLASS as Number,
             },
         );
         i += 1;
@@ -44,7 +44,7 @@ fn keep_env(book: &mut [u64], t: u32, env: Handle)
     ensures { λ _. ⌜ now (book .exit) ≡ env-kept (now (book .entry)) t env ⌝ }
 {
     if book::env_of(book, t) == 0 {
-        book::set_env(book, t, env as u64);
+        book::set_env(book, t, env);
     }
 }
 

@@ -20,6 +20,6 @@ pub fn leave(rows: &mut [Number], marks: &mut [u64], book: &mut [u64], t: u32)
     ensures { λ _. ⌜ ((ps ns cs : List ℕ) (line n r : ℕ) → tables (now (rows .exit)) (now (marks .exit)) ps ns (now (book .exit)) cs ≡ acted line (X t r) n (tables (now (rows .entry)) (now (marks .entry)) ps ns (now (book .entry)) cs)) ⌝ }
 {
     let d = book::frames_left(book, t);
-    rows::references::end_frames(rows, marks, t, d + 1);
+    rows::references::end_frames(rows, marks, t as Number, (d + 1) as Number);
     write_book(book, t);
 }

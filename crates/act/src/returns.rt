@@ -30,19 +30,19 @@ pub fn row_of(line: u32, kind: Result, t: u32, d: u32, h: Handle, class: u32) ->
 {
     if is_local_result(kind) {
         Reference {
-            thread: t,
+            thread: t as Number,
             handle: h,
-            frame: d,
-            line,
-            class,
+            frame: d as Number,
+            line: line as Number,
+            class: class as Number,
         }
     } else {
         Reference {
             thread: 0,
             handle: h,
             frame: 0,
-            line,
-            class,
+            line: line as Number,
+            class: class as Number,
         }
     }
 }
@@ -81,10 +81,10 @@ fn get(
     if is_buffer_result(kind) & (h != 0) {
         let k = facts::family(f);
         let x = Pin {
-            thread: pin_owner(t, k),
-            family: k,
+            thread: pin_owner(t, k) as Number,
+            family: k as Number,
             buffer: h,
-            line,
+            line: line as Number,
         };
         rows::pins::store(pins, pinmarks, row, x);
     }
@@ -99,7 +99,7 @@ fn held(rows: &[Number], marks: &[u64], book: &[u64], t: u32) -> usize
     if t == 0 {
         return 0;
     }
-    rows::references::count(rows, marks, t, book::frames_of(book, t))
+    rows::references::count(rows, marks, t as Number, book::frames_of(book, t) as Number)
 }
 
 fn ensure_capacity(rows: &[Number], marks: &[u64], book: &mut [u64], t: u32, n: u32)

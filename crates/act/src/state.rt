@@ -10,6 +10,6 @@ ghost use Rattle.act.specs.Statements.{stated};
 pub fn state(rows: &mut [Number], marks: &[u64], book: &mut [u64], row: usize, class: u32)
     ensures { λ _. ⌜ ((ps ns cs : List ℕ) → tables (now (rows .exit)) (now (marks .entry)) ps ns (now (book .exit)) cs ≡ stated (tables (now (rows .entry)) (now (marks .entry)) ps ns (now (book .entry)) cs) row class) ⌝ }
 {
-    rows::references::state(rows, marks, row, class);
+    rows::references::state(rows, marks, row, class as Number);
     book::count_line(book);
 }

@@ -1,5 +1,6 @@
 // The lent thread book: a row of numbers for each thread, and row 0 for the trace itself. Every function takes any contents, any thread and a short book too.
 use lines::ranges::THREADS;
+use words::Handle;
 ghost use Prim.Native.Nat.{ℕ, _-_, _/_, _<_, _≤_, min, max};
 ghost use mathlib.Core.Path.{_≡_};
 ghost use mathlib.Core.Bool.{false};
@@ -123,14 +124,14 @@ fn one_if(b: bool) -> u64
 
 // ---- a thread's env, pending exception and monitors
 
-pub fn env_of(book: &[u64], t: u32) -> u64
+pub fn env_of(book: &[u64], t: u32) -> Handle
     ensures { λ r. ⌜ r ≡ thread-in (now (book .entry)) t .env ⌝ }
 {
     number(book, t, ENV)
 }
 
 // Another thread than t has this env.
-pub fn env_elsewhere(book: &[u64], t: u32, env: u64) -> bool
+pub fn env_elsewhere(book: &[u64], t: u32, env: Handle) -> bool
     ensures { λ r. ⌜ r ≡ env-elsewhere (now (book .entry)) t env ⌝ }
 {
     let mut found = false;
@@ -142,7 +143,7 @@ pub fn env_elsewhere(book: &[u64], t: u32, env: u64) -> bool
     found
 }
 
-pub fn set_env(book: &mut [u64], t: u32, env: u64)
+pub fn set_env(book: &mut [u64], t: u32, env: Handle)
     ensures { λ _. ⌜ now (book .exit) ≡ env-set (now (book .entry)) t env ⌝ }
 {
     store(book, t, ENV, env);

@@ -5,6 +5,7 @@ use libc::STDOUT_FILENO;
 use lines::Event;
 use lines::LINE_FEED;
 use lines::TAB;
+use words::Handle;
 ghost use Prim.Native.Nat.{_<_, _≤_};
 ghost use lib.ListN.{length};
 ghost use Rattle.io.specs.Counts.{Counts};
@@ -26,12 +27,12 @@ fn put(text: &[u8]) {
     io::write_all(STDOUT_FILENO, text);
 }
 
-fn put_number(n: u32) {
+fn put_number(n: Handle) {
     put(b" ");
-    io::print_decimal(STDOUT_FILENO, n as u64);
+    io::print_decimal(STDOUT_FILENO, n);
 }
 
-fn put_numbers(letter: &[u8], n: &[u32]) {
+fn put_numbers(letter: &[u8], n: &[Handle]) {
     put(letter);
     let mut i = 0;
     while i < n.len() {
@@ -48,13 +49,13 @@ fn put_signed(n: i32) {
     io::print_decimal(STDOUT_FILENO, numbers::size_of(n));
 }
 
-fn put_event(e: Event, h: &[u32; 8]) {
+fn put_event(e: Event, h: &[Handle; 8]) {
     match e {
         Event::Enter { thread, env, count } => {
-            put_numbers(b" N", &[thread, env, count]);
+            put_numbers(b" N", &[thread as Handle, env, count as Handle]);
             put_numbers(b"", h);
         }
-        Event::Leave { thread, result } => put_numbers(b" X", &[thread, result]),
+        Event::Leave { thread, result } => put_numbers(b" X", &[thread as Handle, result]),
         Event::Call {
             thread,
             env,
@@ -64,7 +65,7 @@ fn put_event(e: Event, h: &[u32; 8]) {
             c,
             n,
         } => {
-            put_numbers(b" C", &[thread, env, function, a, b, c]);
+            put_numbers(b" C", &[thread as Handle, env, function as Handle, a, b, c]);
             put_signed(n);
         }
         Event::Return {
@@ -74,18 +75,21 @@ fn put_event(e: Event, h: &[u32; 8]) {
             status,
             pending,
         } => {
-            put_numbers(b" R", &[thread, function, result]);
+            put_numbers(b" R", &[thread as Handle, function as Handle, result]);
             put_signed(status);
-            put_number(pending);
+            put_number(pending as Handle);
         }
-        Event::Declare { class, superclass } => put_numbers(b" K", &[class, superclass]),
+        Event::Declare { class, superclass } => put_numbers(
+            b" K",
+            &[class as Handle, superclass as Handle],
+        ),
         Event::State {
             thread,
             handle,
             class,
-        } => put_numbers(b" O", &[thread, handle, class]),
+        } => put_numbers(b" O", &[thread as Handle, handle, class as Handle]),
         Event::End => put(b" Z"),
-        Event::Refused(k) => put_number(k as u32),
+        Event::Refused(k) => put_number(k as Handle),
     }
 }
 

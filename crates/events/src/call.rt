@@ -1,6 +1,7 @@
 // C: weighed; where it is accepted, what it does.
 use answers::Answer;
 use book::Top;
+use classes::Class;
 use rows::Number;
 use words::Handle;
 ghost use mathlib.Core.Path.{_≡_};
@@ -17,7 +18,7 @@ pub fn call(
     pins: &mut [Number],
     pinmarks: &mut [u64],
     book: &mut [u64],
-    classes: &[Number],
+    classes: &[Class],
     top: Top,
     many: u32,
     line: u32,

@@ -1,5 +1,6 @@
 // O: weighed; where it is accepted, the class of its handle is stated.
 use answers::Answer;
+use classes::Class;
 use rows::Number;
 use words::Handle;
 ghost use mathlib.Core.Path.{_≡_};
@@ -15,7 +16,7 @@ pub fn state(
     rows: &mut [Number],
     marks: &[u64],
     book: &mut [u64],
-    classes: &[Number],
+    classes: &[Class],
     t: u32,
     h: Handle,
     c: u32,

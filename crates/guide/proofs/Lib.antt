@@ -1,5 +1,6 @@
 -- `Telling`, `Staying`, `Clearing`, `Filling` and, for buffers, `PinGuideLaws` have what a caller cites: what a guide tells of the rows, and that it stays one. The others serve the proofs of this crate.
 mod Lowest
+mod SpreadLaws
 mod WordLaws
 mod TallyLaws
 mod Changes

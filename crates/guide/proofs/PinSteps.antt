@@ -2,7 +2,7 @@
 use mathlib.Core.Path.{_≡_, refl, ap, _∙_}
 use mathlib.Core.List.{List}
 use mathlib.Core.Option.{none, some}
-use Prim.Native.Nat.{ℕ, _+_, _/_, _%_, _≤_, _<_}
+use Prim.Native.Nat.{ℕ, _+_, _*_, _/_, _%_, _≤_, _<_}
 use native.Mathlib.Numerals.{add-one}
 use native.Mathlib.Omega.{arith}
 use lib.ListN.{getD}
@@ -11,17 +11,18 @@ use Rattle.rows.specs.declared.pins.Pin.{Pin}
 use Rattle.rows.specs.Table.{Table, room}
 use Rattle.rows.specs.View.{view}
 use Rattle.rows.specs.Pins.{pins}
+use Rattle.guide.specs.Spread.{spread}
 use Rattle.guide.specs.Listing.{with-listed}
 use Rattle.guide.specs.Tallies.{more-at, less-at}
-use Rattle.guide.specs.Pins.{places, spread, first-of, second-of, first, second, cell-of, noted, forgotten, filled}
+use Rattle.guide.specs.Pins.{places, first-of, second-of, first, second, cell-of, noted, forgotten, filled}
 
 -- ---- places and cells
 
-pub first-is : (t f b d : ℕ) → d ≡ spread t f b → d / 1048576 % 4096 ≡ first-of t f b
+pub first-is : (t f b d : ℕ) → d ≡ spread b (t % 32 * 16 + f % 16) → d / 1048576 % 4096 ≡ first-of t f b
 unfolding first-of
 first-is t f b d e = rw e
 
-pub second-is : (t f b d : ℕ) → d ≡ spread t f b → d / 4 % 4096 ≡ second-of t f b
+pub second-is : (t f b d : ℕ) → d ≡ spread b (t % 32 * 16 + f % 16) → d / 4 % 4096 ≡ second-of t f b
 unfolding second-of
 second-is t f b d e = rw e
 

@@ -3,7 +3,7 @@ use mathlib.Core.Path.{_≡_, refl, ap, _∙_}
 use mathlib.Core.Bool.{Bool, true, false, _&&_, false≢true}
 use mathlib.Core.List.{List}
 use mathlib.Core.Option.{none, some}
-use Prim.Native.Nat.{ℕ, _+_, _-_, _*_, _/_, _%_, _≤_, _<_, min}
+use Prim.Native.Nat.{ℕ, _+_, _-_, _*_, _/_, _%_, _^_, _≤_, _<_, min}
 use native.Mathlib.Numerals.{add-one}
 use native.Mathlib.Omega.{arith}
 use lib.Bits.{bitOr}
@@ -14,20 +14,21 @@ use Rattle.rows.specs.declared.references.Reference.{Reference}
 use Rattle.rows.specs.Table.{Table, room}
 use Rattle.rows.specs.View.{view}
 use Rattle.rows.specs.References.{references}
+use Rattle.guide.specs.Spread.{spread}
 use Rattle.guide.specs.Listing.{with-listed}
 use Rattle.guide.specs.Tallies.{more-at, less-at}
 use Rattle.guide.specs.Masks.{word-bit, mark-bit, with-bit, all-bits, no-bits}
 use Rattle.guide.specs.Frees.{lowered-at}
-use Rattle.guide.specs.References.{places, others, cells, words, marks, used-at, low-at, spread, first-of, second-of, first, second, cell-of, noted, forgotten, bits-from, none-from, filled}
+use Rattle.guide.specs.References.{places, others, cells, words, marks, used-at, low-at, first-of, second-of, first, second, cell-of, noted, forgotten, bits-from, none-from, filled}
 use Rattle.guide.proofs.Steps.{bits-cut, none-cut}
 
 -- ---- places and cells
 
-pub first-is : (t h d : ℕ) → d ≡ spread t h → d / 131072 % 32768 ≡ first-of t h
+pub first-is : (t h d : ℕ) → d ≡ spread h (t % 32) → d / 131072 % 32768 ≡ first-of t h
 unfolding first-of
 first-is t h d e = rw e
 
-pub second-is : (t h d : ℕ) → d ≡ spread t h → d / 4 % 32768 ≡ second-of t h
+pub second-is : (t h d : ℕ) → d ≡ spread h (t % 32) → d / 4 % 32768 ≡ second-of t h
 unfolding second-of
 second-is t h d e = rw e
 
@@ -42,6 +43,12 @@ cell-low t f h = go (leb t 16) (leb f 64) refl refl h
     go true true ea eb e = omega (arith, leb-true t 16 ea, leb-true f 64 eb)
     go true false ea eb e = absurd (false≢true e)
     go false b ea eb e = absurd (false≢true e)
+
+pub cell-thread : (t f : ℕ) → (leb t 16 && leb f 64) ≡ true → t * 65 < 2 ^ 64
+cell-thread t f h = omega (arith, cell-low t f h)
+
+pub cell-fits : (t f : ℕ) → (leb t 16 && leb f 64) ≡ true → t * 65 + f < 2 ^ 64
+cell-fits t f h = omega (arith, cell-low t f h)
 
 pub cell-other : (t f : ℕ) → (leb t 16 && leb f 64) ≡ false → others ≡ cell-of t f
 unfolding cell-of

@@ -1,4 +1,5 @@
 -- computed: run::run_lines
+pub mod Spread
 pub mod Words
 pub mod Listing
 pub mod Tallies

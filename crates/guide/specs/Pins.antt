@@ -10,6 +10,7 @@ use Rattle.rows.specs.declared.pins.Pin.{Pin}
 use Rattle.rows.specs.Table.{Table, room}
 use Rattle.rows.specs.View.{slot, view}
 use Rattle.rows.specs.Pins.{pins, is-buffer}
+use Rattle.guide.specs.Spread.{spread}
 use Rattle.guide.specs.Listing.{found-by, with-listed, Listed}
 use Rattle.guide.specs.Tallies.{more-at, less-at, Tallied}
 
@@ -20,15 +21,11 @@ places = 4096
 abbrev pub size : ℕ
 size = 4114
 
--- any spread will do
-unfoldable pub spread : ℕ → ℕ → ℕ → ℕ
-spread t f b = b % 4294967296 * 2654435769 + (t % 32 * 16 + f % 16) * 1597334677
-
 unfoldable pub first-of : ℕ → ℕ → ℕ → ℕ
-first-of t f b = spread t f b / 1048576 % 4096
+first-of t f b = spread b (t % 32 * 16 + f % 16) / 1048576 % 4096
 
 unfoldable pub second-of : ℕ → ℕ → ℕ → ℕ
-second-of t f b = spread t f b / 4 % 4096
+second-of t f b = spread b (t % 32 * 16 + f % 16) / 4 % 4096
 
 abbrev pub first : Pin → ℕ
 first x = first-of (x .thread) (x .family) (x .buffer)

@@ -12,6 +12,7 @@ use Rattle.rows.specs.declared.references.Reference.{Reference}
 use Rattle.rows.specs.Table.{Table, room}
 use Rattle.rows.specs.View.{slot, view}
 use Rattle.rows.specs.References.{references, is-handle}
+use Rattle.guide.specs.Spread.{spread}
 use Rattle.guide.specs.Listing.{found-by, with-listed, Listed}
 use Rattle.guide.specs.Tallies.{more-at, less-at, Tallied}
 use Rattle.guide.specs.Masks.{word-bit, mark-bit, with-bit, all-bits, no-bits, Shown}
@@ -45,15 +46,12 @@ low-at = 36087
 abbrev pub size : ℕ
 size = 36088
 
--- any spread will do; the two places of a handle have no digit in common
-unfoldable pub spread : ℕ → ℕ → ℕ
-spread t h = h % 4294967296 * 2654435769 + t % 4294967296 * 1597334677
-
+-- the two places of a handle have no digit of its spread in common
 unfoldable pub first-of : ℕ → ℕ → ℕ
-first-of t h = spread t h / 131072 % 32768
+first-of t h = spread h (t % 32) / 131072 % 32768
 
 unfoldable pub second-of : ℕ → ℕ → ℕ
-second-of t h = spread t h / 4 % 32768
+second-of t h = spread h (t % 32) / 4 % 32768
 
 abbrev pub first : Reference → ℕ
 first x = first-of (x .thread) (x .handle)

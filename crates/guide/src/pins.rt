@@ -1,4 +1,5 @@
 // The guide of pin rows: where a buffer is listed, and how many buffers each thread has.
+use crate::spread::spread;
 use crate::word::above;
 use crate::word::is_full;
 use crate::word::is_named;
@@ -27,7 +28,7 @@ ghost use Rattle.rows.specs.View.{slot, view};
 ghost use Rattle.rows.specs.Pins.{pins, is-buffer};
 ghost use Rattle.guide.specs.Words.{lane, named};
 ghost use Rattle.guide.specs.Listing.{wants, with-row, with-listed};
-ghost use Rattle.guide.specs.Pins.{places, spread, first-of, second-of, first, second, cell-of, found-in, noted, forgotten, filled};
+ghost use Rattle.guide.specs.Pins.{places, first-of, second-of, first, second, cell-of, found-in, noted, forgotten, filled};
 
 // So many words are a guide.
 pub const SIZE: usize = 4114;
@@ -39,24 +40,16 @@ const COUNTS: usize = 4096;
 
 const OTHERS: usize = 17;
 
-const HALF: u64 = 4294967296;
-
-fn spread(t: Number, f: Number, b: Number) -> u64
-    ensures { λ r. ⌜ r ≡ spread t f b ⌝ }
-{
-    b as u64 % HALF * 2654435769 + (t as u64 % 32 * 16 + f as u64 % 16) * 1597334677
-}
-
 fn first_of(t: Number, f: Number, b: Number) -> usize
     ensures { λ r. ⌜ r ≡ first-of t f b ⌝ }
 {
-    (spread(t, f, b) / 1048576 % PLACES) as usize
+    (spread(b, t % 32 * 16 + f % 16) / 1048576 % PLACES) as usize
 }
 
 fn second_of(t: Number, f: Number, b: Number) -> usize
     ensures { λ r. ⌜ r ≡ second-of t f b ⌝ }
 {
-    (spread(t, f, b) / 4 % PLACES) as usize
+    (spread(b, t % 32 * 16 + f % 16) / 4 % PLACES) as usize
 }
 
 // Row r where it is that of buffer b of family f, of thread t, else n.

@@ -1,4 +1,5 @@
 // The guide of reference rows: where the handle of a thread is listed, how many locals each frame has and where they stand, and where the lowest free row may stand.
+use crate::spread::spread;
 use crate::word::above;
 use crate::word::is_full;
 use crate::word::is_named;
@@ -33,7 +34,7 @@ ghost use Rattle.guide.specs.Words.{lane, named};
 ghost use Rattle.guide.specs.Listing.{wants, with-row, with-listed};
 ghost use Rattle.guide.specs.Masks.{with-bit};
 ghost use Rattle.guide.specs.Frees.{raised-at, lowered-at};
-ghost use Rattle.guide.specs.References.{places, cells, words, marks as mark-words, used-at, low-at, size, spread, first-of, second-of, first, second, cell-of, found-in, noted, forgotten, bits-from, none-from, filled};
+ghost use Rattle.guide.specs.References.{places, cells, words, marks as mark-words, used-at, low-at, size, first-of, second-of, first, second, cell-of, found-in, noted, forgotten, bits-from, none-from, filled};
 
 // So many words are a guide.
 pub const SIZE: usize = 36088;
@@ -57,24 +58,16 @@ const USED: usize = 36086;
 
 const LOW: usize = 36087;
 
-const HALF: u64 = 4294967296;
-
-fn spread(t: Number, h: Number) -> u64
-    ensures { λ r. ⌜ r ≡ spread t h ⌝ }
-{
-    h as u64 % HALF * 2654435769 + t as u64 % HALF * 1597334677
-}
-
 fn first_of(t: Number, h: Number) -> usize
     ensures { λ r. ⌜ r ≡ first-of t h ⌝ }
 {
-    (spread(t, h) / 131072 % PLACES) as usize
+    (spread(h, t % 32) / 131072 % PLACES) as usize
 }
 
 fn second_of(t: Number, h: Number) -> usize
     ensures { λ r. ⌜ r ≡ second-of t h ⌝ }
 {
-    (spread(t, h) / 4 % PLACES) as usize
+    (spread(h, t % 32) / 4 % PLACES) as usize
 }
 
 // Row r where it is that of handle h in thread t, else n.

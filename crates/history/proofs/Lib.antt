@@ -43,6 +43,7 @@ mod CallCases
 mod ReturnCases
 mod CapacityCases
 mod JudgedCases
+mod WideCases
 mod RefusedCases
 mod LineCases
 mod LimitCases

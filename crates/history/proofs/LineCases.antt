@@ -64,10 +64,10 @@ lines =
     ∷ l "K 5 0" gives 3 ∷ l "K 5 4095" gives 0 ∷ l "K 5 4096" gives 3 ∷ l "K 5 -1" gives 3
     ∷ l "O 1 5 0" gives 3 ∷ l "O 1 5 1" gives 0 ∷ l "O 1 5 4095" gives 0 ∷ l "O 1 5 4096" gives 3 ∷ l "O 1 5 -1" gives 3
     -- O's handle is a handle, null or an identity
-    ∷ l "O 1 0 2" gives 0 ∷ l "O 1 8 2" gives 0 ∷ l "O 1 4294967295 2" gives 0 ∷ l "O 1 4294967296 2" gives 3 ∷ l "O 1 -1 2" gives 3
-    -- env 1..4294967295
-    ∷ l "N 1 0" gives 3 ∷ l "N 1 4294967295" gives 0 ∷ l "N 1 4294967296" gives 3
-    ∷ l "C 1 0 6 0 0 0 0" gives 3 ∷ l "C 1 4294967295 6 0 0 0 0" gives 0 ∷ l "C 1 4294967296 6 0 0 0 0" gives 3
+    ∷ l "O 1 0 2" gives 0 ∷ l "O 1 8 2" gives 0 ∷ l "O 1 18446744073709551615 2" gives 0 ∷ l "O 1 18446744073709551616 2" gives 3 ∷ l "O 1 -1 2" gives 3
+    -- env 1..18446744073709551615
+    ∷ l "N 1 0" gives 3 ∷ l "N 1 18446744073709551615" gives 0 ∷ l "N 1 18446744073709551616" gives 3
+    ∷ l "C 1 0 6 0 0 0 0" gives 3 ∷ l "C 1 18446744073709551615 6 0 0 0 0" gives 0 ∷ l "C 1 18446744073709551616 6 0 0 0 0" gives 3
     -- function 4..232
     ∷ l "C 1 1 3 0 0 0 0" gives 3 ∷ l "C 1 1 4 0 0 0 0" gives 0 ∷ l "C 1 1 232 0 0 0 0" gives 0 ∷ l "C 1 1 233 0 0 0 0" gives 3
     ∷ l "R 1 3 0 0" gives 3 ∷ l "R 1 4 0 0" gives 0 ∷ l "R 1 232 0 0" gives 0 ∷ l "R 1 233 0 0" gives 3
@@ -75,14 +75,20 @@ lines =
     ∷ l "R 1 6 0 1" gives 0 ∷ l "R 1 6 0 2" gives 3
     -- N handles are local kind; null arguments are left out
     ∷ l "N 1 1 0" gives 3 ∷ l "N 1 1 6" gives 3 ∷ l "N 1 1 7" gives 3 ∷ l "N 1 1 8" gives 3 ∷ l "N 1 1 1 5 8" gives 3
-    ∷ l "N 1 1 4294967293" gives 0 ∷ l "N 1 1 4294967297" gives 3
-    -- the X result is free in 0..4294967295
-    ∷ l "X 1 4294967295" gives 0 ∷ l "X 1 4294967296" gives 3 ∷ l "X 1 8" gives 0
-    -- handles, identities and buffers 0..4294967295, of whatever kind
-    ∷ l "C 1 1 64 4294967295 4294967294 4294967293 0" gives 0 ∷ l "C 1 1 64 4294967296 0 0 0" gives 3 ∷ l "C 1 1 64 0 4294967296 0 0" gives 3
-    ∷ l "C 1 1 64 0 0 4294967296 0" gives 3 ∷ l "C 1 1 170 5 4294967295 0 0" gives 0 ∷ l "C 1 1 170 5 4294967296 0 0" gives 3
-    ∷ l "C 1 1 23 4294967294 0 0 0" gives 0 ∷ l "C 1 1 22 4294967296 0 0 0" gives 3 ∷ l "C 1 1 227 4294967296 0 0 0" gives 3
-    ∷ l "C 1 1 23 4294967297 0 0 0" gives 3 ∷ l "C 1 1 24 0 4294967296 0 0" gives 3
+    ∷ l "N 1 1 18446744073709551613" gives 0 ∷ l "N 1 1 18446744073709551617" gives 3
+    -- the X result is free in 0..18446744073709551615
+    ∷ l "X 1 18446744073709551615" gives 0 ∷ l "X 1 18446744073709551616" gives 3 ∷ l "X 1 8" gives 0
+    -- handles, identities and buffers 0..18446744073709551615, of whatever kind
+    ∷ l "C 1 1 64 18446744073709551615 18446744073709551614 18446744073709551613 0" gives 0 ∷ l "C 1 1 64 18446744073709551616 0 0 0" gives 3 ∷ l "C 1 1 64 0 18446744073709551616 0 0" gives 3
+    ∷ l "C 1 1 64 0 0 18446744073709551616 0" gives 3 ∷ l "C 1 1 170 5 18446744073709551615 0 0" gives 0 ∷ l "C 1 1 170 5 18446744073709551616 0 0" gives 3
+    ∷ l "C 1 1 23 18446744073709551614 0 0 0" gives 0 ∷ l "C 1 1 22 18446744073709551616 0 0 0" gives 3 ∷ l "C 1 1 227 18446744073709551616 0 0 0" gives 3
+    ∷ l "C 1 1 23 18446744073709551617 0 0 0" gives 3 ∷ l "C 1 1 24 0 18446744073709551616 0 0" gives 3
+    -- numbers that are the same modulo 4294967296 are two
+    ∷ l "N 1 4294967296" gives 0 ∷ l "N 1 1 4294967297" gives 0 ∷ l "N 1 1 4294967298" gives 3 ∷ l "X 1 4294967296" gives 0
+    ∷ l "X 4294967297 0" gives 3 ∷ l "N 4294967297 1" gives 3 ∷ l "C 4294967297 1 6 0 0 0 0" gives 3 ∷ l "R 4294967297 6 0 0" gives 3
+    ∷ l "C 1 1 4294967302 0 0 0 0" gives 3 ∷ l "R 1 4294967302 0 0" gives 3 ∷ l "R 1 6 0 4294967296" gives 3 ∷ l "O 4294967297 5 2" gives 3
+    ∷ l "K 4294967301 1" gives 3 ∷ l "K 5 4294967297" gives 3 ∷ l "O 1 5 4294967298" gives 3 ∷ l "C 1 1 6 4294967296 0 0 0" gives 3
+    ∷ l "C 1 1 19 0 0 0 4294967296" gives 3 ∷ l "C 1 1 19 0 0 0 18446744073709551615" gives 3 ∷ l "R 1 19 -4294967296 0" gives 3 ∷ l "R 1 4 4294967296 0" gives 3
     -- an unused place is written 0
     ∷ l "C 1 1 6 5 0 0 0" gives 3 ∷ l "C 1 1 31 5 5 0 0" gives 3 ∷ l "C 1 1 11 5 5 5 0" gives 3
     -- capacity n is used by 19 and 26 only, else 0
@@ -93,22 +99,22 @@ lines =
     ∷ l "C 1 1 26 0 0 0 -2147483648" gives 0 ∷ l "C 1 1 26 0 0 0 -2147483649" gives 3
     -- results: L G W (handle of that kind or 0), I (remainder 0), B, S status, `-` written 0
     ∷ l "R 1 6 5 0" gives 0 ∷ l "R 1 6 6 0" gives 3 ∷ l "R 1 6 7 0" gives 3 ∷ l "R 1 6 8 0" gives 3
-    ∷ l "R 1 6 4294967293 0" gives 0 ∷ l "R 1 6 4294967297 0" gives 3
+    ∷ l "R 1 6 18446744073709551613 0" gives 0 ∷ l "R 1 6 18446744073709551617 0" gives 3
     ∷ l "R 1 21 0 0" gives 0 ∷ l "R 1 21 6 0" gives 0 ∷ l "R 1 21 5 0" gives 3 ∷ l "R 1 21 7 0" gives 3 ∷ l "R 1 21 8 0" gives 3
-    ∷ l "R 1 21 4294967294 0" gives 0 ∷ l "R 1 21 4294967298 0" gives 3
+    ∷ l "R 1 21 18446744073709551614 0" gives 0 ∷ l "R 1 21 18446744073709551618 0" gives 3
     ∷ l "R 1 226 0 0" gives 0 ∷ l "R 1 226 7 0" gives 0 ∷ l "R 1 226 5 0" gives 3 ∷ l "R 1 226 6 0" gives 3 ∷ l "R 1 226 8 0" gives 3
-    ∷ l "R 1 226 4294967295 0" gives 0 ∷ l "R 1 226 4294967299 0" gives 3
+    ∷ l "R 1 226 18446744073709551615 0" gives 0 ∷ l "R 1 226 18446744073709551619 0" gives 3
     ∷ l "R 1 33 0 0" gives 0 ∷ l "R 1 33 8 0" gives 0 ∷ l "R 1 33 5 0" gives 3 ∷ l "R 1 33 6 0" gives 3 ∷ l "R 1 33 7 0" gives 3
-    ∷ l "R 1 33 4294967292 0" gives 0 ∷ l "R 1 33 4294967296 0" gives 3
+    ∷ l "R 1 33 18446744073709551612 0" gives 0 ∷ l "R 1 33 18446744073709551616 0" gives 3
     ∷ l "R 1 169 0 0" gives 0 ∷ l "R 1 169 8001 0" gives 0 ∷ l "R 1 169 8002 0" gives 0 ∷ l "R 1 169 8003 0" gives 0 ∷ l "R 1 169 8004 0" gives 0
-    ∷ l "R 1 169 4294967295 0" gives 0 ∷ l "R 1 169 4294967296 0" gives 3 ∷ l "R 1 169 -1 0" gives 3
+    ∷ l "R 1 169 18446744073709551615 0" gives 0 ∷ l "R 1 169 18446744073709551616 0" gives 3 ∷ l "R 1 169 -1 0" gives 3
     ∷ l "R 1 19 2147483647 0" gives 0 ∷ l "R 1 19 2147483648 0" gives 3 ∷ l "R 1 19 -2147483648 0" gives 0 ∷ l "R 1 19 -2147483649 0" gives 3
     ∷ l "R 1 217 -1 0" gives 0 ∷ l "R 1 4 1 0" gives 3 ∷ l "R 1 4 -1 0" gives 3
     -- a lent line is all its bytes and its last is the LF; an LF earlier is 2
     ∷ [] gives 1 ∷ bytes "Z" gives 1 ∷ bytes "Z\n" gives 0 ∷ bytes "\n" gives 2 ∷ bytes "Z\nZ\n" gives 2 ∷ bytes "Z\n\n" gives 2 ∷ bytes "Z\nZ" gives 1
-    -- at most 128 bytes before LF
-    ∷ l "44444444444444444444444444444444444444444444444444444444444444444444444444444444444444444444444444444444444444444444444444444444" gives 2
-    ∷ l "444444444444444444444444444444444444444444444444444444444444444444444444444444444444444444444444444444444444444444444444444444444" gives 1
+    -- at most 224 bytes before LF
+    ∷ l "44444444444444444444444444444444444444444444444444444444444444444444444444444444444444444444444444444444444444444444444444444444444444444444444444444444444444444444444444444444444444444444444444444444444444444444444444444444" gives 2
+    ∷ l "444444444444444444444444444444444444444444444444444444444444444444444444444444444444444444444444444444444444444444444444444444444444444444444444444444444444444444444444444444444444444444444444444444444444444444444444444444444" gives 1
     ∷ []
 
 lines-read : map given lines ≡ map expected lines

@@ -37,9 +37,9 @@ pub record Case : Type 0 where
   pub input : List ℕ
   pub report : List ℕ
 
--- the program lends 2,048 reference and 256 pin rows
+-- the program lends 1,024 reference and 256 pin rows
 abbrev pub program : Room
-program = record { references = 2048; pins = 256 }
+program = record { references = 1024; pins = 256 }
 
 infixr 1 case_reads_prints_
 abbrev pub case_reads_prints_ : String → List String → List String → Case

@@ -31,9 +31,9 @@ pub record Roomier (a b : Room) : Type 0 where
   pub references : a .references ≤ b .references
   pub pins : a .pins ≤ b .pins
 
--- the program lends 2,048 reference and 256 pin rows
+-- the program lends 1,024 reference and 256 pin rows
 abbrev pub program-room : Room
-program-room = record { references = 2048; pins = 256 }
+program-room = record { references = 1024; pins = 256 }
 
 -- a line as document 01 prints it, a space for a tab
 abbrev pub line : String → List ℕ

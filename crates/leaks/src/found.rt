@@ -26,7 +26,6 @@ pub(crate) enum Found {
 }
 
 fn of_pin(place: usize, row: pins::Held) -> Found
-    requires { ⌜ place < places ⌝ }
     ensures { λ f. ⌜ told f ≡ of-pin place (pin-told row) ⌝ }
 {
     match row {
@@ -42,7 +41,6 @@ fn of_pin(place: usize, row: pins::Held) -> Found
 
 // A handle of a thread does not leak.
 fn of_reference(place: usize, row: references::Held) -> Found
-    requires { ⌜ place < places ⌝ }
     ensures { λ f. ⌜ told f ≡ of-reference place (reference-told row) ⌝ }
 {
     match row {
@@ -68,7 +66,6 @@ fn found_at(
     pinmarks: &[u64],
     place: usize,
 ) -> Found
-    requires { ⌜ place < places ⌝ }
     ensures { λ f. ⌜ told f ≡ found-at (table (now (rows .entry)) (now (marks .entry))) (table (now (pins .entry)) (now (pinmarks .entry))) place ⌝ }
 {
     if place < FIRST_REFERENCE {

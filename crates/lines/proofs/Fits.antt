@@ -142,11 +142,11 @@ few-numbers e h =
 
 -- ---- lengths
 
-length-shown : (n : ℤ) → natAbs n ≤ largest → length (shown n) ≤ 11
-length-shown (pos n) h = let k = length-below 9 n (omega arith) in omega arith
-length-shown (negsuc n) h = let k = length-below 9 (suc n) (omega arith) in omega arith
+length-shown : (n : ℤ) → natAbs n ≤ largest → length (shown n) ≤ 21
+length-shown (pos n) h = let k = length-below 19 n (omega arith) in omega arith
+length-shown (negsuc n) h = let k = length-below 19 (suc n) (omega arith) in omega arith
 
-length-tabbed : (ns : List ℤ) → Each ns → length (tabbed ns) ≤ 12 * length ns
+length-tabbed : (ns : List ℤ) → Each ns → length (tabbed ns) ≤ 22 * length ns
 unfolding tabbed
 length-tabbed [] h = omega arith
 length-tabbed (n ∷ ns) h =

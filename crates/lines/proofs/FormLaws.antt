@@ -1,6 +1,6 @@
 -- The event that the code makes of a line's numbers. Assumes nothing.
 use mathlib.Core.Path.{_≡_, refl, ap, sym, subst, _∙_}
-use mathlib.Core.Bool.{Bool, true, false, true≢false}
+use mathlib.Core.Bool.{Bool, true, false, not, _&&_, true≢false}
 use mathlib.Core.Logic.{_≢_}
 use mathlib.Core.List.{List, [], _∷_, map}
 use Prim.Native.Nat.{ℕ, zero, suc, _+_, _-_, _≤_}
@@ -9,18 +9,19 @@ use native.Mathlib.Omega.{arith}
 use lib.Dec.{eqb, leb}
 use lib.IntN.{ℤ, pos}
 use lib.ListN.{length, getD, take, length-take, length-drop}
-use borrow.Author.Tests.{ne-eqb, eqb-true}
+use borrow.Author.Tests.{ne-eqb, eqb-true, leb-true}
 use Rattle.words.specs.Choice.{within}
-use Rattle.facts.specs.Table.{fact-of, is-function}
+use Rattle.words.specs.Lists.{any}
+use Rattle.facts.specs.Table.{fact-of, is-function, first-function, last-function}
 use Rattle.numbers.specs.Signed.{signed, is-i32}
-use Rattle.lines.specs.Line.{K, O, Line, N, X, C, R, Z, states, is-allowed, is-thread, is-env, place-allows, capacity-allows, result-allows, most-handles}
+use Rattle.lines.specs.Line.{K, O, Line, N, X, C, R, Z, states, is-allowed, is-thread, is-env, is-value, is-class, is-argument, place-allows, capacity-allows, result-allows, threads, classes, most-handles}
 use Rattle.lines.specs.Forms.{most-fields, no-place, of-letter}
 use Rattle.lines.specs.Reading.{says, refused, if-allowed, line-of}
 use Rattle.lines.specs.Events.{gives-status, event-of}
 use Rattle.lines.specs.Sizes.{signed-at, numbers-in, right-count, line-in, named}
 use Rattle.lines.specs.declared.Event.{Event}
 use Rattle.lines.specs.declared.Event.the-variants as Event
-use Rattle.lines.proofs.Tests.{all4, all7}
+use Rattle.lines.proofs.Tests.{both, all3, all4, all7, and-false}
 use Rattle.lines.proofs.Listed.{of-length}
 use Rattle.lines.proofs.Formed.{within-low, within-high, within-one, no-count}
 use Rattle.lines.proofs.Numbered.{enter-numbers}
@@ -34,6 +35,43 @@ module _ (e : Line) {t : Bool} (tested : t ≡ is-allowed e) where
 
   pub is-made : t ≡ true → event-of (says e) ≡ event-of (if-allowed e)
   is-made h = rw (sym tested ∙ h)
+
+-- ---- the numbers that keep to 32 bits, all but the function
+
+abbrev pub Narrow : Line → Type 0
+Narrow (N t env hs) = t ≤ threads
+Narrow (X t r) = t ≤ threads
+Narrow (C t env f a b c n) = t ≤ threads
+Narrow (R t f r p) = (t ≤ threads) × (p ≤ 1)
+Narrow Z = Unit
+Narrow (states (K c s)) = (c ≤ classes) × (s ≤ classes)
+Narrow (states (O t h c)) = (t ≤ threads) × (c ≤ classes)
+
+pub narrow : (e : Line) → is-allowed e ≡ true → Narrow e
+narrow (N t env hs) h = within-high 1 threads t (all4 (is-thread t) (is-env env) (leb (length hs) most-handles) (not (any (λ (x : ℕ). not (is-argument x)) hs)) h .0)
+narrow (X t r) h = within-high 1 threads t (both (is-thread t) (is-value r) h .0)
+narrow (C t env f a b c n) h =
+    within-high 1 threads t
+    (all7 (is-thread t) (is-env env) (is-function f) (place-allows (fact-of f .a) a) (place-allows (fact-of f .b) b) (place-allows (fact-of f .c) c) (capacity-allows f n) h .0)
+narrow (R t f r p) h =
+    let k = all4 (is-thread t) (is-function f) (result-allows (fact-of f .result) r) (leb p 1) h in
+    (within-high 1 threads t (k .0), leb-true p 1 (k .3))
+narrow Z h = tt
+narrow (states (K c s)) h = let k = both (is-class c) (is-class s) h in (within-high 1 classes c (k .0), within-high 1 classes s (k .1))
+narrow (states (O t v c)) h =
+    let k = all3 (is-thread t) (is-value v) (is-class c) h in
+    (within-high 1 threads t (k .0), within-high 1 classes c (k .2))
+
+module _ (f : ℕ) where
+  pub narrow-function : is-function f ≡ true → f ≤ last-function
+  narrow-function h = within-high first-function last-function f h
+
+  -- no line calls or returns from a number that is no function
+  pub call-nothing : (t env a b c : ℕ) (n : ℤ) → is-function f ≡ false → Event.Refused 3 ≡ event-of (if-allowed (C t env f a b c n))
+  call-nothing t env a b c n h = rw (h, and-false (is-thread t && is-env env))
+
+  pub return-nothing : (t : ℕ) (r : ℤ) (p : ℕ) → is-function f ≡ false → Event.Refused 3 ≡ event-of (if-allowed (R t f r p))
+  return-nothing t r p h = rw (h, and-false (is-thread t))
 
 -- ---- capacity and status are signed 32-bit numbers
 

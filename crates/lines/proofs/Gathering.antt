@@ -43,9 +43,6 @@ any-wrong k i (n ∷ ns) = wrong-at k i n || any-wrong k (i + 1) ns
 
 -- ---- one field
 
-size-kept : (n : ℕ) → n ≤ largest → n % suc largest ≡ n
-size-kept n h = omega arith
-
 -- it is counted, and whether it is wrong is kept
 record Counted (k : ℕ) (g : Gathered) (z : ℤ) (r : Gathered) : Type 0 where
   count : r .tally .count ≡ g .tally .count + 1
@@ -69,11 +66,11 @@ valued : (k : ℕ) (g : Gathered) (z : ℤ) → wrong-at k (g .tally .count) z �
     ≡ gathered-as (tally (g .tally .count + 1) (g .tally .out) (g .tally .minus || is-negative z)) (set (g .values) (g .tally .count) (natAbs z))
 valued k g (pos n) h =
     let l = ltb-false largest n (neither (too-large (pos n)) false h .0) in
-    rw (le-leb n largest l, size-kept n l, or-false (g .tally .minus))
+    rw (le-leb n largest l, or-false (g .tally .minus))
 valued k g (negsuc n) h =
     let q = neither (too-large (negsuc n)) (not (eqb (g .tally .count) k)) h in
     let l = ltb-false largest (suc n) (q .0) in
-    rw (le-leb (suc n) largest l, size-kept (suc n) l, q .1, or-false (g .tally .out), or-true (g .tally .minus))
+    rw (le-leb (suc n) largest l, q .1, or-false (g .tally .out), or-true (g .tally .minus))
 
 pub taken-one : (k : ℕ) (g : Gathered) (x : Field) → g .tally .count < most-fields → taken k g x ≡ and-field k g x
 unfolding taken

@@ -38,15 +38,12 @@ zero-i32 (negsuc n) h = absurd (false≢true h)
 
 -- ---- what `numbers` answers of a sign and a size
 
-module _ (minus : Bool) (n : ℕ) {w : ℕ} {x : Int} (size : w ≡ n) (answer : x ≡ as-int (signed minus w)) where
-  answered : x ≡ as-int (signed minus n)
-  answered = answer ∙ ap (λ (i : ℕ). as-int (signed minus i)) size
-
+module _ (minus : Bool) (n : ℕ) {x : Int} (answer : x ≡ as-int (signed minus n)) where
   pub value-i32 : {y : ℤ} → x ≡ Int.Value y → (signed minus n ≡ y) × (is-i32 (signed minus n) ≡ true)
-  value-i32 h = int-was (signed minus n) (sym answered ∙ h)
+  value-i32 h = int-was (signed minus n) (sym answer ∙ h)
 
   pub out-i32 : x ≡ Int.Out → is-i32 (signed minus n) ≡ false
-  out-i32 h = int-was-out (signed minus n) (sym answered ∙ h)
+  out-i32 h = int-was-out (signed minus n) (sym answer ∙ h)
 
 -- ---- capacity
 

@@ -34,19 +34,45 @@ worked =
     ∷ "X 1 5\n" reads says (X 1 5)
     ∷ "Z\n" reads says Z
     -- ranges
-    ∷ "X 16 4294967295\n" reads says (X 16 4294967295)
-    ∷ "X 16 4294967296\n" reads refused 3
+    ∷ "X 16 0\n" reads says (X 16 0)
+    ∷ "X 16 18446744073709551615\n" reads says (X 16 18446744073709551615)
+    ∷ "X 16 18446744073709551616\n" reads refused 3
+    ∷ "X 16 99999999999999999999\n" reads refused 3
+    ∷ "X 16 100000000000000000000\n" reads refused 3
+    -- numbers that are the same modulo 4294967296 are two
+    ∷ "X 1 4294967296\n" reads says (X 1 4294967296)
+    ∷ "X 1 4294967301\n" reads says (X 1 4294967301)
+    ∷ "N 1 4294967296\n" reads says (N 1 4294967296 [])
+    ∷ "X 4294967297 5\n" reads refused 3
+    ∷ "C 1 100 4294967300 0 0 0 0\n" reads refused 3
+    ∷ "R 1 4294967300 0 0\n" reads refused 3
+    ∷ "R 1 31 9 4294967296\n" reads refused 3
+    ∷ "C 1 100 19 0 0 0 4294967296\n" reads refused 3
+    ∷ "R 1 19 -4294967296 0\n" reads refused 3
+    ∷ "K 4294967301 1\n" reads refused 3
+    ∷ "O 1 5 4294967299\n" reads refused 3
     ∷ "X 17 5\n" reads refused 3
     ∷ "X 0 5\n" reads refused 3
     ∷ "X 1 -1\n" reads refused 3
     ∷ "X 1 999999999999999999999999999999\n" reads refused 3
     ∷ "N 1 0\n" reads refused 3
+    ∷ "N 1 1\n" reads says (N 1 1 [])
+    ∷ "N 1 18446744073709551615\n" reads says (N 1 18446744073709551615 [])
+    ∷ "N 1 18446744073709551616\n" reads refused 3
+    ∷ "N 1 100 18446744073709551613\n" reads says (N 1 100 (18446744073709551613 ∷ []))
+    ∷ "N 1 100 18446744073709551617\n" reads refused 3
     ∷ "N 1 100 0\n" reads refused 3
     ∷ "N 1 100 6\n" reads refused 3
     ∷ "N 1 100 1 5 9 13 17 21 25 29\n" reads says (N 1 100 (1 ∷ 5 ∷ 9 ∷ 13 ∷ 17 ∷ 21 ∷ 25 ∷ 29 ∷ []))
     ∷ "C 1 100 3 0 0 0 0\n" reads refused 3
     ∷ "C 1 100 233 0 0 0 0\n" reads refused 3
     ∷ "C 1 0 4 0 0 0 0\n" reads refused 3
+    ∷ "C 1 18446744073709551615 4 0 0 0 0\n" reads says (C 1 18446744073709551615 4 0 0 0 (pos 0))
+    ∷ "C 1 18446744073709551616 4 0 0 0 0\n" reads refused 3
+    ∷ "C 1 100 104 18446744073709551615 18446744073709551615 18446744073709551615 0\n" reads says (C 1 100 104 18446744073709551615 18446744073709551615 18446744073709551615 (pos 0))
+    ∷ "C 1 100 104 18446744073709551616 0 0 0\n" reads refused 3
+    ∷ "C 1 100 104 0 18446744073709551616 0 0\n" reads refused 3
+    ∷ "C 1 100 104 0 0 18446744073709551616 0\n" reads refused 3
     ∷ "C 1 100 31 5 1 0 0\n" reads refused 3
     ∷ "C 1 100 31 5 0 0 1\n" reads refused 3
     ∷ "C 1 100 19 0 0 0 -5\n" reads says (C 1 100 19 0 0 0 (negsuc 4))
@@ -59,6 +85,8 @@ worked =
     ∷ "R 1 31 9 2\n" reads refused 3
     ∷ "R 1 31 -9 1\n" reads refused 3
     ∷ "R 1 4 1 0\n" reads refused 3
+    ∷ "R 1 169 18446744073709551615 0\n" reads says (R 1 169 (pos 18446744073709551615) 0)
+    ∷ "R 1 169 18446744073709551616 0\n" reads refused 3
     -- classes
     ∷ "K 5 1\n" reads says (states (K 5 1))
     ∷ "K 1 4095\n" reads says (states (K 1 4095))
@@ -72,14 +100,14 @@ worked =
     ∷ "K 5 -1\n" reads refused 3
     ∷ "K 5 4294967297\n" reads refused 3
     ∷ "O 1 5 3\n" reads says (states (O 1 5 3))
-    ∷ "O 16 4294967295 4095\n" reads says (states (O 16 4294967295 4095))
+    ∷ "O 16 18446744073709551615 4095\n" reads says (states (O 16 18446744073709551615 4095))
     ∷ "O 1 5 1\n" reads says (states (O 1 5 1))
     ∷ "O 1 0 3\n" reads says (states (O 1 0 3))
     ∷ "O 1 8 3\n" reads says (states (O 1 8 3))
     ∷ "O 0 5 3\n" reads refused 3
     ∷ "O 17 5 3\n" reads refused 3
     ∷ "O -1 5 3\n" reads refused 3
-    ∷ "O 1 4294967296 3\n" reads refused 3
+    ∷ "O 1 18446744073709551616 3\n" reads refused 3
     ∷ "O 1 -5 3\n" reads refused 3
     ∷ "O 1 5 0\n" reads refused 3
     ∷ "O 1 5 4096\n" reads refused 3
@@ -116,24 +144,24 @@ pub worked-lines : map (λ (w : Worked). read (with-tabs (bytes (w .line)))) wor
 unfolding read of-fields fields numbers line-of of-letter read-on fact-of table
 worked-lines = refl
 
--- 128 and 129 bytes before the LF
+-- 224 and 225 bytes before the LF
 abbrev pub digits-then-line-feed : ℕ → List ℕ
 digits-then-line-feed n = with-tabs (bytes "X 1 ") ++ replicate n 57 ++ bytes "\n"
 
-pub longest-line : (length (digits-then-line-feed 124) ≡ 129) × (read (digits-then-line-feed 124) ≡ refused 3)
+pub longest-line : (length (digits-then-line-feed 220) ≡ 225) × (read (digits-then-line-feed 220) ≡ refused 3)
 unfolding read of-fields fields numbers line-of of-letter read-on fact-of table
 longest-line = (refl, refl)
 
-pub too-long : (length (digits-then-line-feed 125) ≡ 130) × (read (digits-then-line-feed 125) ≡ refused 1)
+pub too-long : (length (digits-then-line-feed 221) ≡ 226) × (read (digits-then-line-feed 221) ≡ refused 1)
 unfolding read of-fields fields numbers line-of of-letter read-on fact-of table
 too-long = (refl, refl)
 
 pub written-lines : (written (N 1 100 (5 ∷ [])) ≡ with-tabs (bytes "N 1 100 5\n"))
     × (written (C 1 100 19 0 0 0 (negsuc 4)) ≡ with-tabs (bytes "C 1 100 19 0 0 0 -5\n"))
     × (written (R 1 19 (negsuc 2147483647) 0) ≡ with-tabs (bytes "R 1 19 -2147483648 0\n"))
-    × (written (X 16 4294967295) ≡ with-tabs (bytes "X 16 4294967295\n"))
+    × (written (X 16 18446744073709551615) ≡ with-tabs (bytes "X 16 18446744073709551615\n"))
     × (written (states (K 4095 1)) ≡ with-tabs (bytes "K 4095 1\n"))
-    × (written (states (O 16 4294967295 4095)) ≡ with-tabs (bytes "O 16 4294967295 4095\n"))
+    × (written (states (O 16 18446744073709551615 4095)) ≡ with-tabs (bytes "O 16 18446744073709551615 4095\n"))
     × (written Z ≡ with-tabs (bytes "Z\n"))
 unfolding written tabbed digits digits-in
 written-lines = (refl, refl, refl, refl, refl, refl, refl)
@@ -154,13 +182,13 @@ abbrev pub told : List Told
 told =
     "N 1 100 5 9\n" tells Line (code "N") 4 and (1 ∷ 100 ∷ 5 ∷ 9 ∷ 0 ∷ 0 ∷ 0 ∷ 0 ∷ 0 ∷ 0 ∷ [])
     ∷ "N 1 100 1 5 9 13 17 21 25 29\n" tells Line (code "N") 10 and (1 ∷ 100 ∷ 1 ∷ 5 ∷ 9 ∷ 13 ∷ 17 ∷ 21 ∷ 25 ∷ 29 ∷ [])
-    ∷ "X 16 4294967295\n" tells Line (code "X") 2 and (16 ∷ 4294967295 ∷ 0 ∷ 0 ∷ 0 ∷ 0 ∷ 0 ∷ 0 ∷ 0 ∷ 0 ∷ [])
-    ∷ "C 1 100 19 0 0 0 -5\n" tells Line (code "C") 7 and (1 ∷ 100 ∷ 19 ∷ 0 ∷ 0 ∷ 0 ∷ 4294967291 ∷ 0 ∷ 0 ∷ 0 ∷ [])
-    ∷ "R 1 26 -1 1\n" tells Line (code "R") 4 and (1 ∷ 26 ∷ 4294967295 ∷ 1 ∷ 0 ∷ 0 ∷ 0 ∷ 0 ∷ 0 ∷ 0 ∷ [])
-    ∷ "R 1 19 -2147483648 0\n" tells Line (code "R") 4 and (1 ∷ 19 ∷ 2147483648 ∷ 0 ∷ 0 ∷ 0 ∷ 0 ∷ 0 ∷ 0 ∷ 0 ∷ [])
-    ∷ "R 1 169 4294967295 0\n" tells Line (code "R") 4 and (1 ∷ 169 ∷ 4294967295 ∷ 0 ∷ 0 ∷ 0 ∷ 0 ∷ 0 ∷ 0 ∷ 0 ∷ [])
+    ∷ "X 16 18446744073709551615\n" tells Line (code "X") 2 and (16 ∷ 18446744073709551615 ∷ 0 ∷ 0 ∷ 0 ∷ 0 ∷ 0 ∷ 0 ∷ 0 ∷ 0 ∷ [])
+    ∷ "C 1 100 19 0 0 0 -5\n" tells Line (code "C") 7 and (1 ∷ 100 ∷ 19 ∷ 0 ∷ 0 ∷ 0 ∷ 18446744073709551611 ∷ 0 ∷ 0 ∷ 0 ∷ [])
+    ∷ "R 1 26 -1 1\n" tells Line (code "R") 4 and (1 ∷ 26 ∷ 18446744073709551615 ∷ 1 ∷ 0 ∷ 0 ∷ 0 ∷ 0 ∷ 0 ∷ 0 ∷ [])
+    ∷ "R 1 19 -2147483648 0\n" tells Line (code "R") 4 and (1 ∷ 19 ∷ 18446744071562067968 ∷ 0 ∷ 0 ∷ 0 ∷ 0 ∷ 0 ∷ 0 ∷ 0 ∷ [])
+    ∷ "R 1 169 18446744073709551615 0\n" tells Line (code "R") 4 and (1 ∷ 169 ∷ 18446744073709551615 ∷ 0 ∷ 0 ∷ 0 ∷ 0 ∷ 0 ∷ 0 ∷ 0 ∷ [])
     ∷ "K 5 1\n" tells Line (code "K") 2 and (5 ∷ 1 ∷ 0 ∷ 0 ∷ 0 ∷ 0 ∷ 0 ∷ 0 ∷ 0 ∷ 0 ∷ [])
-    ∷ "O 16 4294967295 4095\n" tells Line (code "O") 3 and (16 ∷ 4294967295 ∷ 4095 ∷ 0 ∷ 0 ∷ 0 ∷ 0 ∷ 0 ∷ 0 ∷ 0 ∷ [])
+    ∷ "O 16 18446744073709551615 4095\n" tells Line (code "O") 3 and (16 ∷ 18446744073709551615 ∷ 4095 ∷ 0 ∷ 0 ∷ 0 ∷ 0 ∷ 0 ∷ 0 ∷ 0 ∷ [])
     ∷ "Z\n" tells Line (code "Z") 0 and replicate 10 0
     ∷ "N 1 100 1 5 9 13 17 21 25 29 33\n" tells Refused 2 and replicate 10 7
     ∷ "X 17 5\n" tells Refused 3 and replicate 10 7

@@ -1,5 +1,5 @@
 -- The reader's own bookkeeping: numbers as the code gathers them, and the line that they are; the law `made-numbers` (proofs/GatheredLaws.antt) ties it to Reading.antt. Assumes nothing.
-use Prim.Native.Nat.{ℕ, suc, _+_, _-_, _%_}
+use Prim.Native.Nat.{ℕ, suc, _+_, _-_}
 use mathlib.Core.Path.{_≡_}
 use mathlib.Core.Bool.{Bool, true, false, not, _&&_, _||_}
 use mathlib.Core.List.{List, [], _∷_}
@@ -47,7 +47,7 @@ abbrev pub gathered-as : Tally → List ℕ → Gathered
 gathered-as t vs = record { tally = t; values = vs }
 
 abbrev pub with-value : Gathered → ℕ → List ℕ
-with-value g n = set (g .values) (g .tally .count) (n % suc largest)
+with-value g n = set (g .values) (g .tally .count) n
 
 -- one field more; only that at place k may be negative
 abbrev pub and-field : ℕ → Gathered → Field → Gathered

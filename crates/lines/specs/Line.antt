@@ -117,7 +117,7 @@ module _ {ℓ} {A : Type ℓ} where
 
 -- handles, identities, buffers and envs go up to here
 abbrev pub largest : ℕ
-largest = 4294967295
+largest = 18446744073709551615
 
 abbrev pub threads : ℕ
 threads = 16
@@ -129,9 +129,9 @@ classes = 4095
 abbrev pub most-handles : ℕ
 most-handles = 8
 
--- a line has at most 128 bytes before LF
+-- a line has at most 224 bytes before LF
 abbrev pub longest : ℕ
-longest = 128
+longest = 224
 
 -- the kind of a handle: 1 local, 2 global, 3 weak; identities have 0
 abbrev pub kind : ℕ → ℕ

@@ -89,7 +89,7 @@ fn enter(v: [Handle; 10], n: usize) -> Event
         return Event::Refused(RANGE);
     }
     Event::Enter {
-        thread: v[0],
+        thread: v[0] as u32,
         env: v[1],
         count: (n - 2) as u32,
     }
@@ -102,7 +102,7 @@ fn leave(thread: Handle, result: Handle) -> Event
         return Event::Refused(RANGE);
     }
     Event::Leave {
-        thread: thread,
+        thread: thread as u32,
         result: result,
     }
 }
@@ -119,13 +119,17 @@ fn call(
 ) -> Event
     ensures { λ r. ⌜ r ≡ event-of (if-allowed (C thread env function a b c (signed minus n))) ⌝ }
 {
-    if !ranges::call_allows(thread, env, function, a, b, c, minus, n) {
+    if !ranges::is_function(function) {
+        return Event::Refused(RANGE);
+    }
+    let f = function as u32;
+    if !ranges::call_allows(thread, env, f, a, b, c, minus, n) {
         return Event::Refused(RANGE);
     }
     Event::Call {
-        thread: thread,
+        thread: thread as u32,
         env: env,
-        function: function,
+        function: f,
         a: a,
         b: b,
         c: c,
@@ -136,25 +140,29 @@ fn call(
 fn returns(thread: Handle, function: Handle, minus: bool, result: Handle, pending: Handle) -> Event
     ensures { λ r. ⌜ r ≡ event-of (if-allowed (R thread function (signed minus result) pending)) ⌝ }
 {
-    let k = facts::result_of(function);
-    if !ranges::return_allows(thread, function, k, minus, result, pending) {
+    if !ranges::is_function(function) {
+        return Event::Refused(RANGE);
+    }
+    let f = function as u32;
+    let k = facts::result_of(f);
+    if !ranges::return_allows(thread, f, k, minus, result, pending) {
         return Event::Refused(RANGE);
     }
     if ranges::is_status(k) {
         return Event::Return {
-            thread: thread,
-            function: function,
+            thread: thread as u32,
+            function: f,
             result: 0,
             status: ranges::int_of(minus, result),
-            pending: pending,
+            pending: pending as u32,
         };
     }
     Event::Return {
-        thread: thread,
-        function: function,
+        thread: thread as u32,
+        function: f,
         result: result,
         status: 0,
-        pending: pending,
+        pending: pending as u32,
     }
 }
 
@@ -165,8 +173,8 @@ fn declare(class: Handle, superclass: Handle) -> Event
         return Event::Refused(RANGE);
     }
     Event::Declare {
-        class: class,
-        superclass: superclass,
+        class: class as u32,
+        superclass: superclass as u32,
     }
 }
 
@@ -177,9 +185,9 @@ fn state(thread: Handle, handle: Handle, class: Handle) -> Event
         return Event::Refused(RANGE);
     }
     Event::State {
-        thread: thread,
+        thread: thread as u32,
         handle: handle,
-        class: class,
+        class: class as u32,
     }
 }
 

@@ -12,13 +12,9 @@ use words::Handle;
 use words::LARGEST;
 ghost use mathlib.Core.Path.{_≡_};
 ghost use mathlib.Core.List.{List};
-ghost use Prim.Native.Nat.{ℕ, suc, _<_, _%_};
-ghost use lib.ListN.{set};
-ghost use Rattle.lines.specs.Line.{largest};
+ghost use Prim.Native.Nat.{ℕ};
 ghost use Rattle.lines.specs.Reading.{fields, of-fields, read};
 ghost use Rattle.lines.specs.Gathered.{fields-from, letter-alone, nothing-yet, gathered-as, taken, gathered, made, said, Headed};
-
-const PAST_LARGEST: u64 = LARGEST as u64 + 1;
 
 // What was gathered of a line's numbers beside their sizes: how many (one past the most where one is no number or there are more),
 // whether one is out of range or below zero where none may be, whether one is below zero.
@@ -38,13 +34,6 @@ pub(crate) enum Head {
     Refused(u8),
 }
 
-fn put_value(values: &mut [Handle; 10], at: usize, n: u64)
-    requires { ⌜ at < 10 ⌝ }
-    ensures { λ r. ⌜ now (values .exit) ≡ set (now (values .entry)) at (n % suc largest) ⌝ }
-{
-    values[at] = (n % PAST_LARGEST) as Handle;
-}
-
 // One field more; only that at the place `signed` may be below zero.
 fn take_field(t: Tally, f: Field, signed: usize, values: &mut [Handle; 10]) -> Tally
     ensures { λ r. ⌜ gathered-as r (now (values .exit)) ≡ taken signed (gathered-as t (now (values .entry))) f ⌝ }
@@ -59,7 +48,7 @@ fn take_field(t: Tally, f: Field, signed: usize, values: &mut [Handle; 10]) -> T
     }
     match f {
         Field::Plus(n) => {
-            put_value(values, at, n);
+            values[at] = n;
             Tally {
                 count: at + 1,
                 out: t.out,
@@ -67,7 +56,7 @@ fn take_field(t: Tally, f: Field, signed: usize, values: &mut [Handle; 10]) -> T
             }
         }
         Field::Minus(n) => {
-            put_value(values, at, n);
+            values[at] = n;
             Tally {
                 count: at + 1,
                 out: t.out | (at != signed),
@@ -98,7 +87,7 @@ fn gather(s: &[u8], from: usize, signed: usize, values: &mut [Handle; 10]) -> Ta
     };
     let mut at = from;
     while at <= s.len() {
-        let found = numbers::read(s, at, TAB, LARGEST as u64);
+        let found = numbers::read(s, at, TAB, LARGEST);
         let field = found.field;
         let next = found.next;
         t = take_field(t, field, signed, values);

@@ -14,8 +14,8 @@ pub mod ranges; // ranges.rt: the ranges of those numbers
 pub const TAB: u8 = b'\t';
 
 pub const LINE_FEED: u8 = b'\n';
-// A line has at most 128 bytes before LF.
-pub const LONGEST: usize = 128;
+// A line has at most 224 bytes before LF.
+pub const LONGEST: usize = 224;
 
 // Thread, env and eight handles.
 pub const MOST_FIELDS: usize = 10;

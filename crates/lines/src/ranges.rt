@@ -27,9 +27,9 @@ pub const THREADS: u32 = 16;
 // Classes are numbered from 1 to here.
 pub const CLASSES: u32 = 4095;
 
-const FIRST_FUNCTION: u32 = 4;
+const FIRST_FUNCTION: Handle = 4;
 
-const LAST_FUNCTION: u32 = 232;
+const LAST_FUNCTION: Handle = 232;
 
 pub(crate) fn is_status(k: Result) -> bool
     ensures { λ r. ⌜ r ≡ is-status k ⌝ }
@@ -51,10 +51,10 @@ pub fn gives_status(f: u32) -> bool
     is_status(facts::result_of(f))
 }
 
-fn is_thread(t: u32) -> bool
+fn is_thread(t: Handle) -> bool
     ensures { λ r. ⌜ r ≡ is-thread t ⌝ }
 {
-    (1 <= t) & (t <= THREADS)
+    (1 <= t) & (t <= THREADS as Handle)
 }
 
 fn is_env(e: Handle) -> bool
@@ -63,16 +63,16 @@ fn is_env(e: Handle) -> bool
     (1 <= e) & (e <= LARGEST)
 }
 
-fn is_function(f: u32) -> bool
+pub(crate) fn is_function(f: Handle) -> bool
     ensures { λ r. ⌜ r ≡ is-function f ⌝ }
 {
     (FIRST_FUNCTION <= f) & (f <= LAST_FUNCTION)
 }
 
-fn is_class(c: u32) -> bool
+fn is_class(c: Handle) -> bool
     ensures { λ r. ⌜ r ≡ is-class c ⌝ }
 {
-    (1 <= c) & (c <= CLASSES)
+    (1 <= c) & (c <= CLASSES as Handle)
 }
 
 fn is_argument(h: Handle) -> bool
@@ -96,17 +96,11 @@ fn place_allows(p: Place, v: Handle) -> bool
     }
 }
 
-fn wide(n: Handle) -> u64
-    ensures { λ r. ⌜ r ≡ n ⌝ }
-{
-    n as u64
-}
-
 // A number of signed 32 bits.
 fn is_i32(minus: bool, size: Handle) -> bool
     ensures { λ r. ⌜ r ≡ is-i32 (signed minus size) ⌝ }
 {
-    match numbers::int_of(minus, wide(size)) {
+    match numbers::int_of(minus, size) {
         Int::Value(_) => true,
         Int::Out => false,
     }
@@ -116,7 +110,7 @@ pub(crate) fn int_of(minus: bool, size: Handle) -> i32
     requires { ⌜ is-i32 (signed minus size) ≡ true ⌝ }
     ensures { λ r. ⌜ r ≡ signed minus size ⌝ }
 {
-    match numbers::int_of(minus, wide(size)) {
+    match numbers::int_of(minus, size) {
         Int::Value(n) => n,
         Int::Out => 0,
     }
@@ -176,21 +170,21 @@ fn are_arguments(v: [Handle; 10], n: usize) -> bool
     ok
 }
 
-pub(crate) fn enter_allows(thread: u32, env: Handle, v: [Handle; 10], n: usize) -> bool
+pub(crate) fn enter_allows(thread: Handle, env: Handle, v: [Handle; 10], n: usize) -> bool
     requires { ⌜ n ≤ 10 ⌝ }
     ensures { λ r. ⌜ r ≡ is-allowed (N thread env (named n v)) ⌝ }
 {
     is_thread(thread) & is_env(env) & are_arguments(v, n)
 }
 
-pub(crate) fn leave_allows(thread: u32, result: Handle) -> bool
+pub(crate) fn leave_allows(thread: Handle, result: Handle) -> bool
     ensures { λ r. ⌜ r ≡ is-allowed (X thread result) ⌝ }
 {
     is_thread(thread) & (result <= LARGEST)
 }
 
 pub(crate) fn call_allows(
-    thread: u32,
+    thread: Handle,
     env: Handle,
     f: u32,
     a: Handle,
@@ -199,6 +193,7 @@ pub(crate) fn call_allows(
     minus: bool,
     n: Handle,
 ) -> bool
+    requires { ⌜ is-function f ≡ true ⌝ }
     ensures { λ r. ⌜ r ≡ is-allowed (C thread env f a b c (signed minus n)) ⌝ }
 {
     let at = facts::places::places_of(f);
@@ -207,7 +202,6 @@ pub(crate) fn call_allows(
     let pc = at.c;
     is_thread(thread)
         & is_env(env)
-        & is_function(f)
         & place_allows(pa, a)
         & place_allows(pb, b)
         & place_allows(pc, c)
@@ -216,26 +210,26 @@ pub(crate) fn call_allows(
 
 // `k` is what the function gives back.
 pub(crate) fn return_allows(
-    thread: u32,
+    thread: Handle,
     f: u32,
     k: Result,
     minus: bool,
     result: Handle,
-    pending: u32,
+    pending: Handle,
 ) -> bool
-    requires { ⌜ k ≡ fact-of f .result ⌝ }
+    requires { ⌜ (is-function f ≡ true) × (k ≡ fact-of f .result) ⌝ }
     ensures { λ r. ⌜ r ≡ is-allowed (R thread f (signed minus result) pending) ⌝ }
 {
-    is_thread(thread) & is_function(f) & result_allows(k, minus, result) & (pending <= 1)
+    is_thread(thread) & result_allows(k, minus, result) & (pending <= 1)
 }
 
-pub(crate) fn declare_allows(class: u32, superclass: u32) -> bool
+pub(crate) fn declare_allows(class: Handle, superclass: Handle) -> bool
     ensures { λ r. ⌜ r ≡ is-allowed (states (K class superclass)) ⌝ }
 {
     is_class(class) & is_class(superclass)
 }
 
-pub(crate) fn state_allows(thread: u32, handle: Handle, class: u32) -> bool
+pub(crate) fn state_allows(thread: Handle, handle: Handle, class: Handle) -> bool
     ensures { λ r. ⌜ r ≡ is-allowed (states (O thread handle class)) ⌝ }
 {
     is_thread(thread) & (handle <= LARGEST) & is_class(class)

@@ -74,7 +74,7 @@ module _ (s : List ℕ) (n : ℕ) (size : piece-length s ≡ suc n) where
   pub line-first : getD s n 0 ≡ line-feed → lines-of s ≡ take (suc n) s ∷ lines-of (drop (suc n) s)
   line-first e = ended-line n s none-in (piece-some s n size .1) e
 
-  -- any other is 129 bytes
+  -- any other is 225 bytes
   unended-long : getD s n 0 ≢ line-feed → n ≡ longest
   unended-long other = let at = piece-some s n size in go (ltb n longest) refl at
     where

@@ -77,7 +77,7 @@ module _ {A : Type 0} (f : A → Bool) where
       go true h ih = refl
       go false h ih = ap suc (ih (omega arith))
 
--- ---- where at most 128 bytes are counted
+-- ---- where at most 224 bytes are counted
 
 pub before-short : (s : List ℕ) → length s ≤ longest → place-of ends-line s ≡ before-lf s
 unfolding before-lf
@@ -95,7 +95,7 @@ pub none-first : (s : List ℕ) → any ends-line (take (before-lf s) s) ≡ fal
 unfolding before-lf
 none-first s = none-before ends-line longest s
 
--- where fewer than 128 were counted, an LF stands there
+-- where fewer than 224 were counted, an LF stands there
 pub lf-there : (s : List ℕ) → before-lf s < longest → before-lf s < length s → ends-line (getD s (before-lf s) 0) ≡ true
 unfolding before-lf
 lf-there s h l =

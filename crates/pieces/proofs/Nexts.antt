@@ -63,7 +63,7 @@ comes ended s x h = subst (Comes ended s) h (go ended (piece-length s) (length s
     go true zero zero t size all = is-end t all
     go true zero (suc m) t size all = is-rest m t size all
 
--- a line has a byte at least, and 129 at most
+-- a line has a byte at least, and 225 at most
 pub record Line-next (s : List ℕ) (n : ℕ) : Type 0 where
   pub some : 0 < n
   pub within : n ≤ length s
@@ -76,7 +76,7 @@ line-next ended s n h = go n (comes ended s (Next.Line n) h)
     go _ (is-piece p size) = record { some = omega arith; within = omega (arith, piece-within s); short = omega (arith, piece-within s) }
     go _ (is-rest m t size all) = record { some = omega arith; within = omega arith; short = omega (arith, piece-none s size) }
 
--- more is read only where at most 128 bytes are unread
+-- more is read only where at most 224 bytes are unread
 pub more-next : (ended : Bool) (s : List ℕ) → next-of ended s ≡ Next.More → (ended ≡ false) × (length s ≤ longest)
 more-next ended s h = go (comes ended s Next.More h)
   where

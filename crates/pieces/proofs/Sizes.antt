@@ -38,7 +38,7 @@ module _ (s : List ℕ) where
   pub piece-within : (piece-length s ≤ length s) × (piece-length s ≤ suc longest)
   piece-within = let m = before-most s in sized (λ l e. (omega arith, omega arith)) (λ l e. (omega arith, omega arith))
 
-  -- more is read only where at most 128 bytes are left and none is an LF
+  -- more is read only where at most 224 bytes are left and none is an LF
   pub piece-none : piece-length s ≡ 0 → (length s ≤ longest) × (any ends-line s ≡ false)
   piece-none h = let l = all-counted h in let m = before-most s in (omega arith, lf-nowhere s l)
 

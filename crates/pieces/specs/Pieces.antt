@@ -15,11 +15,11 @@ use Rattle.pieces.specs.declared.Next.the-variants as Next
 abbrev pub ends-line : ℕ → Bool
 ends-line b = eqb b line-feed
 
--- how many bytes stand before the first LF, where at most 128 are counted
+-- how many bytes stand before the first LF, where at most 224 are counted
 unfoldable pub before-lf : List ℕ → ℕ
 before-lf s = place-of ends-line (take longest s)
 
--- these and the byte after them: a line with its LF, or 129 bytes that no LF ends; 0: none before more are read
+-- these and the byte after them: a line with its LF, or 225 bytes that no LF ends; 0: none before more are read
 unfoldable pub piece-length : List ℕ → ℕ
 piece-length s = if ltb (before-lf s) (length s) then suc (before-lf s) else 0
 

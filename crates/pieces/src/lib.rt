@@ -40,7 +40,7 @@ pub enum Next {
     End,
 }
 
-// What comes next of the unread bytes, behind which the input may have ended: a line with its LF, or 129 bytes that no LF ends.
+// What comes next of the unread bytes, behind which the input may have ended: a line with its LF, or 225 bytes that no LF ends.
 // At the end the rest is a line too, without its LF.
 pub fn next_line(s: &[u8], ended: bool) -> Next
     ensures { λ r. ⌜ r ≡ next-of ended (now (s .entry)) ⌝ }

@@ -1,4 +1,4 @@
--- Why the program ends: a turn that goes on has accepted a line, has read a byte or has found the end of the input, and a byte read is one of at most 129
+-- Why the program ends: a turn that goes on has accepted a line, has read a byte or has found the end of the input, and a byte read is one of at most 225
 -- of an accepted line or one of a buffer of those that are unread. Assumes nothing.
 use Prim.Native.Nat.{ℕ, suc, _+_, _*_, _-_, _≤_}
 use mathlib.Core.Bool.{Bool, true, false}

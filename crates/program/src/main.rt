@@ -5,9 +5,11 @@ mod listing; // listing.rt: the leaks
 mod streams; // streams.rt: standard input and standard output
 
 use arguments::Asked;
+use classes::Class;
 use libc::STDERR_FILENO;
 use libc::STDIN_FILENO;
 use libc::STDOUT_FILENO;
+use rows::Number;
 use run::Passed;
 use run::Stop;
 use streams::Streams;
@@ -25,7 +27,7 @@ ghost use Rattle.program.specs.Progress.{buffer-size, most-findings, Few
 ghost use Rattle.program.specs.Running.{Unread, More-read, Fits, Turned, last-line, Finished, Ends, Good, Records-left, Leaks-left};
 
 // The program lends so many reference and pin rows.
-const REFERENCE_ROWS: usize = 2048;
+const REFERENCE_ROWS: usize = 1024;
 
 const PIN_ROWS: usize = 256;
 
@@ -181,7 +183,7 @@ fn piece_end(from: usize, count: usize) -> usize
 fn print_leaks(
     before: Streams,
     moved: &mut usize,
-    records: &[u32; LEAK_NUMBERS],
+    records: &[Number; LEAK_NUMBERS],
     count: usize,
     out: &mut [u8; BUFFER],
 ) -> Streams
@@ -206,9 +208,9 @@ fn print_leaks(
 fn add_leaks(
     streams: Streams,
     moved: &mut usize,
-    rows: &[u32; REFERENCE_NUMBERS],
+    rows: &[Number; REFERENCE_NUMBERS],
     marks: &[u64; REFERENCE_MARKS],
-    pins: &[u32; PIN_NUMBERS],
+    pins: &[Number; PIN_NUMBERS],
     pinmarks: &[u64; PIN_MARKS],
     book: &[u64; BOOK_NUMBERS],
     out: &mut [u8; BUFFER],
@@ -227,12 +229,12 @@ fn add_leaks(
 fn judge_all(
     leaks: bool,
     buf: &mut [u8],
-    rows: &mut [u32; REFERENCE_NUMBERS],
+    rows: &mut [Number; REFERENCE_NUMBERS],
     marks: &mut [u64; REFERENCE_MARKS],
-    pins: &mut [u32; PIN_NUMBERS],
+    pins: &mut [Number; PIN_NUMBERS],
     pinmarks: &mut [u64; PIN_MARKS],
     book: &mut [u64; BOOK_NUMBERS],
-    classes: &mut [u32; CLASS_NUMBERS],
+    classes: &mut [Class; CLASS_NUMBERS],
     out: &mut [u8; BUFFER],
 ) -> Streams
     requires { ⌜ length (now buf) ≡ buffer-size ⌝ }

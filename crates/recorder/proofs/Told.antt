@@ -25,7 +25,7 @@ use Rattle.lines.specs.declared.Wrote.the-variants as Wrote
 use Rattle.lines.proofs.Fits.{length-written}
 use Rattle.recorder.specs.Told.{told}
 
--- ---- a line has at most 128 bytes before LF
+-- ---- a line has at most 224 bytes before LF
 
 abbrev is-written : Wrote → Bool
 is-written (Wrote.Bytes n) = true

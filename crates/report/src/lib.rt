@@ -32,14 +32,14 @@ fn has_room(len: usize, at: usize, w: usize) -> bool
 }
 
 // How long a number is with the byte after it.
-fn field_width(n: u32) -> usize
+fn field_width(n: Handle) -> usize
     ensures { λ r. ⌜ (r ≡ suc (length (digits n))) × (r ≤ 21) ⌝ }
 {
-    numbers::width(n as u64) + 1
+    numbers::width(n) + 1
 }
 
 // How long the last three fields of a line are.
-fn three_width(a: u32, b: u32, c: u32) -> usize
+fn three_width(a: Handle, b: Handle, c: Handle) -> usize
     ensures { λ r. ⌜ (r ≡ length (three-fields a b c)) × (r ≤ 63) ⌝ }
 {
     field_width(a) + field_width(b) + field_width(c)
@@ -48,15 +48,15 @@ fn three_width(a: u32, b: u32, c: u32) -> usize
 fn finding_width(f: Finding) -> usize
     ensures { λ r. ⌜ (r ≡ length (shown-finding f)) × (r ≤ 84) ⌝ }
 {
-    field_width(f.line) + three_width(f.rule, f.place, f.thing)
+    field_width(f.line as Handle) + three_width(f.rule as Handle, f.place as Handle, f.thing)
 }
 
 // A number and the byte after it, where there is room; what is past them.
-fn put_field(d: &mut [u8], at: usize, n: u32, after: u8) -> usize
+fn put_field(d: &mut [u8], at: usize, n: Handle, after: u8) -> usize
     requires { ⌜ at + length (field-with n after) ≤ length (now d) ⌝ }
     ensures { λ r. ⌜ Fills (now (d .entry)) at (field-with n after) r (now (d .exit)) ⌝ }
 {
-    match numbers::write(d, at, n as u64) {
+    match numbers::write(d, at, n) {
         Room::To(p) => {
             d[p] = after;
             p + 1
@@ -65,7 +65,7 @@ fn put_field(d: &mut [u8], at: usize, n: u32, after: u8) -> usize
     }
 }
 
-fn put_three(d: &mut [u8], at: usize, a: u32, b: u32, c: u32) -> usize
+fn put_three(d: &mut [u8], at: usize, a: Handle, b: Handle, c: Handle) -> usize
     requires { ⌜ at + length (three-fields a b c) ≤ length (now d) ⌝ }
     ensures { λ r. ⌜ Fills (now (d .entry)) at (three-fields a b c) r (now (d .exit)) ⌝ }
 {
@@ -78,8 +78,8 @@ fn put_finding(d: &mut [u8], at: usize, f: Finding) -> usize
     requires { ⌜ at + length (shown-finding f) ≤ length (now d) ⌝ }
     ensures { λ r. ⌜ Fills (now (d .entry)) at (shown-finding f) r (now (d .exit)) ⌝ }
 {
-    let i = put_field(d, at, f.line, TAB);
-    put_three(d, i, f.rule, f.place, f.thing)
+    let i = put_field(d, at, f.line as Handle, TAB);
+    put_three(d, i, f.rule as Handle, f.place as Handle, f.thing)
 }
 
 // How many findings an answer has.
@@ -175,7 +175,7 @@ fn put_head(d: &mut [u8], at: usize, closed: bool, refusal: u8) -> usize
 pub fn end_width(closed: bool, lines: u32, refusal: u8, printed: u32) -> usize
     ensures { λ r. ⌜ (r ≡ length (end-line closed lines refusal printed)) × (r ≤ 75) ⌝ }
 {
-    head_width(closed, refusal) + three_width(lines, refusal as u32, printed)
+    head_width(closed, refusal) + three_width(lines as Handle, refusal as Handle, printed as Handle)
 }
 
 // Writes the last line of a report at a place; where there is no room nothing is written.
@@ -191,7 +191,13 @@ pub fn put_end(
 {
     if has_room(out.len(), at, end_width(closed, lines, refusal, printed)) {
         let i = put_head(out, at, closed, refusal);
-        return Room::To(put_three(out, i, lines, refusal as u32, printed));
+        return Room::To(put_three(
+            out,
+            i,
+            lines as Handle,
+            refusal as Handle,
+            printed as Handle,
+        ));
     }
     Room::Short
 }

@@ -29,14 +29,14 @@ pub record Passes (ended : Bool) (size : ℕ) (T : Tables) (s : List ℕ) (r : R
   -- the run of the input is this one and what comes behind, after whatever was found before
   pub same : (before : List Finding) (next : List ℕ) → Behind ended next
       → run-in T before (lines-of (s ++ next)) ≡ from-stop (r .stop) (r .left) (before ++ r .found) (drop (r .taken) s ++ next)
-  -- so many lines were accepted: each has a byte at least and 129 at most, and at most six findings
+  -- so many lines were accepted: each has a byte at least and 225 at most, and at most six findings
   pub lines : ℕ
   pub follows : (n : ℕ) → Follows T n → Follows (r .left) (n + lines)
   pub within : r .taken ≤ length s
   pub some : lines ≤ r .taken
   pub covered : r .taken ≤ suc longest * lines
   pub few : length (r .found) ≤ most-found * lines
-  -- more is asked for only before the end of the input, and where at most 128 bytes are unread
+  -- more is asked for only before the end of the input, and where at most 224 bytes are unread
   pub more : r .stop ≡ Stop.More → (ended ≡ false) × (length (drop (r .taken) s) ≤ longest)
   -- a slice that has room at first is full only after a line
   pub full : r .stop ≡ Stop.Full → most-shown ≤ size → 1 ≤ lines

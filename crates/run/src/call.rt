@@ -3,6 +3,7 @@ use crate::kept;
 use crate::kept_pins;
 use answers::Answer;
 use book::Top;
+use classes::Class;
 use facts::Place;
 use rows::Number;
 use words::Handle;
@@ -35,7 +36,13 @@ fn end_top(rows: &mut [Number], marks: &mut [u64], guide: &mut [u64], book: &[u6
     ensures guided { λ _. ⌜ Guides (table (now (rows .exit)) (now (marks .exit))) (now (guide .exit)) ⌝ }
 {
     if act::call::pops(book, t, f) {
-        kept::end_frames(rows, marks, guide, t, book::frames_of(book, t));
+        kept::end_frames(
+            rows,
+            marks,
+            guide,
+            t as Number,
+            book::frames_of(book, t) as Number,
+        );
     }
 }
 
@@ -90,7 +97,7 @@ pub(crate) fn call(
     pinmarks: &mut [u64],
     pinguide: &mut [u64],
     book: &mut [u64],
-    classes: &[Number],
+    classes: &[Class],
     top: Top,
     many: u32,
     line: u32,

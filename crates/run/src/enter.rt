@@ -40,11 +40,11 @@ fn take_all(
             marks,
             guide,
             Reference {
-                thread: t,
+                thread: t as Number,
                 handle: hs[i],
-                frame: d,
-                line,
-                class: NO_CLASS,
+                frame: d as Number,
+                line: line as Number,
+                class: NO_CLASS as Number,
             },
         );
         i += 1;

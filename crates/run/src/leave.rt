@@ -22,7 +22,7 @@ fn act_on(rows: &mut [Number], marks: &mut [u64], guide: &mut [u64], book: &mut 
     ensures guided { λ _. ⌜ Guides (table (now (rows .exit)) (now (marks .exit))) (now (guide .exit)) ⌝ }
 {
     let d = book::frames_left(book, t);
-    kept::end_frames(rows, marks, guide, t, d + 1);
+    kept::end_frames(rows, marks, guide, t as Number, (d + 1) as Number);
     act::leave::write_book(book, t);
 }
 

@@ -11,8 +11,10 @@ mod state;
 mod step;
 
 use answers::Answer;
+use classes::Class;
 use pieces::Next;
 use report::MOST_SHOWN;
+use rows::Number;
 ghost use mathlib.Core.Path.{_≡_};
 ghost use mathlib.Core.Bool.{false};
 ghost use mathlib.Core.List.{List};
@@ -121,7 +123,7 @@ fn heard(way: Way, answer: Answer, input: &[u8], ended: bool, out: &mut [u8]) ->
 const SHORT: usize = 4096;
 
 // A piece of so many bytes is judged by scans; so is any where the book is not fit, since it stops at its first line.
-fn is_scanned(n: usize, book: &[u64], classes: &[u32]) -> bool
+fn is_scanned(n: usize, book: &[u64], classes: &[Class]) -> bool
     ensures { λ r. ⌜ ((rs ms ps ns : List ℕ) → r ≡ false → by-tables (tables rs ms ps ns (now (book .entry)) (now (classes .entry))) ≡ 8 → ⊥) ⌝ }
 {
     if n < SHORT {
@@ -159,12 +161,12 @@ fn how_far(way: Way) -> Passed
 fn run_by_scans(
     input: &[u8],
     ended: bool,
-    rows: &mut [u32],
+    rows: &mut [Number],
     marks: &mut [u64],
-    pins: &mut [u32],
+    pins: &mut [Number],
     pinmarks: &mut [u64],
     book: &mut [u64],
-    classes: &mut [u32],
+    classes: &mut [Class],
     out: &mut [u8],
 ) -> Passed
     ensures { λ r. ⌜ leaves r (tables (now (rows .exit)) (now (marks .exit)) (now (pins .exit)) (now (pinmarks .exit)) (now (book .exit)) (now (classes .exit))) (now (out .exit)) ≡ piece-outcome ended (tables (now (rows .entry)) (now (marks .entry)) (now (pins .entry)) (now (pinmarks .entry)) (now (book .entry)) (now (classes .entry))) (now (input .entry)) (now (out .entry)) ⌝ }
@@ -183,12 +185,12 @@ fn run_by_scans(
 fn run_by_guides(
     input: &[u8],
     ended: bool,
-    rows: &mut [u32],
+    rows: &mut [Number],
     marks: &mut [u64],
-    pins: &mut [u32],
+    pins: &mut [Number],
     pinmarks: &mut [u64],
     book: &mut [u64],
-    classes: &mut [u32],
+    classes: &mut [Class],
     out: &mut [u8],
 ) -> Passed
     requires { ⌜ (by-tables (tables (now rows) (now marks) (now pins) (now pinmarks) (now book) (now classes)) ≡ 8 → ⊥) ⌝ }
@@ -225,12 +227,12 @@ fn run_by_guides(
 pub fn run_lines(
     input: &[u8],
     ended: bool,
-    rows: &mut [u32],
+    rows: &mut [Number],
     marks: &mut [u64],
-    pins: &mut [u32],
+    pins: &mut [Number],
     pinmarks: &mut [u64],
     book: &mut [u64],
-    classes: &mut [u32],
+    classes: &mut [Class],
     out: &mut [u8],
 ) -> Passed
     ensures { λ r. ⌜ leaves r (tables (now (rows .exit)) (now (marks .exit)) (now (pins .exit)) (now (pinmarks .exit)) (now (book .exit)) (now (classes .exit))) (now (out .exit)) ≡ piece-outcome ended (tables (now (rows .entry)) (now (marks .entry)) (now (pins .entry)) (now (pinmarks .entry)) (now (book .entry)) (now (classes .entry))) (now (input .entry)) (now (out .entry)) ⌝ }

@@ -67,10 +67,10 @@ fn get(
     if is_buffer_result(kind) & (h != 0) {
         let k = facts::family(f);
         let x = Pin {
-            thread: act::owner::pin_owner(t, k),
-            family: k,
+            thread: act::owner::pin_owner(t, k) as Number,
+            family: k as Number,
             buffer: h,
-            line,
+            line: line as Number,
         };
         kept_pins::store(pins, pinmarks, pinguide, row, x);
     }

@@ -1,5 +1,6 @@
 // O: weighed by the guide; where it is accepted, the class of its handle is stated.
 use answers::Answer;
+use classes::Class;
 use rows::Number;
 use words::Handle;
 ghost use mathlib.Core.Path.{_≡_};
@@ -18,7 +19,7 @@ pub(crate) fn state(
     marks: &[u64],
     guide: &[u64],
     book: &mut [u64],
-    classes: &[Number],
+    classes: &[Class],
     t: u32,
     h: Handle,
     c: u32,

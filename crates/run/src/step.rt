@@ -7,6 +7,7 @@ use crate::returns;
 use crate::state;
 use answers::Answer;
 use book::Top;
+use classes::Class;
 use judge::items;
 use lines::Event;
 use rows::Number;
@@ -44,7 +45,7 @@ fn on_event(
     pinmarks: &mut [u64],
     pinguide: &mut [u64],
     book: &mut [u64],
-    classes: &mut [Number],
+    classes: &mut [Class],
     top: Top,
     many: u32,
     line: u32,
@@ -151,7 +152,7 @@ pub(crate) fn step(
     pinmarks: &mut [u64],
     pinguide: &mut [u64],
     book: &mut [u64],
-    classes: &mut [Number],
+    classes: &mut [Class],
     touched: &mut u32,
 ) -> Answer
     requires { ⌜ Guides (table (now rows) (now marks)) (now guide) × PinGuides (table (now pins) (now pinmarks)) (now pinguide) × Fit-but (tables (now rows) (now marks) (now pins) (now pinmarks) (now book) (now classes)) (now touched) ⌝ }

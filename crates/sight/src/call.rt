@@ -2,6 +2,7 @@
 use crate::seen::in_critical;
 use crate::spot::Spot;
 use crate::spot::place;
+use classes::Class;
 use facts::Place;
 use facts::classes::NO_CLASS;
 use rows::Number;
@@ -14,7 +15,7 @@ ghost use Rattle.tables.specs.Tables.{tables};
 ghost use Rattle.sight.specs.Sights.{call-sight};
 
 pub struct CallSight {
-    pub env: u64,
+    pub env: Handle,
     pub pending: u64,
     pub monitors: u64,
     pub pushed: bool,
@@ -35,7 +36,7 @@ pub fn call(
     pinmarks: &[u64],
     pinguide: &[u64],
     book: &[u64],
-    classes: &[Number],
+    classes: &[Class],
     t: u32,
     f: u32,
     a: Handle,

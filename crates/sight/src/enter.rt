@@ -13,7 +13,7 @@ ghost use Rattle.sight.specs.Sights.{some-alive, enter-sight};
 
 // The thread's env, whether another thread has this one, whether a handle named is alive, how many rows are free, and the thread's frames.
 pub struct EnterSight {
-    pub env: u64,
+    pub env: Handle,
     pub elsewhere: bool,
     pub alive: bool,
     pub free: usize,
@@ -47,7 +47,7 @@ pub fn enter(
     ensures { λ r. ⌜ ((ps ns cs : List ℕ) → r ≡ enter-sight (tables (now (rows .entry)) (now (marks .entry)) ps ns (now (book .entry)) cs) t env (now (hs .entry))) ⌝ }
 {
     let own = book::env_of(book, t);
-    let elsewhere = book::env_elsewhere(book, t, env as u64);
+    let elsewhere = book::env_elsewhere(book, t, env);
     let alive = some_alive(rows, marks, guide, t, hs);
     let room = rows::references::room(rows, marks);
     let used = used_rows(rows, marks, guide);

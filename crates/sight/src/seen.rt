@@ -23,7 +23,7 @@ pub(crate) fn row_of(rows: &[Number], marks: &[u64], guide: &[u64], t: u32, h: H
     requires { ⌜ Leads (table (now rows) (now marks)) (now guide) ⌝ }
     ensures { λ r. ⌜ r ≡ found references (is-handle t h) (table (now (rows .entry)) (now (marks .entry))) ⌝ }
 {
-    guide::references::find(rows, marks, guide, t, h)
+    guide::references::find(rows, marks, guide, t as Number, h)
 }
 
 // The lowest row of buffer b of family f, of thread t, or the room.
@@ -38,7 +38,7 @@ pub(crate) fn pin_row_of(
     requires { ⌜ PinLeads (table (now rows) (now marks)) (now guide) ⌝ }
     ensures { λ r. ⌜ r ≡ found pins (is-buffer t f b) (table (now (rows .entry)) (now (marks .entry))) ⌝ }
 {
-    guide::pins::find(rows, marks, guide, t, f, b)
+    guide::pins::find(rows, marks, guide, t as Number, f as Number, b)
 }
 
 // A local is alive in the thread.
@@ -69,9 +69,9 @@ pub(crate) fn alive_in(rows: &[Number], marks: &[u64], guide: &[u64], t: u32, d:
         return 0;
     }
     if (guide.len() == 0) | (THREADS < t) | (FRAMES < d) {
-        return rows::references::count(rows, marks, t, d);
+        return rows::references::count(rows, marks, t as Number, d as Number);
     }
-    guide::references::held(guide, t, d) as usize
+    guide::references::held(guide, t as Number, d as Number) as usize
 }
 
 // How many rows are used.
@@ -102,7 +102,7 @@ pub(crate) fn in_critical(pins: &[Number], pinmarks: &[u64], pinguide: &[u64], t
         return false;
     }
     if (pinguide.len() == 0) | (THREADS < t) {
-        return rows::pins::outstanding(pins, pinmarks, t);
+        return rows::pins::outstanding(pins, pinmarks, t as Number);
     }
-    0 < guide::pins::held(pinguide, t)
+    0 < guide::pins::held(pinguide, t as Number)
 }

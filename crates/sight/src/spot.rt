@@ -1,6 +1,7 @@
 // What stands at a place: whether it is alive or outstanding, the row that was found for it, and whether its stated class is right there.
 use crate::seen::pin_row_of;
 use crate::seen::row_of;
+use classes::Class;
 use facts::Place;
 use facts::classes::NO_CLASS;
 use facts::handles::IDENTITY;
@@ -82,7 +83,7 @@ fn judged(
     rows: &[Number],
     marks: &[u64],
     guide: &[u64],
-    classes: &[Number],
+    classes: &[Class],
     fixed: u32,
     t: u32,
     h: Handle,
@@ -134,7 +135,7 @@ pub(crate) fn place(
     pins: &[Number],
     pinmarks: &[u64],
     pinguide: &[u64],
-    classes: &[Number],
+    classes: &[Class],
     p: Place,
     fixed: u32,
     t: u32,

@@ -1,5 +1,6 @@
 // O: what its refusals look at, and the row of the handle.
 use crate::spot::handle;
+use classes::Class;
 use rows::Number;
 use words::Handle;
 ghost use mathlib.Core.Path.{_≡_};
@@ -21,7 +22,7 @@ pub fn state(
     rows: &[Number],
     marks: &[u64],
     guide: &[u64],
-    classes: &[Number],
+    classes: &[Class],
     t: u32,
     h: Handle,
     c: u32,

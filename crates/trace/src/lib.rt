@@ -1,4 +1,5 @@
 // The judging of a whole lent trace: its report's bytes in a lent slice.
+use classes::Class;
 use rows::Number;
 use run::Passed;
 use run::Stop;
@@ -124,7 +125,7 @@ fn report_into(
     pins: &mut [Number],
     pinmarks: &mut [u64],
     book: &mut [u64],
-    classes: &mut [Number],
+    classes: &mut [Class],
     out: &mut [u8],
 ) -> usize
     requires { ⌜ (whole ≤ length (now book)) × (all-classes ≤ length (now classes)) ⌝ }
@@ -166,7 +167,7 @@ pub fn judge_trace(
     pins: &mut [Number],
     pinmarks: &mut [u64],
     book: &mut [u64],
-    classes: &mut [Number],
+    classes: &mut [Class],
     out: &mut [u8],
 ) -> Reported
     ensures { λ r. ⌜ leaves r (tables (now (rows .exit)) (now (marks .exit)) (now (pins .exit)) (now (pinmarks .exit)) (now (book .exit)) (now (classes .exit))) (now (out .exit)) ≡ whole-outcome (tables (now (rows .entry)) (now (marks .entry)) (now (pins .entry)) (now (pinmarks .entry)) (now (book .entry)) (now (classes .entry))) (now (trace .entry)) (now (out .entry)) ⌝ }

@@ -64,7 +64,7 @@ fn judge(seen: CallSight, line: u32, env: Handle, f: u32, a: Handle, b: Handle, 
     let critical = against_critical(seen.critical, f);
     Judged {
         line,
-        foreign: env as u64 != seen.env,
+        foreign: env != seen.env,
         env,
         pending,
         critical,

@@ -20,7 +20,7 @@ pub fn in_turn(closed: bool, top: Top) -> bool
 fn env_fits(seen: EnterSight, env: Handle) -> bool
     ensures { λ r. ⌜ r ≡ env-fits env seen ⌝ }
 {
-    ((seen.env == 0) | (seen.env == env as u64)) & !seen.elsewhere
+    ((seen.env == 0) | (seen.env == env)) & !seen.elsewhere
 }
 
 // h is one of the handles from a place on.

@@ -1,7 +1,7 @@
 // The words that all definitions share, and the type of what a line numbers.
 
 // A handle; identities, buffers and envs are numbered alike.
-pub type Handle = u32;
+pub type Handle = u64;
 
 // They go up to here.
-pub const LARGEST: Handle = 4294967295;
+pub const LARGEST: Handle = 18446744073709551615;

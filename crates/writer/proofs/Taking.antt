@@ -2,14 +2,12 @@
 use mathlib.Core.Path.{_≡_, refl, ap, sym, subst, _∙_}
 use mathlib.Core.Bool.{Bool, true, false, _&&_}
 use mathlib.Core.List.{List, [], _∷_}
-use Prim.Native.Nat.{ℕ, suc, _+_, _^_, _≤_, _<_}
+use Prim.Native.Nat.{ℕ, suc, _+_, _≤_}
 use Prim.Native.Char.{code}
 use native.Mathlib.Omega.{arith}
 use lib.Dec.{eqb, leb}
 use lib.IntN.{ℤ, pos, negsuc, natAbs}
 use lib.ListN.{length, getD, take}
-use mir.Syntax.{w32}
-use mir.Val.{SFits}
 use types.Run.{OneOf}
 use denote.Enum.Declared.{tagOf}
 use borrow.Author.Tests.{leb-true, ne-eqb}
@@ -35,11 +33,6 @@ use Rattle.lines.proofs.Answered.{event-refused, line-tags, event-said}
 use Rattle.writer.specs.Laid.{Writes, Answers}
 use Rattle.writer.specs.Apart.{are-empty, apart-return, apart}
 use Rattle.writer.specs.declared.apart.Taken.{Taken}
-
--- the size of a signed number fits a handle
-pub size-fits : (n : ℤ) {m : ℕ} → SFits w32 n → m ≡ natAbs n → m < 2 ^ 32
-size-fits (pos n) f e = let h : n < 2 ^ 31 = f .sfits in omega arith
-size-fits (negsuc n) f e = let h : n < 2 ^ 31 = f .sfits in omega arith
 
 pub zero-size : (n : ℤ) → eqb (natAbs n) 0 ≡ is-zero n
 zero-size (pos n) = refl

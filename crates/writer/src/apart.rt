@@ -3,7 +3,6 @@ use lines::Event;
 use lines::ranges;
 use words::Handle;
 ghost use mathlib.Core.Path.{_≡_};
-ghost use lib.IntN.{natAbs};
 ghost use Rattle.writer.specs.Apart.{are-empty, apart, apart-return};
 
 // The letter, how many numbers there are, their sizes at the front, and whether the one that may be below zero is;
@@ -17,13 +16,6 @@ pub(crate) struct Taken {
 }
 
 const MOST_HANDLES: u32 = 8;
-
-// The size of a signed number.
-fn size_of(n: i32) -> Handle
-    ensures { λ r. ⌜ r ≡ natAbs n ⌝ }
-{
-    numbers::size_of(n) as Handle
-}
 
 // No slot from n on names a handle.
 fn are_empty(h: [Handle; 8], n: u32) -> bool
@@ -50,13 +42,16 @@ fn take_return(
 ) -> Taken
     ensures { λ r. ⌜ r ≡ apart-return thread function result status pending empty ⌝ }
 {
+    let t = thread as Handle;
+    let f = function as Handle;
+    let p = pending as Handle;
     if ranges::gives_status(function) {
-        let size = size_of(status);
+        let size = numbers::size_of(status);
         return Taken {
             letter: b'R',
             count: 4,
             minus: numbers::is_negative(status),
-            values: [thread, function, size, pending, 0, 0, 0, 0, 0, 0],
+            values: [t, f, size, p, 0, 0, 0, 0, 0, 0],
             good: (result == 0) & empty,
         };
     }
@@ -64,8 +59,8 @@ fn take_return(
         letter: b'R',
         count: 4,
         minus: false,
-        values: [thread, function, result, pending, 0, 0, 0, 0, 0, 0],
-        good: (size_of(status) == 0) & empty,
+        values: [t, f, result, p, 0, 0, 0, 0, 0, 0],
+        good: (numbers::size_of(status) == 0) & empty,
     }
 }
 
@@ -73,20 +68,26 @@ pub(crate) fn take_apart(e: Event, h: [Handle; 8]) -> Taken
     ensures { λ r. ⌜ r ≡ apart e h ⌝ }
 {
     match e {
-        Event::Enter { thread, env, count } => Taken {
-            letter: b'N',
-            count: count as usize + 2,
-            minus: false,
-            values: [thread, env, h[0], h[1], h[2], h[3], h[4], h[5], h[6], h[7]],
-            good: (count <= MOST_HANDLES) & are_empty(h, count),
-        },
-        Event::Leave { thread, result } => Taken {
-            letter: b'X',
-            count: 2,
-            minus: false,
-            values: [thread, result, 0, 0, 0, 0, 0, 0, 0, 0],
-            good: are_empty(h, 0),
-        },
+        Event::Enter { thread, env, count } => {
+            let t = thread as Handle;
+            Taken {
+                letter: b'N',
+                count: count as usize + 2,
+                minus: false,
+                values: [t, env, h[0], h[1], h[2], h[3], h[4], h[5], h[6], h[7]],
+                good: (count <= MOST_HANDLES) & are_empty(h, count),
+            }
+        }
+        Event::Leave { thread, result } => {
+            let t = thread as Handle;
+            Taken {
+                letter: b'X',
+                count: 2,
+                minus: false,
+                values: [t, result, 0, 0, 0, 0, 0, 0, 0, 0],
+                good: are_empty(h, 0),
+            }
+        }
         Event::Call {
             thread,
             env,
@@ -95,13 +96,17 @@ pub(crate) fn take_apart(e: Event, h: [Handle; 8]) -> Taken
             b,
             c,
             n,
-        } => Taken {
-            letter: b'C',
-            count: 7,
-            minus: numbers::is_negative(n),
-            values: [thread, env, function, a, b, c, size_of(n), 0, 0, 0],
-            good: are_empty(h, 0),
-        },
+        } => {
+            let t = thread as Handle;
+            let f = function as Handle;
+            Taken {
+                letter: b'C',
+                count: 7,
+                minus: numbers::is_negative(n),
+                values: [t, env, f, a, b, c, numbers::size_of(n), 0, 0, 0],
+                good: are_empty(h, 0),
+            }
+        }
         Event::Return {
             thread,
             function,
@@ -109,24 +114,32 @@ pub(crate) fn take_apart(e: Event, h: [Handle; 8]) -> Taken
             status,
             pending,
         } => take_return(thread, function, result, status, pending, are_empty(h, 0)),
-        Event::Declare { class, superclass } => Taken {
-            letter: b'K',
-            count: 2,
-            minus: false,
-            values: [class, superclass, 0, 0, 0, 0, 0, 0, 0, 0],
-            good: are_empty(h, 0),
-        },
+        Event::Declare { class, superclass } => {
+            let k = class as Handle;
+            let s = superclass as Handle;
+            Taken {
+                letter: b'K',
+                count: 2,
+                minus: false,
+                values: [k, s, 0, 0, 0, 0, 0, 0, 0, 0],
+                good: are_empty(h, 0),
+            }
+        }
         Event::State {
             thread,
             handle,
             class,
-        } => Taken {
-            letter: b'O',
-            count: 3,
-            minus: false,
-            values: [thread, handle, class, 0, 0, 0, 0, 0, 0, 0],
-            good: are_empty(h, 0),
-        },
+        } => {
+            let t = thread as Handle;
+            let k = class as Handle;
+            Taken {
+                letter: b'O',
+                count: 3,
+                minus: false,
+                values: [t, handle, k, 0, 0, 0, 0, 0, 0, 0],
+                good: are_empty(h, 0),
+            }
+        }
         Event::End => Taken {
             letter: b'Z',
             count: 0,

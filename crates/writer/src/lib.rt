@@ -32,7 +32,7 @@ fn put_field(d: &mut [u8], at: usize, minus: bool, size: Handle) -> usize
     ensures { λ r. ⌜ (r ≡ at + suc (length (shown (signed minus size)))) × (now (d .exit) ≡ put (now (d .entry)) at (tab ∷ shown (signed minus size))) ⌝ }
 {
     d[at] = TAB;
-    match numbers::write_signed(d, at + 1, minus, size as u64) {
+    match numbers::write_signed(d, at + 1, minus, size) {
         Room::To(p) => p,
         Room::Short => at,
     }
@@ -42,7 +42,7 @@ fn put_field(d: &mut [u8], at: usize, minus: bool, size: Handle) -> usize
 fn field_width(minus: bool, size: Handle) -> usize
     ensures { λ r. ⌜ (r ≡ length (shown (signed minus size))) × (r ≤ 21) ⌝ }
 {
-    numbers::width_signed(minus, size as u64)
+    numbers::width_signed(minus, size)
 }
 
 // How long the numbers are, each after a tab; that at the place `minus` is below zero.

@@ -9,10 +9,13 @@ use Rattle.report.proofs.finding_width.Tie as tie
 pub finding-width-spec : {M : Type 1} → statement M
 finding-width-spec =
     tie.close (tie.spec
-    (λ c κs. search needs)
+    (λ c. search needs)
     (λ c κs. search needs)
     (λ c. search needs)
-    (λ c. let f = c .before .before .args .f in (
-      omega (arith, length-parts (finding-parts f), length-field (f .line) tab, c .before .field-width .ensures .0, c .three-width .ensures .0),
-      omega (arith, c .before .field-width .ensures .1, c .three-width .ensures .1),
+    (λ c. search needs)
+    (λ c κs. search needs)
+    (λ c. search needs)
+    (λ c. let f = c .before .before .before .before .before .args .f in (
+      omega (arith, length-parts (finding-parts f), length-field (f .line) tab, c .before .before .before .field-width .ensures .0, c .three-width .ensures .0),
+      omega (arith, c .before .before .before .field-width .ensures .1, c .three-width .ensures .1),
     )))

@@ -24,6 +24,7 @@ take-all-spec =
     (λ c. (omega arith, refl, refl, rest-first _ _ _ _ _))
     (λ c. search needs)
     (λ c. omega arith)
+    (λ c. search needs)
     (λ c κs. search needs)
     (λ c. omega arith)
     (λ c. omega arith)

@@ -9,5 +9,6 @@ pub held-spec : {M : Type 1} → statement M
 held-spec = tie.close (tie.spec
     (λ c. (none-held _ _ _ (c .if1 .taken), omega arith))
     (λ c κs. search needs)
+    (λ c. search needs)
     (λ c κs. search needs)
     (λ c. (held-counted _ _ _ _ _ (c .before .before .if1 .left) (c .before .frames-of .ensures .0) (c .count .ensures), held-most _ _ _ _ (c .count .ensures))))

@@ -9,6 +9,5 @@ of-pin-spec =
     (tie.spec
     (λ c. search needs)
     (λ c. search needs)
-    (λ c. search needs)
     (λ c. rw (c .before .row .given .1))
     (λ c. search needs))

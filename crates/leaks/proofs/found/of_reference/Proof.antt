@@ -11,6 +11,5 @@ of-reference-spec =
     (λ c. search needs)
     (λ c. rw (c .before .before .before .row .given .1) (local-stays _ (c .before .before .before .row .given .0 .0) (c .if1 .taken)))
     (λ c. search needs)
-    (λ c. search needs)
     (λ c. rw (c .before .before .before .row .given .1) (shared-leaks _ (c .before .before .before .row .given .0 .0) (c .if1 .left)))
     (λ c. search needs))

@@ -5,7 +5,7 @@ use lib.ListN.{getD}
 use borrow.Author.Tests.{not-true, not-false}
 use Rattle.lines.specs.Forms.{most-fields}
 use Rattle.lines.proofs.Formed.{within-low, within-high}
-use Rattle.lines.proofs.FormLaws.{enter-line, not-made, enter-made}
+use Rattle.lines.proofs.FormLaws.{enter-line, not-made, narrow, enter-made}
 use borrow.Author.Needs.{needs}
 use Rattle.lines.proofs.forms.enter.Statement.{statement}
 use Rattle.lines.proofs.forms.enter.Tie as tie
@@ -20,6 +20,8 @@ enter-spec =
     (λ c. let a = c .before .before .args in
     not-made (enter-line (a .n) (a .t1)) (c .before .enter-allows .ensures) (not-true (c .before .enter-allows .result) (c .if1 .taken)))
     (λ c. search needs)
+    (λ c. let a = c .before .before .args in
+    omega (arith, narrow (enter-line (a .n) (a .t1)) (sym (c .before .enter-allows .ensures) ∙ not-false (c .before .enter-allows .result) (c .if1 .left))))
     (λ c. search needs)
     (λ c. within-low 2 most-fields (c .before .before .args .n) (c .before .before .pre))
     (λ c. omega (arith, within-high 2 most-fields (c .before .before .args .n) (c .before .before .pre)))

@@ -28,7 +28,6 @@ gather-spec =
     Inv-loop
     μ-loop
     (λ c. refl)
-    (λ c. search needs)
     (λ c κs. search needs)
     (λ c κs. search needs)
     (λ c. let a = c .before .before .before .before .before .before .before .before .args in

@@ -1,10 +1,7 @@
 -- `lines::heads::take_field` meets its contract. Assumes nothing.
-use mathlib.Core.Path.{ap, sym, _∙_}
-use mathlib.Core.Bool.{true, not, _||_}
-use Prim.Native.Nat.{_+_}
-use lib.Dec.{eqb}
+use mathlib.Core.Path.{sym}
 use denote.Ref.{now}
-use Rattle.lines.specs.Gathered.{tally, gathered-as}
+use Rattle.lines.specs.Gathered.{gathered-as}
 use Rattle.numbers.specs.declared.Field.the-variants as Field
 use Rattle.lines.proofs.Gathering.{takes, taken-none}
 use borrow.Author.Needs.{needs}
@@ -19,19 +16,21 @@ take-field-spec =
     (λ c. let a = c .before .args in
     sym (taken-none (a .signed) (gathered-as (a .t) (now (a .values))) (a .f) (c .if1 .taken)))
     (λ c. search needs)
-    (λ c κs. search needs)
-    (λ c. search needs)
-    (λ c. search needs)
-    (λ c κs. search needs)
     (λ c. search needs)
     (λ c. search needs)
     (λ c. search needs)
     (λ c. search needs)
     (λ c. search needs)
-    (λ c. let a = c .before .before .before .before .before .before .args in
-    ap (gathered-as (tally (a .t .count + 1) (a .t .out) (a .t .minus))) (c .put-value .ensures) ∙ takes (a .signed) (gathered-as (a .t) (now (a .values))) (Field.Plus (c .before .before .before .f .given .0 .0)) (c .before .before .before .before .before .if1 .left) (c .before .before .before .f .given .1))
-    (λ c. let a = c .before .before .before .before .before .before .before .args in
-    ap (gathered-as (tally (a .t .count + 1) (a .t .out || not (eqb (a .t .count) (a .signed))) true)) (c .before .put-value2 .ensures) ∙ takes (a .signed) (gathered-as (a .t) (now (a .values))) (Field.Minus (c .before .before .before .before .f2 .given .0 .0)) (c .before .before .before .before .before .before .if1 .left) (c .before .before .before .before .f2 .given .1))
+    (λ c. search needs)
+    (λ c. search needs)
+    (λ c. search needs)
+    (λ c. search needs)
+    (λ c. search needs)
+    (λ c. search needs)
+    (λ c. let a = c .before .before .before .before .args in
+    takes (a .signed) (gathered-as (a .t) (now (a .values))) (Field.Plus (c .before .f .given .0 .0)) (c .before .before .before .if1 .left) (c .before .f .given .1))
+    (λ c. let a = c .before .before .before .before .before .args in
+    takes (a .signed) (gathered-as (a .t) (now (a .values))) (Field.Minus (c .before .before .f2 .given .0 .0)) (c .before .before .before .before .if1 .left) (c .before .before .f2 .given .1))
     (λ c. let a = c .before .before .before .args in
     takes (a .signed) (gathered-as (a .t) (now (a .values))) Field.Out (c .before .before .if1 .left) (c .enum-told .given .1))
     (λ c. let a = c .before .before .before .args in

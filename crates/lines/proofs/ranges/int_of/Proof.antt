@@ -13,11 +13,10 @@ int-of-spec =
     tie.close
     (tie.spec
     (λ c κs. search needs)
-    (λ c κs. search needs)
     (λ c. search needs)
     (λ c. search needs)
-    (λ c. let a = c .before .before .before .before .before .args in
-    toZ-ofZ {w = w32} {z = c .before .n .given .0 .0} (search needs)
-    ∙ sym (value-i32 (a .minus) (a .size) (c .before .before .before .before .wide .ensures) (c .before .before .before .int-of .ensures) (c .before .n .given .1) .0))
     (λ c. let a = c .before .before .before .before .args in
-    absurd (false≢true (sym (out-i32 (a .minus) (a .size) (c .before .before .before .wide .ensures) (c .before .before .int-of .ensures) (c .enum-told .given .1)) ∙ c .before .before .before .before .pre))))
+    toZ-ofZ {w = w32} {z = c .before .n .given .0 .0} (search needs)
+    ∙ sym (value-i32 (a .minus) (a .size) (c .before .before .before .int-of .ensures) (c .before .n .given .1) .0))
+    (λ c. let a = c .before .before .before .args in
+    absurd (false≢true (sym (out-i32 (a .minus) (a .size) (c .before .before .int-of .ensures) (c .enum-told .given .1)) ∙ c .before .before .before .pre))))

@@ -10,10 +10,9 @@ is-i32-spec =
     tie.close
     (tie.spec
     (λ c κs. search needs)
-    (λ c κs. search needs)
     (λ c. search needs)
     (λ c. search needs)
-    (λ c. let a = c .before .before .before .before .args in
-    sym (value-i32 (a .minus) (a .size) (c .before .before .before .wide .ensures) (c .before .before .int-of .ensures) (c .enum-told .given .1) .1))
-    (λ c. let a = c .before .before .before .before .args in
-    sym (out-i32 (a .minus) (a .size) (c .before .before .before .wide .ensures) (c .before .before .int-of .ensures) (c .enum-told2 .given .1))))
+    (λ c. let a = c .before .before .before .args in
+    sym (value-i32 (a .minus) (a .size) (c .before .before .int-of .ensures) (c .enum-told .given .1) .1))
+    (λ c. let a = c .before .before .before .args in
+    sym (out-i32 (a .minus) (a .size) (c .before .before .int-of .ensures) (c .enum-told2 .given .1))))

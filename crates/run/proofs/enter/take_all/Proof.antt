@@ -28,6 +28,7 @@ take-all-spec =
     (λ c. (omega arith, refl, refl, refl, rest-first _ _ _ _ _, search needs))
     (λ c. search needs)
     (λ c. omega arith)
+    (λ c. search needs)
     (λ c κs. search needs)
     (λ c. omega arith)
     (λ c. omega arith)

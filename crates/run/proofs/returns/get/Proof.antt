@@ -12,6 +12,8 @@ get-spec =
     (λ c κs. search needs)
     (λ c κs. search needs)
     (λ c κs. search needs)
+    (λ c. search needs)
+    (λ c. search needs)
     (λ c κs. (search needs, search where-made))
     (λ c. search needs)
     (λ c. search needs)

@@ -9,7 +9,10 @@ findings-spec =
     tie.close
     (tie.spec
     (λ c κs. search needs)
+    (λ c. search needs)
     (λ c κs. search needs)
+    (λ c. search needs)
     (λ c κs. search needs)
+    (λ c. search needs)
     (λ c κs. search needs)
     (λ c. three-found _ _ _ _ _ _ (c .before .before .before .nothing .ensures) (c .before .before .and-found-if .ensures) (c .before .and-found-if2 .ensures) (c .and-found-if3 .ensures)))
