@@ -1,4 +1,4 @@
-//! Holds the proved step, the proved loop and the indexed judge to the plain judge on the given traces, then times all four over the rows that their kind takes.
+//! Holds the proved step, the proved loop and the indexed judge to the plain judge on the given traces, then times all four over the rows that their kind takes, or over so many.
 //!
 //! The loop is handed all lines that are timed in one call, the others are handed them one by one, in turns. All read them in the same memory. That the loop finds
 //! where a line ends, fills its guides first and writes its findings as bytes is counted as its own; the others get each line cut off, and give findings as numbers.
@@ -40,7 +40,7 @@ const INDEXED: usize = 3;
 /// Whose time is divided by whose.
 const RATIOS: [(usize, usize); 3] = [(STEP, PLAIN), (LOOP, PLAIN), (LOOP, INDEXED)];
 
-const USAGE: &str = "usage: judge ROUNDS [--last LINES] TRACE..";
+const USAGE: &str = "usage: judge ROUNDS [--last LINES] [--rows REFERENCE_ROWS] TRACE..";
 
 type Found = [Number; MOST_NUMBERS];
 
@@ -48,6 +48,8 @@ struct Wish<'a> {
     rounds: usize,
     /// The lines at the end of each trace that are timed, if not all.
     last: Option<usize>,
+    /// The reference rows that are lent, if not those that the trace's kind takes.
+    rows: Option<usize>,
     files: &'a [String],
 }
 
@@ -70,16 +72,25 @@ fn main() -> ExitCode {
 
 fn wish(arguments: &[String]) -> Option<Wish<'_>> {
     let (rounds, rest) = arguments.split_first()?;
-    let (last, files) = match rest {
-        [option, lines, files @ ..] if option == "--last" => (Some(lines.parse().ok()?), files),
-        files => (None, files),
-    };
+    let (last, rest) = option("--last", rest)?;
+    let (rows, files) = option("--rows", rest)?;
     let rounds = rounds.parse().ok().filter(|&rounds| rounds > 0)?;
     (!files.is_empty()).then_some(Wish {
         rounds,
         last,
+        rows,
         files,
     })
+}
+
+/// The number behind this option where the arguments begin with it, and the others.
+fn option<'a>(name: &str, arguments: &'a [String]) -> Option<(Option<usize>, &'a [String])> {
+    match arguments {
+        [option, number, others @ ..] if option == name => {
+            Some((Some(number.parse().ok()?), others))
+        }
+        others => Some((None, others)),
+    }
 }
 
 fn print_head() {
@@ -107,7 +118,8 @@ fn measure(file: &str, wish: &Wish) -> Result<(), String> {
     let (before, timed) = lines.split_at(each.len() - last);
     let name = Path::new(file).file_stem().unwrap_or_default();
     let name = name.to_string_lossy();
-    let rows = kind(&name).map_or(REFERENCE_ROWS, |kind| kind.reference_rows);
+    let of_kind = || kind(&name).map_or(REFERENCE_ROWS, |kind| kind.reference_rows);
+    let rows = wish.rows.unwrap_or_else(of_kind);
 
     let mut judges: Vec<_> = JUDGES.iter().map(|(_, judge)| judge(rows)).collect();
     hold(&mut judges, before)?;

@@ -11,7 +11,7 @@ use plain::foreign::{self, a_z, is_over, line, of_list, Foreign};
 use plain::lent::book::{CLOSED, WHOLE};
 use plain::lent::reply::{list_reply, reply, MOST_NUMBERS, SHORT_FOUND};
 use plain::lent::slices::Slices;
-use plain::limits::{Number, Word, MOST_CLASSES, MOST_ROOM};
+use plain::limits::{Class, Number, Word, MOST_CLASSES, MOST_ROOM};
 use plain::make::{make, PROFILES};
 use plain::random::Random;
 use plain::report::report;
@@ -35,7 +35,7 @@ const LONG_REPORT: usize = 4_096;
 
 type Guarded<T> = common::Guarded<T, GUARD>;
 /// Six slices, each guarded.
-type Tables = Slices<Guarded<Number>, Guarded<Word>>;
+type Tables = Slices<Guarded<Number>, Guarded<Word>, Guarded<Class>>;
 
 /// What came up.
 struct Seen {
@@ -278,7 +278,7 @@ fn compare_lists(
 ) -> Result<(), String> {
     let leaks = plain.tables().leaks();
     let length = of_list(random, leaks.as_ref().map_or(0, Vec::len));
-    let any = (0..length).map(|_| random.number() as Number).collect();
+    let any = (0..length).map(|_| random.number()).collect();
     let mut wanted_list = Guarded::new(any, random);
     let mut list = wanted_list.clone();
     let listed = plain.list_leaks(&mut wanted_list);

@@ -9,7 +9,7 @@ use plain::called::{self, Handed};
 use plain::damage::{damage_bytes, damage_fields};
 use plain::facts::FUNCTIONS;
 use plain::form::{FORMS, MOST_NUMBERS};
-use plain::limits::{Number, MOST_BYTES, MOST_HANDLES};
+use plain::limits::{Handle, Number, MOST_BYTES, MOST_HANDLES};
 use plain::make::{make, Profile, DENSE, PROFILES};
 use plain::random::Random;
 use plain::refusal::{Refusal, MALFORMED, NO_LINE, NO_ROOM, OUT_OF_RANGE};
@@ -164,7 +164,7 @@ fn compare_reads(
 ) -> Result<Option<Handed>, String> {
     let wanted_line: Guarded<u8> = Guarded::new(line.to_vec(), random);
     let line = wanted_line.clone();
-    let any = |_| random.number() as Number;
+    let any = |_| random.number();
     let any_numbers = (0..MOST_NUMBERS).map(any).collect();
     let mut wanted_numbers = Guarded::new(any_numbers, random);
     let mut wanted_count = Guarded::new(vec![random.number() as u32], random);
@@ -220,6 +220,17 @@ fn compare_writes(
     Ok(written.map(|length| buffer[..length].to_vec()))
 }
 
+/// The env, handles, identities and buffers that a writer is handed.
+fn values(handed: &Handed) -> Vec<Handle> {
+    match *handed {
+        Handed::Enter { env, handles, .. } => [&[env], &handles[..]].concat(),
+        Handed::Call { env, places, .. } => [&[env], &places[..]].concat(),
+        Handed::Leave { result, .. } | Handed::Return { result, .. } => vec![result],
+        Handed::State { handle, .. } => vec![handle],
+        Handed::Declare { .. } | Handed::End => Vec::new(),
+    }
+}
+
 /// What came up; what can come up and did not stands there with 0.
 struct Seen {
     counts: BTreeMap<What, u64>,
@@ -232,6 +243,8 @@ enum What {
     Read(u8),
     /// A reply of the reader.
     NotRead(i32),
+    /// A letter with a number of more than 32 bits that was read.
+    Wide(u8),
     /// An N that was read, with so many handles.
     Handles(u32),
     /// A C or an R that was read, its capacity or status below zero.
@@ -260,6 +273,9 @@ impl Seen {
         for count in 0..=MOST_HANDLES as u32 {
             can_come_up(What::Handles(count));
         }
+        for letter in *b"NXCRO" {
+            can_come_up(What::Wide(letter));
+        }
         can_come_up(What::BelowZero(b'C'));
         can_come_up(What::BelowZero(b'R'));
         Seen {
@@ -278,6 +294,10 @@ impl Seen {
         };
         let letter = handed.letter();
         self.add(What::Read(letter));
+        let is_wide = |&value: &Handle| value > u32::MAX.into();
+        if values(handed).iter().any(is_wide) {
+            self.add(What::Wide(letter));
+        }
         match *handed {
             Handed::Enter { count, .. } => self.add(What::Handles(count)),
             Handed::Call {
@@ -318,6 +338,7 @@ impl Display for Seen {
             let (group, name) = match *what {
                 What::Read(letter) => ("read", char::from(letter).to_string()),
                 What::NotRead(reply) => ("not read", reply.to_string()),
+                What::Wide(letter) => ("of more than 32 bits", char::from(letter).to_string()),
                 What::Handles(count) => ("N with handles", count.to_string()),
                 What::BelowZero(letter) => ("below zero", char::from(letter).to_string()),
                 What::Written(letter) => ("written", char::from(letter).to_string()),

@@ -15,6 +15,7 @@
 
 #define _POSIX_C_SOURCE 200809L
 
+#include <inttypes.h>
 #include <limits.h>
 #include <pthread.h>
 #include <stdint.h>
@@ -30,8 +31,8 @@ static const struct {
     const char *name;
     size_t bound;
 } functions[FUNCTIONS] = {
-    {"weir_enter", 224}, {"weir_leave", 256}, {"weir_call", 288}, {"weir_return", 288},
-    {"weir_declare", 256}, {"weir_state", 256}, {"weir_end", 256}, {"weir_read", 208},
+    {"weir_enter", 272}, {"weir_leave", 336}, {"weir_call", 384}, {"weir_return", 384},
+    {"weir_declare", 336}, {"weir_state", 352}, {"weir_end", 336}, {"weir_read", 272},
 };
 
 /* ---- what went wrong, said once the threads have ended */
@@ -91,27 +92,28 @@ static struct input {
     int callee;
     size_t length; /* of the line, or of the buffer */
     uint8_t line[256];
-    uint32_t thread, env, count, function, a, b, c, result, pending, handle, class_number, super_number;
+    uint32_t thread, count, function, pending, class_number, super_number;
+    uint64_t env, a, b, c, result, handle;
     int32_t n, status;
-    uint32_t handles[WEIR_HANDLES];
+    uint64_t handles[WEIR_HANDLES];
 } now;
 
 static int32_t reply;
 
 static uint8_t buffer[WEIR_LINE];
-static uint32_t numbers[WEIR_NUMBERS];
+static uint64_t numbers[WEIR_NUMBERS];
 static uint32_t number_count;
 
 /* The functions, called by pointers that the compiler cannot see through. */
 static volatile struct {
-    int32_t (*enter)(uint8_t *, size_t, uint32_t, uint32_t, uint32_t, const uint32_t *);
-    int32_t (*leave)(uint8_t *, size_t, uint32_t, uint32_t);
-    int32_t (*call)(uint8_t *, size_t, uint32_t, uint32_t, uint32_t, uint32_t, uint32_t, uint32_t, int32_t);
-    int32_t (*give)(uint8_t *, size_t, uint32_t, uint32_t, uint32_t, int32_t, uint32_t);
+    int32_t (*enter)(uint8_t *, size_t, uint32_t, uint64_t, uint32_t, const uint64_t *);
+    int32_t (*leave)(uint8_t *, size_t, uint32_t, uint64_t);
+    int32_t (*call)(uint8_t *, size_t, uint32_t, uint64_t, uint32_t, uint64_t, uint64_t, uint64_t, int32_t);
+    int32_t (*give)(uint8_t *, size_t, uint32_t, uint32_t, uint64_t, int32_t, uint32_t);
     int32_t (*declare)(uint8_t *, size_t, uint32_t, uint32_t);
-    int32_t (*state)(uint8_t *, size_t, uint32_t, uint32_t, uint32_t);
+    int32_t (*state)(uint8_t *, size_t, uint32_t, uint64_t, uint32_t);
     int32_t (*end)(uint8_t *, size_t);
-    int32_t (*read)(const uint8_t *, size_t, uint32_t *, uint32_t *);
+    int32_t (*read)(const uint8_t *, size_t, uint64_t *, uint32_t *);
     int32_t (*probe)(void);
     int32_t (*probe_of_nine)(int, int, int, int, int, int, int, int, int);
 } weir = {weir_enter, weir_leave, weir_call, weir_return, weir_declare, weir_state, weir_end, weir_read, weir_probe,
@@ -201,19 +203,20 @@ static void probes(void)
 
 /* ---- inputs of the writers */
 
-#define HIGHEST 4294967295u
+#define HIGHEST 18446744073709551615u
 #define LOWEST (-2147483647 - 1)
 
-static const uint32_t bad_threads[] = {0, 17, HIGHEST};
-static const uint32_t bad_classes[] = {0, 4096, HIGHEST};
+static const uint32_t bad_threads[] = {0, 17, 4294967295u};
+static const uint32_t bad_classes[] = {0, 4096, 4294967295u};
 static const int32_t signs[] = {0, LOWEST, 2147483647};
 /* the highest of each kind, and null */
-static const uint32_t results[] = {0, 4294967293u, 4294967294u, 4294967295u, 4294967292u};
-static const uint32_t highest[WEIR_HANDLES] = {4294967293u, 4294967289u, 4294967285u, 4294967281u,
-                                               4294967277u, 4294967273u, 4294967269u, 4294967265u};
+static const uint64_t results[] = {0, 18446744073709551613u, 18446744073709551614u, HIGHEST, 18446744073709551612u};
+static const uint64_t highest[WEIR_HANDLES] = {18446744073709551613u, 18446744073709551609u, 18446744073709551605u,
+                                               18446744073709551601u, 18446744073709551597u, 18446744073709551593u,
+                                               18446744073709551589u, 18446744073709551585u};
 
-static int32_t measure_enter(size_t length, uint32_t thread, uint32_t env, uint32_t count,
-                             const uint32_t handles[WEIR_HANDLES])
+static int32_t measure_enter(size_t length, uint32_t thread, uint64_t env, uint32_t count,
+                             const uint64_t handles[WEIR_HANDLES])
 {
     now.callee = ENTER;
     now.length = length;
@@ -224,7 +227,7 @@ static int32_t measure_enter(size_t length, uint32_t thread, uint32_t env, uint3
     return measure();
 }
 
-static int32_t measure_leave(size_t length, uint32_t thread, uint32_t result)
+static int32_t measure_leave(size_t length, uint32_t thread, uint64_t result)
 {
     now.callee = LEAVE;
     now.length = length;
@@ -233,7 +236,7 @@ static int32_t measure_leave(size_t length, uint32_t thread, uint32_t result)
     return measure();
 }
 
-static int32_t measure_call(size_t length, uint32_t thread, uint32_t env, uint32_t function, uint32_t a, uint32_t b, uint32_t c,
+static int32_t measure_call(size_t length, uint32_t thread, uint64_t env, uint32_t function, uint64_t a, uint64_t b, uint64_t c,
                             int32_t n)
 {
     now.callee = CALL;
@@ -248,7 +251,7 @@ static int32_t measure_call(size_t length, uint32_t thread, uint32_t env, uint32
     return measure();
 }
 
-static int32_t measure_return(size_t length, uint32_t thread, uint32_t function, uint32_t result, int32_t status,
+static int32_t measure_return(size_t length, uint32_t thread, uint32_t function, uint64_t result, int32_t status,
                               uint32_t pending)
 {
     now.callee = RETURN;
@@ -270,7 +273,7 @@ static int32_t measure_declare(size_t length, uint32_t class_number, uint32_t su
     return measure();
 }
 
-static int32_t measure_state(size_t length, uint32_t thread, uint32_t handle, uint32_t class_number)
+static int32_t measure_state(size_t length, uint32_t thread, uint64_t handle, uint32_t class_number)
 {
     now.callee = STATE;
     now.length = length;
@@ -290,9 +293,9 @@ static int32_t measure_end(size_t length)
 /* buffers of every length, and numbers of every length */
 static void inputs_of_every_length(void)
 {
-    uint32_t handles[WEIR_HANDLES];
+    uint64_t handles[WEIR_HANDLES];
     uint32_t count;
-    uint32_t x;
+    uint64_t x;
     size_t length;
     size_t i;
 
@@ -300,41 +303,45 @@ static void inputs_of_every_length(void)
         for (count = 0; count <= WEIR_HANDLES; count++) {
             memset(handles, 0, sizeof handles);
             memcpy(handles, highest, count * sizeof handles[0]);
-            expect((measure_enter(length, 16, HIGHEST, count, handles) > 0) == (length >= 16 + 11 * count),
+            expect((measure_enter(length, 16, HIGHEST, count, handles) > 0) == (length >= 26 + 21 * count),
                    "an N with the highest numbers is written where it has room");
         }
-        expect((measure_leave(length, 16, HIGHEST) > 0) == (length >= 16), "the longest X is written where it has room");
-        expect((measure_call(length, 16, HIGHEST, 104, HIGHEST, HIGHEST, HIGHEST, 0) > 0) == (length >= 55),
+        expect((measure_leave(length, 16, HIGHEST) > 0) == (length >= 26), "the longest X is written where it has room");
+        expect((measure_call(length, 16, HIGHEST, 104, HIGHEST, HIGHEST, HIGHEST, 0) > 0) == (length >= 95),
                "the longest C is written where it has room");
-        expect((measure_call(length, 16, HIGHEST, 26, 0, 0, 0, LOWEST) > 0) == (length >= 37),
+        expect((measure_call(length, 16, HIGHEST, 26, 0, 0, 0, LOWEST) > 0) == (length >= 47),
                "C with the lowest capacity is written where it has room");
-        expect((measure_return(length, 16, 169, HIGHEST, 0, 1) > 0) == (length >= 22),
+        expect((measure_return(length, 16, 169, HIGHEST, 0, 1) > 0) == (length >= 32),
                "R with the highest buffer is written where it has room");
         expect((measure_return(length, 16, 218, 0, LOWEST, 1) > 0) == (length >= 23),
                "R with the lowest status is written where it has room");
         expect((measure_declare(length, 4095, 4095) > 0) == (length >= 12), "the longest K is written where it has room");
-        expect((measure_state(length, 16, HIGHEST, 4095) > 0) == (length >= 21), "the longest O is written where it has room");
+        expect((measure_state(length, 16, HIGHEST, 4095) > 0) == (length >= 31), "the longest O is written where it has room");
         expect((measure_end(length) > 0) == (length >= 2), "Z is written where it has room");
     }
-    for (i = 0, x = 1; i < 10; i++, x *= 10) {
-        memset(handles, 0, sizeof handles);
+    memset(handles, 0, sizeof handles);
+    for (i = 0, x = 1; i < 20; i++, x *= 10) {
         measure_leave(WEIR_LINE, 1, x - 1);
         measure_leave(WEIR_LINE, 1, x);
         measure_enter(WEIR_LINE, 1, x, 0, handles);
+        measure_call(WEIR_LINE, 1, x, 104, x, x, x, 0);
+        measure_return(WEIR_LINE, 1, 169, x, 0, 0);
+        measure_state(WEIR_LINE, 1, x, 1);
+    }
+    for (i = 0, x = 1; i < 10; i++, x *= 10) {
         measure_call(WEIR_LINE, 1, x, 19, 0, 0, 0, (int32_t)x);
         measure_call(WEIR_LINE, 1, x, 19, 0, 0, 0, -(int32_t)x);
         measure_return(WEIR_LINE, 1, 217, 0, (int32_t)x, 0);
         measure_return(WEIR_LINE, 1, 217, 0, -(int32_t)x, 0);
-        measure_declare(WEIR_LINE, x, 1);
-        measure_declare(WEIR_LINE, 1, x);
-        measure_state(WEIR_LINE, 1, x, 1);
-        measure_state(WEIR_LINE, 1, 0, x);
+        measure_declare(WEIR_LINE, (uint32_t)x, 1);
+        measure_declare(WEIR_LINE, 1, (uint32_t)x);
+        measure_state(WEIR_LINE, 1, 0, (uint32_t)x);
     }
 }
 
 static void bad_inputs(size_t length)
 {
-    uint32_t handles[WEIR_HANDLES];
+    uint64_t handles[WEIR_HANDLES];
     uint32_t count;
     size_t i;
 
@@ -353,14 +360,14 @@ static void bad_inputs(size_t length)
     expect(measure_enter(length, 16, 0, 8, highest) == WEIR_BAD, "N of env 0 is bad");
     expect(measure_call(length, 16, 0, 6, 0, 0, 0, 0) == WEIR_BAD, "C of env 0 is bad");
     expect(measure_enter(length, 16, HIGHEST, 9, highest) == WEIR_BAD, "N of nine handles is bad");
-    expect(measure_enter(length, 16, HIGHEST, HIGHEST, highest) == WEIR_BAD, "N of the most handles is bad");
+    expect(measure_enter(length, 16, HIGHEST, 4294967295u, highest) == WEIR_BAD, "N of the most handles is bad");
     for (count = 0; count < WEIR_HANDLES; count++)
         expect(measure_enter(length, 16, HIGHEST, count, highest) == WEIR_BAD, "N with a slot past its count is bad");
     for (i = 0; i < WEIR_HANDLES; i++) {
         memcpy(handles, highest, sizeof handles);
         handles[i] = 0;
         expect(measure_enter(length, 16, HIGHEST, 8, handles) == WEIR_BAD, "N with a null handle is bad");
-        handles[i] = 4294967294u;
+        handles[i] = 18446744073709551614u;
         expect(measure_enter(length, 16, HIGHEST, 8, handles) == WEIR_BAD, "N with a global handle is bad");
     }
 }
@@ -400,16 +407,17 @@ static const char *const letters[] = {"N", "X", "C", "R", "K", "O", "Z"};
 
 /* each kind of line at its longest */
 static const char *const longest[] = {
-    "N\t16\t4294967295\t4294967293\t4294967289\t4294967285\t4294967281\t4294967277\t4294967273\t4294967269\t4294967265\n",
-    "X\t16\t4294967295\n",
-    "C\t16\t4294967295\t104\t4294967295\t4294967295\t4294967295\t0\n",
-    "C\t16\t4294967295\t26\t0\t0\t0\t-2147483648\n",
-    "C\t16\t4294967295\t26\t0\t0\t0\t2147483647\n",
-    "R\t16\t169\t4294967295\t1\n",
+    "N\t16\t18446744073709551615\t18446744073709551613\t18446744073709551609\t18446744073709551605\t18446744073709551601"
+    "\t18446744073709551597\t18446744073709551593\t18446744073709551589\t18446744073709551585\n",
+    "X\t16\t18446744073709551615\n",
+    "C\t16\t18446744073709551615\t104\t18446744073709551615\t18446744073709551615\t18446744073709551615\t0\n",
+    "C\t16\t18446744073709551615\t26\t0\t0\t0\t-2147483648\n",
+    "C\t16\t18446744073709551615\t26\t0\t0\t0\t2147483647\n",
+    "R\t16\t169\t18446744073709551615\t1\n",
     "R\t16\t218\t-2147483648\t1\n",
     "R\t16\t218\t2147483647\t1\n",
     "K\t4095\t4095\n",
-    "O\t16\t4294967295\t4095\n",
+    "O\t16\t18446744073709551615\t4095\n",
     "Z\n"};
 
 static void start(void)
@@ -429,19 +437,24 @@ static void put_text(const char *text)
         put(*text++);
 }
 
-static void put_number(int64_t x)
+static void put_number(uint64_t x)
 {
     char digits[20];
     size_t n = 0;
 
-    if (x < 0)
-        put('-');
     do {
-        digits[n++] = (char)('0' + (x < 0 ? -(x % 10) : x % 10));
+        digits[n++] = (char)('0' + x % 10);
         x /= 10;
     } while (x != 0);
     while (n > 0)
         put(digits[--n]);
+}
+
+static void put_signed(int32_t x)
+{
+    if (x < 0)
+        put('-');
+    put_number(x < 0 ? -(uint64_t)x : (uint64_t)x);
 }
 
 /* `pattern` again and again, up to `length` bytes of the line */
@@ -494,7 +507,7 @@ static void longest_and_like_them(void)
 static void fillings(void)
 {
     static const char *const starts[] = {"", "N\t", "X\t", "C\t", "R\t", "K\t", "O\t", "Z\t"};
-    static const char *const patterns[] = {"\t", "-", "0", "9", "1234567890", "\t0", "\t9", "\t-", "\t-1", "\t4294967295"};
+    static const char *const patterns[] = {"\t", "-", "0", "9", "1234567890", "\t0", "\t9", "\t-", "\t-1", "\t18446744073709551615"};
     size_t i, k, length;
     int byte;
 
@@ -522,22 +535,23 @@ static void fillings(void)
 static void fields(void)
 {
     static const char *const kinds[][WEIR_NUMBERS + 1] = {
-        {"N", "16", "4294967295"},
-        {"N", "16", "4294967295", "1", "5", "9", "13", "17", "21", "25", "29"},
-        {"X", "16", "4294967295"},
-        {"C", "16", "4294967295", "104", "5", "8", "9", "0"},
-        {"C", "16", "4294967295", "26", "0", "0", "0", "-5"},
+        {"N", "16", "18446744073709551615"},
+        {"N", "16", "18446744073709551615", "1", "5", "9", "13", "17", "21", "25", "29"},
+        {"X", "16", "18446744073709551615"},
+        {"C", "16", "18446744073709551615", "104", "5", "8", "9", "0"},
+        {"C", "16", "18446744073709551615", "26", "0", "0", "0", "-5"},
         {"R", "16", "31", "13", "0"},
         {"R", "16", "26", "-1", "1"},
         {"K", "4095", "4095"},
-        {"O", "16", "4294967295", "4095"},
+        {"O", "16", "18446744073709551615", "4095"},
         {"Z"}};
     static const char *const others[] = {
         /* thirty digits */
         "999999999999999999999999999999", "-999999999999999999999999999999", "100000000000000000000000000000",
         /* numbers in range here and out of it there */
         "-1", "0", "1", "2", "3", "4", "5", "17", "233", "4095", "4096", "4294967295", "4294967296", "2147483648", "-2147483648",
-        "-2147483649", "9999999999", "-9999999999", "18446744073709551615", "18446744073709551617",
+        "-2147483649", "9223372036854775808", "-9223372036854775808", "18446744073709551615", "18446744073709551616",
+        "18446744073709551617", "99999999999999999999", "-99999999999999999999",
         /* no numbers */
         "-0", "00", "01", "-01", "-", "--1", "+1", "", "x", " 1", "1 ", "\n", "1\n", "\t", "1\t1"};
     size_t i, k, at, field;
@@ -555,15 +569,15 @@ static void fields(void)
             }
 }
 
-/* as many fields as there is room for, up to 64 numbers, so nine handles and more, and one field over the room */
+/* as many fields as there is room for, up to 112 numbers, so nine handles and more, and one field over the room */
 static void counts_of_fields(void)
 {
-    static const char *const values[] = {"1", "9", "4294967293", "-1", "999999999999999999999999999999"};
+    static const char *const values[] = {"1", "9", "18446744073709551613", "-1", "999999999999999999999999999999"};
     size_t k, i, count, n;
 
     for (k = 0; k < COUNT(letters); k++)
         for (i = 0; i < COUNT(values); i++)
-            for (count = 0; count <= 64 && 1 + count * (1 + strlen(values[i])) <= WEIR_LINE + 1; count++) {
+            for (count = 0; count <= 112 && 1 + count * (1 + strlen(values[i])) <= WEIR_LINE + 1; count++) {
                 start();
                 put_text(letters[k]);
                 for (n = 0; n < count; n++) {
@@ -574,9 +588,9 @@ static void counts_of_fields(void)
             }
 }
 
-static int32_t measure_call_line(int64_t function, int64_t a, int64_t b, int64_t c, int64_t n)
+static int32_t measure_call_line(uint64_t function, uint64_t a, uint64_t b, uint64_t c, int32_t n)
 {
-    const int64_t values[] = {16, HIGHEST, function, a, b, c, n};
+    const uint64_t values[] = {16, HIGHEST, function, a, b, c};
     size_t i;
 
     start();
@@ -585,20 +599,24 @@ static int32_t measure_call_line(int64_t function, int64_t a, int64_t b, int64_t
         put('\t');
         put_number(values[i]);
     }
+    put('\t');
+    put_signed(n);
     return measure_line();
 }
 
-static int32_t measure_return_line(int64_t function, int64_t result, int64_t pending)
+/* the result, or a status that is not 0 */
+static int32_t measure_return_line(uint64_t function, uint64_t result, int32_t status, uint64_t pending)
 {
-    const int64_t values[] = {16, function, result, pending};
-    size_t i;
-
     start();
-    put('R');
-    for (i = 0; i < COUNT(values); i++) {
-        put('\t');
-        put_number(values[i]);
-    }
+    put_text("R\t16\t");
+    put_number(function);
+    put('\t');
+    if (status != 0)
+        put_signed(status);
+    else
+        put_number(result);
+    put('\t');
+    put_number(pending);
     return measure_line();
 }
 
@@ -606,7 +624,7 @@ static void lines_of_every_function(void)
 {
     uint32_t calls = 0;
     uint32_t returns = 0;
-    int64_t function, pending;
+    uint64_t function, pending;
     unsigned places;
     size_t i;
 
@@ -620,9 +638,9 @@ static void lines_of_every_function(void)
                                              places & 4 ? HIGHEST : 0, signs[i]) > 0;
         for (pending = 0; pending <= 2; pending++) {
             for (i = 0; i < COUNT(results); i++)
-                is_return |= measure_return_line(function, results[i], pending) > 0;
+                is_return |= measure_return_line(function, results[i], 0, pending) > 0;
             for (i = 0; i < COUNT(signs); i++)
-                is_return |= measure_return_line(function, signs[i], pending) > 0;
+                is_return |= measure_return_line(function, 0, signs[i], pending) > 0;
         }
         calls += is_call;
         returns += is_return;
@@ -695,22 +713,22 @@ static void print_input(const struct input *input)
     if (input->callee != DECLARE && input->callee != END)
         printf(", thread %u", input->thread);
     if (input->callee == ENTER || input->callee == CALL)
-        printf(", env %u", input->env);
+        printf(", env %" PRIu64, input->env);
     if (input->callee == CALL || input->callee == RETURN)
         printf(", function %u", input->function);
     if (input->callee == ENTER) {
         printf(", count %u, handles", input->count);
         for (i = 0; i < WEIR_HANDLES; i++)
-            printf(" %u", input->handles[i]);
+            printf(" %" PRIu64, input->handles[i]);
     }
     if (input->callee == LEAVE || input->callee == RETURN)
-        printf(", result %u", input->result);
+        printf(", result %" PRIu64, input->result);
     if (input->callee == CALL)
-        printf(", a %u, b %u, c %u, n %d", input->a, input->b, input->c, input->n);
+        printf(", a %" PRIu64 ", b %" PRIu64 ", c %" PRIu64 ", n %d", input->a, input->b, input->c, input->n);
     if (input->callee == RETURN)
         printf(", status %d, pending %u", input->status, input->pending);
     if (input->callee == STATE)
-        printf(", handle %u", input->handle);
+        printf(", handle %" PRIu64, input->handle);
     if (input->callee == DECLARE || input->callee == STATE)
         printf(", class %u", input->class_number);
     if (input->callee == DECLARE)

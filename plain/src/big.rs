@@ -25,6 +25,9 @@ enum Manner {
     Recorded,
 }
 
+/// The rows of a kind that says nothing else: those for 2,000 handles alive, more than the program lends.
+const ROWS: usize = 2_048;
+
 /// 2,000 handles alive.
 const STEADY: Balance = Balance {
     threads: THREADS,
@@ -37,11 +40,12 @@ const STEADY: Balance = Balance {
     shared: 300,
     filled: false,
     slot: None,
+    wide: false,
     outstanding: 0,
     chain: 0,
 };
 
-pub const KINDS: [Kind; 10] = [
+pub const KINDS: [Kind; 11] = [
     balanced("steady", STEADY),
     balanced(
         "threads",
@@ -126,9 +130,22 @@ pub const KINDS: [Kind; 10] = [
             },
         )
     },
+    // As steady, in the rows that the program lends, with numbers such as a VM of 64 bits gives.
+    Kind {
+        reference_rows: REFERENCE_ROWS,
+        ..balanced(
+            "wide",
+            Balance {
+                alive: 1_000,
+                shared: 150,
+                wide: true,
+                ..STEADY
+            },
+        )
+    },
     Kind {
         name: "recorded",
-        reference_rows: REFERENCE_ROWS,
+        reference_rows: ROWS,
         manner: Manner::Recorded,
     },
 ];
@@ -136,7 +153,7 @@ pub const KINDS: [Kind; 10] = [
 const fn balanced(name: &'static str, balance: Balance) -> Kind {
     Kind {
         name,
-        reference_rows: REFERENCE_ROWS,
+        reference_rows: ROWS,
         manner: Manner::Balanced(balance),
     }
 }

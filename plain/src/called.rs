@@ -15,6 +15,7 @@ pub fn read(line: &[u8], numbers: &mut [Number; MOST_NUMBERS], count: &mut u32) 
     let (letter, parts) = event.parts().expect("an event that was read");
     *numbers = [0; MOST_NUMBERS];
     for (number, &part) in numbers.iter_mut().zip(parts.iter()) {
+        // Below zero this is its two's complement.
         *number = part as Number;
     }
     *count = parts.len() as u32;
@@ -68,39 +69,46 @@ impl Handed {
                 let mut handles = [0; MOST_HANDLES];
                 handles.get_mut(..named.len())?.copy_from_slice(named);
                 Handed::Enter {
-                    thread,
+                    thread: thread.try_into().ok()?,
                     env,
                     count: named.len() as u32,
                     handles,
                 }
             }
-            (b'X', &[thread, result]) => Handed::Leave { thread, result },
+            (b'X', &[thread, result]) => Handed::Leave {
+                thread: thread.try_into().ok()?,
+                result,
+            },
             (b'C', &[thread, env, function, a, b, c, n]) => Handed::Call {
-                thread,
+                thread: thread.try_into().ok()?,
                 env,
-                function,
+                function: function.try_into().ok()?,
                 places: [a, b, c],
-                capacity: n as i32,
+                capacity: signed(n)?,
             },
             (b'R', &[thread, function, number, pending]) => {
+                let function = function.try_into().ok()?;
                 let (result, status) = if gives_status(function) {
-                    (0, number as i32)
+                    (0, signed(number)?)
                 } else {
                     (number, 0)
                 };
                 Handed::Return {
-                    thread,
+                    thread: thread.try_into().ok()?,
                     function,
                     result,
                     status,
-                    pending,
+                    pending: pending.try_into().ok()?,
                 }
             }
-            (b'K', &[class, superclass]) => Handed::Declare { class, superclass },
+            (b'K', &[class, superclass]) => Handed::Declare {
+                class: class.try_into().ok()?,
+                superclass: superclass.try_into().ok()?,
+            },
             (b'O', &[thread, handle, class]) => Handed::State {
-                thread,
+                thread: thread.try_into().ok()?,
                 handle,
-                class,
+                class: class.try_into().ok()?,
             },
             (b'Z', &[]) => Handed::End,
             _ => return None,
@@ -190,6 +198,11 @@ impl Handed {
         };
         Some(event)
     }
+}
+
+/// The capacity or the status that a number stands for, which below zero is its two's complement.
+fn signed(number: Number) -> Option<i32> {
+    number.cast_signed().try_into().ok()
 }
 
 fn gives_status(function: u32) -> bool {

@@ -1,6 +1,6 @@
 //! Traces chosen by what they show: short ones that show together all that many made traces show.
 
-use crate::limits::{PIN_ROWS, REFERENCE_ROWS};
+use crate::limits::{self, PIN_ROWS, REFERENCE_ROWS};
 use crate::make::{make, profile, Made, DENSE, PROFILES};
 use crate::random::Random;
 use crate::sights::sights;
@@ -11,7 +11,7 @@ const CANDIDATES: u64 = 20_000;
 const MOST_LINES: u32 = 50;
 const TIMES: u32 = 1;
 /// The most bytes of a line before its LF, as what a longer line holds is not looked at.
-const MOST_BYTES: usize = 200;
+const MOST_BYTES: usize = limits::MOST_BYTES + 3;
 
 /// Traces chosen from candidates of their own for each seed.
 pub fn chosen(seed: u64) -> Vec<Made> {

@@ -1,5 +1,8 @@
 //! What a set of steps brings up: lines accepted, functions called, numbers in unused places, handles of each standing in places
-//! that have a class, each refusal by its cause, each rule by line letter and place; and what leak lists bring up: each rule by the kind of leak, refusals, what orders two leaks.
+//! that have a class, each refusal by its cause, lines about the longest, each rule by line letter and place, twins; and what leak
+//! lists bring up: each rule by the kind of leak, refusals, what orders two leaks.
+
+pub mod twins;
 
 use crate::class::{CLASS, STRING, THROWABLE};
 use crate::facts::*;
@@ -13,7 +16,7 @@ use crate::lent::lookup::Handles;
 use crate::lent::references::HANDLE;
 use crate::lent::rows::THREAD;
 use crate::lent::Tables;
-use crate::limits::{Class, Handle, Number, Word, MOST_BYTES, MOST_FRAMES, MOST_ITEMS, THREADS};
+use crate::limits::{Class, Handle, Number, MOST_BYTES, MOST_FRAMES, MOST_ITEMS, THREADS};
 use crate::line::{self, Event};
 use crate::refusal::*;
 use crate::standing::Standing;
@@ -139,6 +142,10 @@ enum What {
     /// The same by the fixed class, whatever the place.
     OfClass(Class, &'static str),
     Refused(Refusal, &'static str),
+    /// The refusal of a line that is just as long as may be, or one byte longer.
+    Long(Refusal),
+    /// What is a twin, or has one.
+    Twin(&'static str),
     /// A rule, a place and a line letter.
     Found(u8, u8, &'static str),
     /// A leak list without any leak.
@@ -169,7 +176,7 @@ impl Coverage {
     pub fn of_foreign() -> Coverage {
         let leaks = [&LEAKS[..], &[FOREIGN_LEAK]].concat();
         let in_lists = in_lists(&leaks, &ORDERS, &[UNFIT_TABLES, OUT_OF_STEP, NO_ROOM]);
-        let also = in_foreign().chain([What::Start]);
+        let also = in_foreign().chain([What::Start, What::Twin(twins::LINES)]);
         Coverage::of(also.chain(in_lists))
     }
 
@@ -190,7 +197,14 @@ impl Coverage {
         let causes = CAUSES.map(|(refusal, cause)| What::Refused(refusal, cause));
         let found = BREACHES.map(|(rule, place, letter)| What::Found(rule, place, letter));
         let all = accepted.chain(called).chain(malformed).chain(out_of_range);
-        let all = all.chain(causes).chain(found).chain(also);
+        let long = [NO_LINE, MALFORMED, OUT_OF_RANGE].map(What::Long);
+        let twins = twins::NAMED.map(What::Twin);
+        let all = all
+            .chain(causes)
+            .chain(long)
+            .chain(found)
+            .chain(twins)
+            .chain(also);
         Coverage(all.map(|what| (what, 0)).collect())
     }
 
@@ -203,15 +217,19 @@ impl Coverage {
         match stepped {
             Ok(findings) => {
                 self.count(What::Accepted(letter(line)));
-                if let Ok(Event::C {
+                let event = line::read(line).expect("an accepted line");
+                if let Event::C {
                     thread,
                     function,
                     places,
                     ..
-                }) = line::read(line)
+                } = event
                 {
                     self.count(What::Called(function));
                     self.add_classes(tables, thread, function, places);
+                }
+                for twin in twins::of_accepted(tables, &event, findings) {
+                    self.count_wanted(What::Twin(twin));
                 }
                 for found in findings.iter() {
                     self.count(What::Found(found.rule, found.place, letter(line)));
@@ -222,6 +240,16 @@ impl Coverage {
                 self.count(What::Refused(*refusal, cause(tables, line, *refusal)));
                 if let Some((function, place)) = sole_unused(line) {
                     self.count_wanted(What::Unused(function, place));
+                }
+                if let [body @ .., b'\n'] = line {
+                    if (MOST_BYTES..=MOST_BYTES + 1).contains(&body.len()) {
+                        self.count_wanted(What::Long(*refusal));
+                    }
+                }
+                if let Ok(event) = line::read(line) {
+                    for twin in twins::of_refused(tables, &event, *refusal) {
+                        self.count_wanted(What::Twin(twin));
+                    }
                 }
             }
         }
@@ -266,6 +294,9 @@ impl Coverage {
                 }
                 for pair in leaks.windows(2) {
                     self.count(What::Ordered(order(&pair[0], &pair[1])));
+                    if twins::of_lines(&pair[0], &pair[1]) {
+                        self.count_wanted(What::Twin(twins::LINES));
+                    }
                 }
             }
         }
@@ -307,6 +338,11 @@ impl fmt::Display for Coverage {
                 What::Refused(refusal, cause) => {
                     (format!("refusal {refusal}"), Some(cause.to_string()))
                 }
+                What::Long(refusal) => (
+                    "about the longest line".to_string(),
+                    Some(format!("with {refusal}:")),
+                ),
+                What::Twin(what) => ("twins".to_string(), Some(format!("{what}:"))),
                 What::Found(rule, place, letter) => {
                     (format!("rule {rule}"), Some(format!("{letter}@{place}")))
                 }
@@ -359,7 +395,8 @@ fn in_foreign() -> impl Iterator<Item = What> {
         let standings = STANDINGS.into_iter().chain(FOREIGN_STANDINGS);
         standings.map(move |standing| What::OfClass(class, standing))
     });
-    causes.into_iter().chain(classes)
+    let columns = twins::COLUMNS.map(What::Twin);
+    causes.into_iter().chain(classes).chain(columns)
 }
 
 /// Each place that has a class, with a handle of each standing from a start.
@@ -454,13 +491,13 @@ pub fn grounds(tables: &Tables, event: &Event) -> Vec<(Refusal, &'static str)> {
             handles,
         } => {
             let own = book.env(thread);
-            let has = |other| other != thread && book.env(other) == Word::from(env);
+            let has = |other| other != thread && book.env(other) == env;
             let named = &handles[..count];
             let is_alive = |&handle: &Handle| references.is_alive(thread, handle);
             let is_twice = |index: usize| named[..index].contains(&named[index]);
             vec![
                 (OUT_OF_STEP, "N", is_native(thread)),
-                (WRONG_ENV, "changed", own != 0 && own != Word::from(env)),
+                (WRONG_ENV, "changed", own != 0 && own != env),
                 (WRONG_ENV, "shared", (1..=THREADS).any(has)),
                 (ALREADY_ALIVE, "N alive", named.iter().any(is_alive)),
                 (ALREADY_ALIVE, "N twice", (0..count).any(is_twice)),
@@ -482,7 +519,7 @@ pub fn grounds(tables: &Tables, event: &Event) -> Vec<(Refusal, &'static str)> {
         } => {
             let is_open =
                 matches!(book.top(thread), Top::Call { function: open, .. } if open == function);
-            let made = result as Handle;
+            let made = line::made(result);
             let (makes, gets, pushes) = match known(function).result {
                 ResultKind::Local | ResultKind::Global | ResultKind::Weak => {
                     (made != 0, false, false)
@@ -530,7 +567,7 @@ fn against_declaration(
     superclass: Class,
 ) -> Vec<(Refusal, &'static str, bool)> {
     let is_known = |class| tables.classes.is_known(class);
-    let is_reserved = is_reserved(class.into());
+    let is_reserved = is_reserved(class);
     let is_of_itself = class == superclass;
     let is_below_nothing = !is_known(superclass);
     vec![

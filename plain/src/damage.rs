@@ -1,7 +1,7 @@
 //! Damage to traces: bytes, fields and whole lines changed, lost or out of order.
 
 use crate::form::{with_fields, MOST_NUMBERS};
-use crate::limits::MOST_BYTES;
+use crate::limits::{Handle, MOST_BYTES, MOST_HANDLES};
 use crate::random::Random;
 
 /// Fields that are no numbers.
@@ -11,7 +11,7 @@ pub const MALFORMED: [&str; 16] = [
 ];
 
 /// Numbers at the ends of ranges, just past them, or far beyond, some of which wrap to small ones.
-pub const NUMBERS: [&str; 30] = [
+pub const NUMBERS: [&str; 45] = [
     "-1",
     "-2",
     "0",
@@ -30,18 +30,33 @@ pub const NUMBERS: [&str; 30] = [
     "2147483648",
     "-2147483648",
     "-2147483649",
+    "4294967291",
     "4294967293",
     "4294967295",
     "4294967296",
     "4294967297",
+    "4294967315",
     "-4294967295",
+    "140187412345673",
     "9223372036854775807",
     "9223372036854775808",
+    "-9223372036854775808",
     "-9223372036854775809",
+    "9999999999999999999",
+    "18446744073709551611",
+    "18446744073709551613",
+    "18446744073709551615",
+    "18446744073709551616",
     "18446744073709551617",
     "-18446744073709551615",
+    "-18446744073709551617",
+    "99999999999999999999",
+    "184467440737095516150",
     "100000000000000000000000000000",
+    "340282366920938463463374607431768211455",
     "340282366920938463463374607431768211457",
+    "-340282366920938463463374607431768211457",
+    "10000000000000000000000000000000000000000000000000000000000000005",
 ];
 
 const ODD_LINES: [&[u8]; 29] = [
@@ -140,7 +155,9 @@ pub fn disorder(lines: &mut Vec<Vec<u8>>, random: &mut Random) {
 /// A line that is wrong, or right only by chance.
 pub fn odd_line(random: &mut Random) -> Vec<u8> {
     if random.percent(10) {
-        let mut line = b"N\t1\t1".to_vec();
+        let numbers = random.pick(&["\t1", "\t18446744073709551613"]);
+        let mut line = b"N\t1".to_vec();
+        line.extend(numbers.repeat(1 + random.below(MOST_HANDLES + 1)).bytes());
         lengthen(&mut line, random);
         return line;
     }
@@ -185,8 +202,9 @@ fn change_field(line: &mut Vec<u8>, random: &mut Random) {
     } else {
         random.pick(&NUMBERS).into()
     };
-    match random.below(12) {
+    match random.below(14) {
         0..=6 => fields[at.max(1).min(count - 1)] = odd,
+        12 | 13 => add_digits(&mut fields[at.max(1).min(count - 1)], random),
         7 => {
             fields.remove(at);
         }
@@ -202,13 +220,30 @@ fn change_field(line: &mut Vec<u8>, random: &mut Random) {
     line.push(b'\n');
 }
 
+/// Adds digits to a field, mostly as many as take it about to the greatest handle or beyond.
+pub fn add_digits(field: &mut Vec<u8>, random: &mut Random) {
+    let greatest = Handle::MAX.to_string();
+    match greatest.as_bytes().strip_prefix(&field[..]) {
+        Some(digits @ [before @ .., _]) if random.percent(50) => match random.below(3) {
+            0 => field.extend(digits),
+            1 => field.extend([before, b"6"].concat()),
+            _ => field.extend([digits, b"0"].concat()),
+        },
+        _ => {
+            let length = greatest.len() - 2 + random.below(5);
+            let digits = length.saturating_sub(field.len()).max(1);
+            field.extend((0..digits).map(|_| random.pick(b"0123456789")));
+        }
+    }
+}
+
 /// Lengthens a line to about the most bytes a line has, or far beyond.
 fn lengthen(line: &mut Vec<u8>, random: &mut Random) {
     let ended = line.pop_if(|byte| *byte == b'\n').is_some();
     let length = match random.below(8) {
         0..=2 => MOST_BYTES,
         3..=5 => MOST_BYTES + 1,
-        6 => random.between(100, 300) as usize,
+        6 => MOST_BYTES - 30 + random.below(MOST_BYTES),
         _ => random.between(4_000, 140_000) as usize,
     };
     let filler = random.pick(b"077\tx");

@@ -2,9 +2,10 @@
 
 use crate::damage::{MALFORMED, NUMBERS};
 use crate::facts::*;
-use crate::form::{with_fields, Kind, CAPACITY, HANDLE, RESULT};
-use crate::limits::{Field, MOST_HANDLES, THREADS};
+use crate::form::{with_fields, Kind, CAPACITY, ENV, HANDLE, RESULT};
+use crate::limits::{Field, Handle, MOST_HANDLES, THREADS};
 use crate::random::Random;
+use crate::twin::HIGH;
 
 /// A line with one field at an edge, the others good.
 pub fn edge_line(random: &mut Random) -> Vec<u8> {
@@ -55,12 +56,20 @@ pub fn edge_line(random: &mut Random) -> Vec<u8> {
     line.into_bytes()
 }
 
-/// The numbers at the ends of a range and just past them, and some whose kind or sign is another.
+/// The numbers at the ends of a range and just past them, such as would be in it if they were cut to 32 or 64 bits, and some whose kind or sign is another.
 fn edges(kind: Kind) -> Vec<Field> {
+    const BITS: [u32; 2] = [u32::BITS, Handle::BITS];
     let Kind(least, greatest) = kind;
     let mut edges = vec![-1, 0, least - 1, least, greatest, greatest + 1];
+    edges.extend(BITS.map(|bits| least + (1 << bits)));
+    edges.extend(BITS.map(|bits| greatest - (1 << bits)));
     match kind {
-        HANDLE => edges.extend((1..=4).chain(greatest - 3..greatest)),
+        HANDLE => {
+            let middle = Field::from(HIGH);
+            let all = (1..=4).chain(middle - 4..middle + 4);
+            edges.extend(all.chain(greatest - 3..greatest));
+        }
+        ENV => edges.extend(Field::from(HIGH) - 1..=Field::from(HIGH) + 1),
         CAPACITY => edges.push(1),
         _ => {}
     }

@@ -7,6 +7,12 @@ use crate::limits::{Field, Handle, MOST_CLASSES, MOST_HANDLES, THREADS};
 #[derive(Clone, Copy, Debug, PartialEq, Eq)]
 pub struct Kind(pub Field, pub Field);
 
+impl Kind {
+    pub fn holds(self, number: Field) -> bool {
+        self.0 <= number && number <= self.1
+    }
+}
+
 pub const THREAD: Kind = Kind(1, THREADS as Field);
 pub const ENV: Kind = Kind(1, Handle::MAX as Field);
 pub const FUNCTION: Kind = Kind(FIRST_FUNCTION as Field, LAST_FUNCTION as Field);
@@ -111,11 +117,9 @@ impl Form {
 
     /// Whether each number is in the range of its field; there are as many as there may be.
     pub fn holds(&self, numbers: &[Field]) -> bool {
-        let in_range = |(&number, &Kind(least, greatest)): (&Field, &Kind)| {
-            least <= number && number <= greatest
-        };
         let (fields, handles) = numbers.split_at(self.fields.len());
-        fields.iter().zip(self.fields).all(in_range)
-            && handles.iter().all(|handle| in_range((handle, &HANDLE)))
+        let mut in_fields = fields.iter().zip(self.fields);
+        in_fields.all(|(&number, kind)| kind.holds(number))
+            && handles.iter().all(|&handle| HANDLE.holds(handle))
     }
 }

@@ -27,4 +27,5 @@ pub mod shrink;
 pub mod sights;
 pub mod single;
 pub mod standing;
+pub mod twin;
 pub mod walk;

@@ -1,21 +1,21 @@
 //! The limits of lines, tables and traces, and how wide their numbers are.
 
-/// An env, a handle, an identity or a buffer.
-pub type Handle = u32;
-/// A number of a lent row or of a finding, as wide as a handle.
+/// An env, a handle, an identity or a buffer; the greatest is `Handle::MAX`.
+pub type Handle = u64;
+/// A number of a lent row, of a finding, of a leak or of a line as C is told it: as wide as a handle.
 pub type Number = Handle;
 /// A number of the thread book, or the marks of as many rows as it has bits.
 pub type Word = u64;
-/// The number of a class.
+/// The number of a class, and a number of the class table.
 pub type Class = u32;
 /// A number on a line, wider than the range of every field.
-pub type Field = i64;
+pub type Field = i128;
 
 pub const THREADS: u32 = 16;
 /// The most handles an N carries.
 pub const MOST_HANDLES: usize = 8;
 /// The most bytes of a line before its LF.
-pub const MOST_BYTES: usize = 128;
+pub const MOST_BYTES: usize = 224;
 /// The most lines of a trace, and the most monitors of a thread.
 pub const MOST_LINES: u32 = 1_000_000;
 /// The most open items of a thread.
@@ -34,5 +34,5 @@ pub const PIN_NUMBERS: usize = 4;
 /// The most rows that count as room.
 pub const MOST_ROOM: usize = 65_536;
 /// The reference rows and pin rows the program lends.
-pub const REFERENCE_ROWS: usize = 2_048;
+pub const REFERENCE_ROWS: usize = 1_024;
 pub const PIN_ROWS: usize = 256;

@@ -6,8 +6,10 @@ use crate::limits::{Class, Field, Handle, MOST_BYTES, MOST_HANDLES};
 use crate::refusal::{Refusal, MALFORMED, NO_LINE, NO_ROOM, OUT_OF_RANGE};
 use std::ops::Deref;
 
-/// The most digits of which each number is a field's; a number of more is beyond all ranges, as `Field::MAX` is.
-const MOST_DIGITS: usize = Field::MAX.ilog10() as usize;
+/// What stands for each number that is greater than a handle can be: it is beyond all ranges.
+const BEYOND: Field = Field::MAX;
+/// The most digits of which each number is no greater.
+const SAFE_DIGITS: usize = Handle::MAX.ilog10() as usize;
 
 #[derive(Clone, Copy, Debug, PartialEq, Eq)]
 pub enum Event {
@@ -54,40 +56,40 @@ impl Event {
             (b'N', &[thread, env, ref named @ ..]) => {
                 let mut handles = [0; MOST_HANDLES];
                 for (handle, &number) in handles.iter_mut().zip(named) {
-                    *handle = number as Handle;
+                    *handle = number.try_into().ok()?;
                 }
                 Event::N {
-                    thread: thread as u32,
-                    env: env as Handle,
+                    thread: thread.try_into().ok()?,
+                    env: env.try_into().ok()?,
                     count: named.len(),
                     handles,
                 }
             }
             (b'X', &[thread, result]) => Event::X {
-                thread: thread as u32,
-                result: result as Handle,
+                thread: thread.try_into().ok()?,
+                result: result.try_into().ok()?,
             },
             (b'C', &[thread, env, function, a, b, c, n]) => Event::C {
-                thread: thread as u32,
-                env: env as Handle,
-                function: function as u32,
-                places: [a, b, c].map(|place| place as Handle),
-                capacity: n as i32,
+                thread: thread.try_into().ok()?,
+                env: env.try_into().ok()?,
+                function: function.try_into().ok()?,
+                places: [a.try_into().ok()?, b.try_into().ok()?, c.try_into().ok()?],
+                capacity: n.try_into().ok()?,
             },
             (b'R', &[thread, function, result, pending]) => Event::R {
-                thread: thread as u32,
-                function: function as u32,
+                thread: thread.try_into().ok()?,
+                function: function.try_into().ok()?,
                 result,
-                pending: pending as u32,
+                pending: pending.try_into().ok()?,
             },
             (b'K', &[class, superclass]) => Event::K {
-                class: class as Class,
-                superclass: superclass as Class,
+                class: class.try_into().ok()?,
+                superclass: superclass.try_into().ok()?,
             },
             (b'O', &[thread, handle, class]) => Event::O {
-                thread: thread as u32,
-                handle: handle as Handle,
-                class: class as Class,
+                thread: thread.try_into().ok()?,
+                handle: handle.try_into().ok()?,
+                class: class.try_into().ok()?,
             },
             (b'Z', &[]) => Event::Z,
             _ => return None,
@@ -200,8 +202,11 @@ pub fn read(line: &[u8]) -> Result<Event, Refusal> {
     let form = form(*letter).filter(|form| rest.is_empty() && form.counts(count));
     let form = form.ok_or(MALFORMED)?;
     let numbers = &numbers[..count];
+    if !form.holds(numbers) {
+        return Err(OUT_OF_RANGE);
+    }
     match Event::of(form.letter, numbers) {
-        Some(event) if form.holds(numbers) && event.fits() => Ok(event),
+        Some(event) if event.fits() => Ok(event),
         _ => Err(OUT_OF_RANGE),
     }
 }
@@ -232,25 +237,43 @@ fn number(field: &[u8]) -> Option<(Field, &[u8])> {
         [b'-', digits @ ..] => (true, digits),
         digits => (false, digits),
     };
-    let mut value: Field = 0;
+    // Of more digits than are safe this may wrap, and they are looked at again.
+    let mut size: Handle = 0;
     let mut rest = digits;
     while let [digit @ b'0'..=b'9', after @ ..] = rest {
-        value = value.wrapping_mul(10).wrapping_add((digit - b'0').into());
+        size = size.wrapping_mul(10).wrapping_add((digit - b'0').into());
         rest = after;
     }
     let length = digits.len() - rest.len();
     if length == 0 || digits[0] == b'0' && (length > 1 || negative) {
         return None;
     }
-    if length > MOST_DIGITS {
-        value = Field::MAX;
-    }
-    Some((if negative { -value } else { value }, rest))
+    let size = if length <= SAFE_DIGITS {
+        size.into()
+    } else {
+        checked(&digits[..length]).map_or(BEYOND, Field::from)
+    };
+    Some((if negative { -size } else { size }, rest))
+}
+
+/// The number that digits stand for, if it is not greater than a handle can be.
+fn checked(digits: &[u8]) -> Option<Handle> {
+    digits.iter().try_fold(0, |size: Handle, digit| {
+        size.checked_mul(10)?.checked_add((digit - b'0').into())
+    })
+}
+
+/// What a result makes; a status below zero makes nothing.
+pub fn made(result: Field) -> Handle {
+    Handle::try_from(result).unwrap_or(0)
 }
 
 /// Whether a function with results of this kind may give this one.
 fn is_result(kind: ResultKind, result: Field) -> bool {
-    let of_kind = |kind: Handle| result == 0 || result > 0 && result % 4 == Field::from(kind);
+    let of_kind = |kind| {
+        let handle = Handle::try_from(result);
+        handle.is_ok_and(|handle| handle == 0 || handle % 4 == kind)
+    };
     match kind {
         ResultKind::Nothing => result == 0,
         ResultKind::Local => of_kind(LOCAL),
@@ -318,7 +341,7 @@ impl Line {
             self.byte(b'-');
         }
         let start = self.length;
-        let mut rest = number.unsigned_abs();
+        let mut rest = Handle::try_from(number.unsigned_abs()).expect("a number in range");
         loop {
             self.byte(b'0' + (rest % 10) as u8);
             rest /= 10;

@@ -15,6 +15,7 @@ use crate::limits::*;
 use crate::line::{self, Event};
 use crate::random::Random;
 use crate::refusal::Refusal;
+use crate::twin::{twin_of, ADDRESS, HIGH};
 
 /// A trace, how it is made, and the rows of the judge that it is for.
 #[derive(Clone, Debug)]
@@ -70,6 +71,16 @@ pub struct Profile {
     refusals: &'static [Refusal],
     harm: Harm,
 }
+
+/// From which numbers those of a trace are counted: from the least, from an address, or from several of which twins come.
+const BASES: [&[Handle]; 6] = [
+    &[0],
+    &[0],
+    &[ADDRESS],
+    &[0, HIGH],
+    &[ADDRESS, ADDRESS ^ HIGH],
+    &[0, HIGH, Handle::MAX - (HIGH - 1)],
+];
 
 /// What is done to the lines of a made trace.
 #[derive(Clone, Copy, Debug, PartialEq, Eq)]
@@ -209,7 +220,7 @@ pub const PROFILES: [Profile; 21] = [
         threads: (12, THREADS),
         numbers: 3_000,
         spoilt: 2,
-        nested: 80,
+        nested: 40,
         left: 1,
         crowded: 90,
         pending: 1,
@@ -270,6 +281,7 @@ pub const PROFILES: [Profile; 21] = [
         threads: (1, 3),
         numbers: 4,
         spoilt: 3,
+        stale: 4,
         classed: 20,
         pending: 2,
         favoured: 95,
@@ -459,9 +471,11 @@ pub fn make(
     }
     let (fewest, most) = profile.threads;
     threads.truncate(random.between(fewest, most) as usize);
+    let bases = random.pick(&BASES);
     let mut maker = Maker {
         profile,
         random,
+        bases,
         judge: Judge::new(reference_rows, pin_rows),
         threads,
         lines: Vec::new(),
@@ -490,6 +504,7 @@ pub fn make(
 struct Maker<'a> {
     profile: &'a Profile,
     random: Random,
+    bases: &'static [Handle],
     /// The model: the judge of the lines made so far.
     judge: Judge,
     threads: Vec<u32>,
@@ -568,8 +583,7 @@ impl Maker<'_> {
         if self.random.percent(astray) {
             return self.astray(thread);
         }
-        // No number is drawn where there is no chance, here and below, so that a seed makes what it made before there was this one.
-        if self.profile.classed > 0 && self.random.percent(self.profile.classed) {
+        if self.random.percent(self.profile.classed) {
             return self.class_event(thread);
         }
         match self.top(thread) {
@@ -602,7 +616,7 @@ impl Maker<'_> {
 
     fn enter_with_doubtful_env(&mut self, thread: u32) -> Event {
         let (thread, env) = if self.random.percent(50) {
-            (thread, self.other_env())
+            (thread, self.other_env(thread))
         } else {
             let book = self.judge.tables().book;
             let is_idle = |&thread: &u32| book.top(thread) == Top::Nothing;
@@ -688,7 +702,7 @@ impl Maker<'_> {
         let function = self.function(thread);
         let facts = known(function);
         let env = if self.random.percent(self.profile.spoilt / 3) {
-            self.other_env()
+            self.other_env(thread)
         } else {
             env_of(thread)
         };
@@ -763,7 +777,7 @@ impl Maker<'_> {
             kind,
             PlaceKind::Unused | PlaceKind::Identity | PlaceKind::Buffer(_)
         );
-        if self.profile.stale > 0 && is_handle && self.random.percent(self.profile.stale) {
+        if is_handle && self.random.percent(self.profile.stale) {
             let kind = self.random.pick(&[LOCAL, LOCAL, GLOBAL, WEAK]);
             return self.number(kind);
         }
@@ -784,12 +798,19 @@ impl Maker<'_> {
             PlaceKind::Identity => Some(self.number(0)),
             PlaceKind::Buffer(family) => self.outstanding(thread, family),
         };
-        good.unwrap_or_else(|| self.spoilt_value(thread))
+        match good {
+            None => self.spoilt_value(thread),
+            Some(value) if value != 0 && self.random.percent(self.profile.spoilt / 2) => {
+                twin_of(value, &mut self.random)
+            }
+            Some(value) => value,
+        }
     }
 
     fn spoilt_value(&mut self, thread: u32) -> Handle {
-        match self.random.below(9) {
+        match self.random.below(10) {
             0 | 1 => 0,
+            9 => twin_of(0, &mut self.random),
             2 => self.number(0),
             3 => self.number(LOCAL),
             4 => self.number(GLOBAL),
@@ -855,20 +876,24 @@ impl Maker<'_> {
         handle
     }
 
-    /// A nonzero number with this remainder by 4.
+    /// A nonzero number with this remainder by 4, at its ends also such as lie about the first of more than 32 bits.
     fn number(&mut self, remainder: Handle) -> Handle {
         let low = if remainder == 0 { 4 } else { remainder };
         if self.random.percent(self.profile.at_ends) {
-            return self.random.pick(&[low, Handle::MAX - 3 + remainder]);
+            let high = HIGH + remainder;
+            let greatest = Handle::MAX - 3 + remainder;
+            return self.random.pick(&[low, high - 4, high, greatest]);
         }
-        low + 4 * self.random.below(self.profile.numbers) as Handle
+        let base = self.random.pick(self.bases);
+        base + low + 4 * self.random.below(self.profile.numbers) as Handle
     }
 
     fn buffer(&mut self) -> Handle {
         if self.random.percent(self.profile.at_ends) {
-            return self.random.pick(&[1, Handle::MAX]);
+            return self.random.pick(&[1, HIGH - 1, HIGH, Handle::MAX]);
         }
-        1 + self.random.below(self.profile.numbers) as Handle
+        let base = self.random.pick(self.bases);
+        base + 1 + self.random.below(self.profile.numbers) as Handle
     }
 
     fn capacity(&mut self) -> i32 {
@@ -886,21 +911,25 @@ impl Maker<'_> {
         self.random.pick(&[0, 0, 0, 0, 0, 0, 0, -1, 1, -4])
     }
 
-    fn other_env(&mut self) -> Handle {
-        match self.random.below(3) {
-            0 => self.random.pick(&[1, Handle::MAX]),
+    fn other_env(&mut self, thread: u32) -> Handle {
+        match self.random.below(5) {
+            0 => self.random.pick(&[1, HIGH - 1, HIGH, Handle::MAX]),
             1 => env_of(self.random.between(1, THREADS)),
+            2 | 3 => twin_of(env_of(thread), &mut self.random),
             _ => Handle::from(self.random.between(2, 2_000)),
         }
     }
 }
 
-/// The envs the maker gives the threads, both ends of the range among them.
+/// The envs the maker gives the threads: both ends of the range, small ones and addresses, of the others each two twins.
 fn env_of(thread: u32) -> Handle {
+    let base = if thread < 8 { 0 } else { ADDRESS };
+    let even = base + 100 * Handle::from(thread / 2);
     match thread {
         1 => 1,
         THREADS => Handle::MAX,
-        _ => 100 * Handle::from(thread),
+        _ if thread.is_multiple_of(2) => even,
+        _ => even ^ HIGH,
     }
 }
 

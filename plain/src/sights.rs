@@ -8,7 +8,7 @@ mod fields;
 mod leaks;
 mod past;
 
-use crate::coverage::grounds;
+use crate::coverage::{grounds, twins};
 use crate::facts::*;
 use crate::findings::{Finding, Findings};
 use crate::judge::Judge;
@@ -70,6 +70,8 @@ impl Watch {
         let against = grounds(&self.judge.tables(), &event);
         if let Some(&(refusal, _)) = against.first() {
             self.refused(&event, refusal, &against);
+            let twins = twins::of_refused(&self.judge.tables(), &event, refusal);
+            self.twins(&event, twins);
             return Err(refusal);
         }
         self.sights.extend(fields::of_read(&event));
@@ -79,9 +81,23 @@ impl Watch {
         self.classed.add(&tables, &event);
         let findings = self.judge.step(line).expect("nothing is against it");
         self.found(letter(&event), &findings);
+        let twins = twins::of_accepted(&self.judge.tables(), &event, &findings);
+        self.twins(&event, twins);
         self.past
             .add(&event, !findings.is_empty(), before, &self.judge.tables());
         Ok(())
+    }
+
+    /// The twins that come up with an event, beside the kind of what it names or makes.
+    fn twins(&mut self, event: &Event, twins: Vec<&'static str>) {
+        let letters = match *event {
+            Event::C { function, .. } => known(function).letters().0,
+            Event::R { function, .. } => known(function).letters().1.to_string(),
+            _ => String::new(),
+        };
+        for twin in twins {
+            self.show(format!("{} {letters}: {twin} a twin", letter(event)));
+        }
     }
 
     fn end(&mut self, refusal: Option<Refusal>) {
@@ -137,7 +153,7 @@ impl Watch {
         }
         let book = self.judge.tables().book;
         let is_sharer = |other: &u32| match *event {
-            Event::N { thread, env, .. } => *other != thread && book.env(*other) == Word::from(env),
+            Event::N { thread, env, .. } => *other != thread && book.env(*other) == env,
             _ => false,
         };
         let sharer = (1..=THREADS).find(is_sharer);
@@ -160,7 +176,7 @@ impl Watch {
         let thread = thread(event);
         let made: Vec<Handle> = match *event {
             Event::N { count, handles, .. } => handles[..count].to_vec(),
-            Event::R { result, .. } => vec![result as Handle],
+            Event::R { result, .. } => vec![line::made(result)],
             _ => Vec::new(),
         };
         for handle in made {
@@ -262,8 +278,8 @@ impl Watch {
         let book = self.judge.tables().book;
         let others =
             |test: &dyn Fn(u32) -> bool| (1..=THREADS).any(|other| other != thread && test(other));
-        let own_env = book.env(thread) == Word::from(env);
-        let others_env = others(&|other| book.env(other) == Word::from(env));
+        let own_env = book.env(thread) == env;
+        let others_env = others(&|other| book.env(other) == env);
         let pending = book.is_pending(thread);
         let others_pending = others(&|other| book.is_pending(other));
         let monitors = few(book.monitors(thread) as usize);
@@ -377,7 +393,7 @@ impl Watch {
         };
         self.show(format!("R: pending {was}, then {pending}"));
         if makes && "LGW".contains(kind) {
-            let handle = result as Handle;
+            let handle = line::made(result);
             let rows = self.judge.tables().references.rows;
             let elsewhere = rows.has(|row| row[HANDLE] == handle);
             let fate = self.past.of_handle(thread, handle);

@@ -12,7 +12,7 @@ pub enum Standing {
     /// It is below the fixed class, by so many supers.
     Below(usize),
     /// It is another reserved class, or below that one by so many supers.
-    Under(Number, usize),
+    Under(Class, usize),
     /// Its supers lead to a number that is no class or is not declared.
     Lost,
     /// Its supers lead back to one of them, there being more than there are classes.
@@ -24,9 +24,11 @@ impl Standing {
         if stated == 0 {
             return Standing::Unstated;
         }
-        let mut class = stated;
+        let Ok(mut class) = Class::try_from(stated) else {
+            return Standing::Lost;
+        };
         for supers in 0..=MOST_CLASSES {
-            if class == Number::from(fixed) {
+            if class == fixed {
                 return match supers {
                     0 => Standing::Itself,
                     _ => Standing::Below(supers),

@@ -10,6 +10,7 @@ use crate::lent::references::owner;
 use crate::limits::*;
 use crate::line::Event;
 use crate::random::Random;
+use crate::twin::ADDRESS;
 use std::io::{self, Write};
 
 const EXCEPTION_CLEAR: u32 = 17;
@@ -48,6 +49,8 @@ pub struct Balance {
     pub filled: bool,
     /// All handles have this slot of the proved judge's index.
     pub slot: Option<usize>,
+    /// Envs, handles, identities and buffers are numbers such as a VM of 64 bits gives.
+    pub wide: bool,
     /// The outstanding buffers about which gets and releases keep balance.
     pub outstanding: usize,
     /// Where it is not 0, handles come from N alone, and each call judges one by a chain of so many classes.
@@ -195,7 +198,7 @@ impl<W: Write> Maker<'_, W> {
         held.locals.extend(&handles[..count]);
         self.trace.put(Event::N {
             thread,
-            env: env_of(thread),
+            env: self.env_of(thread),
             count,
             handles,
         })
@@ -324,7 +327,7 @@ impl<W: Write> Maker<'_, W> {
                 handle
             }
             ResultKind::Buffer(family) if pins_left > 0 => {
-                let buffer = 1 + self.random.below(1 << 31) as Handle;
+                let buffer = self.base() + 1 + self.random.below(1 << 31) as Handle;
                 if family.is_critical() {
                     self.held(thread).critical.push(buffer);
                 } else {
@@ -350,10 +353,9 @@ impl<W: Write> Maker<'_, W> {
         places: [Handle; 3],
         capacity: i32,
     ) -> io::Result<()> {
-        let env = if self.random.below(1_000) == 0 {
-            env_of(thread) + 1
-        } else {
-            env_of(thread)
+        let env = match self.random.below(1_000) {
+            0 => self.env_of(thread) + 1,
+            _ => self.env_of(thread),
         };
         self.trace.put(Event::C {
             thread,
@@ -423,10 +425,19 @@ impl<W: Write> Maker<'_, W> {
 
     /// A nonzero number with this remainder by 4.
     fn number(&mut self, remainder: Handle) -> Handle {
-        4 * Handle::from(self.random.between(1, (1 << 30) - 1)) + remainder
+        self.base() + 4 * Handle::from(self.random.between(1, (1 << 30) - 1)) + remainder
     }
-}
 
-fn env_of(thread: u32) -> Handle {
-    0x7f00_0000 + 0x100 * Handle::from(thread)
+    fn env_of(&self, thread: u32) -> Handle {
+        self.base() + 0x7f00_0000 + 0x100 * Handle::from(thread)
+    }
+
+    /// From where numbers are counted.
+    fn base(&self) -> Handle {
+        if self.balance.wide {
+            ADDRESS
+        } else {
+            0
+        }
+    }
 }

@@ -364,7 +364,7 @@ impl Recorder {
     }
 
     fn identity(&mut self) -> Handle {
-        4 * self.random.between(1, IDENTITIES)
+        4 * Handle::from(self.random.between(1, IDENTITIES))
     }
 }
 

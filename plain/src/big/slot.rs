@@ -3,9 +3,12 @@
 use crate::facts::WEAK;
 use crate::limits::{Handle, Number, THREADS};
 
+const HALF: Handle = 1 << 32;
+
 /// The slot where the row of a handle is looked for first; the thread is that of a local, or 0.
-pub fn slot_of(thread: u32, handle: u32) -> usize {
-    let spread = u64::from(handle) * 2_654_435_769 + u64::from(thread) * 1_597_334_677;
+pub fn slot_of(thread: Number, handle: Handle) -> usize {
+    let halves = handle % HALF * 2_654_435_769 + handle / HALF * 1_597_334_677;
+    let spread = halves + thread % 32 * 2_246_822_519;
     (spread / 131_072 % 32_768) as usize
 }
 

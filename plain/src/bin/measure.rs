@@ -1,4 +1,4 @@
-//! Measures the plain reader alone, the plain judge and the indexed one on a trace held in memory.
+//! Measures the plain reader alone, the plain judge and the indexed one on a trace held in memory; the judges have the rows that the program lends, or others.
 
 use plain::judge::Judge;
 use plain::lent::lookup::Lookup;
@@ -13,8 +13,8 @@ const ROUNDS: u32 = 7;
 
 fn main() -> ExitCode {
     let arguments: Vec<String> = std::env::args().skip(1).collect();
-    let [file] = &arguments[..] else {
-        eprintln!("usage: measure TRACE");
+    let Some((reference_rows, file)) = wish(&arguments) else {
+        eprintln!("usage: measure [--rows REFERENCE_ROWS] TRACE");
         return ExitCode::from(2);
     };
     let trace = match std::fs::read(file) {
@@ -31,16 +31,25 @@ fn main() -> ExitCode {
         }
     });
     let judge = best(lines.len(), || {
-        judge_all(Judge::new(REFERENCE_ROWS, PIN_ROWS), &lines);
+        judge_all(Judge::new(reference_rows, PIN_ROWS), &lines);
     });
     let indexed = best(lines.len(), || {
-        judge_all(Judge::indexed(REFERENCE_ROWS, PIN_ROWS), &lines);
+        judge_all(Judge::indexed(reference_rows, PIN_ROWS), &lines);
     });
     println!("{} lines, {} bytes", lines.len(), trace.len());
     println!("reader {reader:.1} ns/line");
     println!("judge {judge:.1} ns/line");
     println!("indexed {indexed:.1} ns/line");
     ExitCode::SUCCESS
+}
+
+/// The reference rows, and the file with the trace.
+fn wish(arguments: &[String]) -> Option<(usize, &str)> {
+    match arguments {
+        [file] => Some((REFERENCE_ROWS, file)),
+        [option, rows, file] if option == "--rows" => Some((rows.parse().ok()?, file)),
+        _ => None,
+    }
 }
 
 fn judge_all<L: Lookup>(mut judge: Judge<L>, lines: &[&[u8]]) {

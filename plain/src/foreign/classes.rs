@@ -3,15 +3,16 @@
 use crate::class::{CLASS, FIRST_DECLARED, OBJECT, THROWABLE};
 use crate::limits::{Class, Number, MOST_CLASSES};
 use crate::random::Random;
+use crate::twin::twin_of;
 
 const LAST: Class = MOST_CLASSES as Class;
 /// The classes from the first that can be declared on, and from the last down, of which the most are.
 const FEW: Class = 12;
 
 /// A number for each class: those that lines name are mostly declared, below one another; of the others none is, or all are.
-pub fn small(random: &mut Random, classes: &mut [Number]) {
+pub fn small(random: &mut Random, classes: &mut [Class]) {
     let chance = random.pick(&[0, 70, 90, 100, 100]);
-    let all = random.pick(&[0, 0, 1, Number::MAX]);
+    let all = random.pick(&[0, 0, 1, Class::MAX]);
     classes.fill(all);
     for class in (1..FIRST_DECLARED + FEW).chain(LAST - FEW..=LAST) {
         if let Some(number) = classes.get_mut(class as usize - 1) {
@@ -27,25 +28,25 @@ pub fn small(random: &mut Random, classes: &mut [Number]) {
     }
     // What is past the last class would be right somewhere, if it were looked at.
     if let Some(past) = classes.get_mut(MOST_CLASSES..) {
-        past.fill(random.between(CLASS, THROWABLE).into());
+        past.fill(random.between(CLASS, THROWABLE));
     }
 }
 
 /// One chain of all classes, up or down, which ends at a reserved class, nowhere, or where it began.
-fn long_chain(random: &mut Random, classes: &mut [Number]) {
+fn long_chain(random: &mut Random, classes: &mut [Class]) {
     let end = random.pick(&[1, 2, 2, 3, 3, 4, 4, 0, FIRST_DECLARED, LAST, LAST + 1]);
     let is_down = random.percent(50);
     for (number, class) in classes.iter_mut().zip(1..=LAST) {
-        *number = Number::from(match (is_down, class) {
+        *number = match (is_down, class) {
             (true, ..=FIRST_DECLARED) | (false, LAST) => end,
             (true, _) => class - 1,
             (false, _) => class + 1,
-        });
+        };
     }
 }
 
 /// Changes the number of some class, mostly of one that lines name.
-pub fn damage(random: &mut Random, classes: &mut [Number]) {
+pub fn damage(random: &mut Random, classes: &mut [Class]) {
     if classes.is_empty() {
         return;
     }
@@ -59,13 +60,17 @@ pub fn damage(random: &mut Random, classes: &mut [Number]) {
     }
 }
 
-/// The class in a row: often none, mostly one that there may be.
+/// The class in a row: often none, mostly one that there may be, or its twin.
 pub fn stated(random: &mut Random) -> Number {
-    match random.below(10) {
+    let class = match random.below(10) {
         0 | 1 => 0,
         2 => other(random),
-        3 | 4 => random.between(OBJECT, THROWABLE).into(),
-        _ => one(random).into(),
+        3 | 4 => random.between(OBJECT, THROWABLE),
+        _ => one(random),
+    };
+    match random.below(20) {
+        0 => twin_of(class.into(), random),
+        _ => class.into(),
     }
 }
 
@@ -79,28 +84,28 @@ pub fn one(random: &mut Random) -> Class {
 }
 
 /// What stands at a class as its super.
-fn superclass(random: &mut Random, class: Class) -> Number {
+fn superclass(random: &mut Random, class: Class) -> Class {
     match random.below(14) {
-        0..=6 => random.between(OBJECT, THROWABLE).into(),
+        0..=6 => random.between(OBJECT, THROWABLE),
         7 => other(random),
-        8 => class.into(),
-        9 | 10 => one(random).into(),
-        _ => Number::from(class.saturating_sub(random.between(1, 3))),
+        8 => class,
+        9 | 10 => one(random),
+        _ => class.saturating_sub(random.between(1, 3)),
     }
 }
 
 /// What is no class, or is one only in its low bits.
-fn other(random: &mut Random) -> Number {
-    let class = Number::from(one(random));
-    let past = Number::from(LAST) + 1;
+fn other(random: &mut Random) -> Class {
+    let class = one(random);
+    let past = LAST + 1;
     random.pick(&[
         0,
         past,
         past,
         past + 1,
-        past + class % Number::from(FEW),
+        past + class % FEW,
         (1 << 16) + class,
         (1 << 31) + class,
-        Number::MAX,
+        Class::MAX,
     ])
 }

@@ -11,6 +11,7 @@ use crate::lent::slices::Slices;
 use crate::limits::*;
 use crate::make;
 use crate::random::Random;
+use crate::twin::{twin_of, HIGH};
 
 /// Tables, and lines of a trace that may follow.
 #[derive(Clone, Debug)]
@@ -19,9 +20,6 @@ pub struct Foreign {
     pub slices: Slices,
     pub lines: Vec<Vec<u8>>,
 }
-
-/// A number of more than 32 bits.
-const HIGH: Word = 1 << 32;
 
 pub fn make(random: &mut Random) -> Foreign {
     let mut lines = Vec::new();
@@ -51,13 +49,15 @@ fn nothing() -> Slices {
 /// Any numbers.
 fn wild(random: &mut Random) -> Slices {
     let mut slices = lengths(random);
-    let numbers = slices.rows.iter_mut().chain(&mut slices.pins);
-    for number in numbers.chain(&mut slices.classes) {
-        *number = random.number() as Number;
+    for number in slices.rows.iter_mut().chain(&mut slices.pins) {
+        *number = random.number();
     }
     let words = slices.marks.iter_mut().chain(&mut slices.pin_marks);
     for number in words.chain(&mut slices.book) {
         *number = random.number();
+    }
+    for number in &mut slices.classes {
+        *number = random.number() as Class;
     }
     slices
 }
@@ -71,6 +71,7 @@ fn small(random: &mut Random) -> Slices {
     if random.percent(15) {
         crowd(slices.rows.as_chunks_mut().0);
     }
+    twin_columns(random, &mut slices);
     some_marks(random, &mut slices.marks);
     some_marks(random, &mut slices.pin_marks);
     classes::small(random, &mut slices.classes);
@@ -125,6 +126,7 @@ fn damaged(random: &mut Random, follow: &mut Vec<Vec<u8>>) -> Slices {
             _ => damage_book(random, &mut slices.book),
         }
     }
+    twin_columns(random, &mut slices);
     slices
 }
 
@@ -219,7 +221,7 @@ fn lines_in_order<const NUMBERS: usize>(random: &mut Random, numbers: &mut [Numb
             0 => number,
             1 => most - number,
             2 => 7,
-            _ => random.number() as Number % most,
+            _ => random.number() % most,
         };
     }
 }
@@ -233,22 +235,26 @@ fn making_line(random: &mut Random) -> Number {
     }
 }
 
-/// A number up to the greatest, or sometimes one that is like it in its low bits.
+/// A number up to the greatest, or sometimes one that is like it in its low bits, mostly its twin.
 fn alike(random: &mut Random, greatest: u32) -> Number {
     let number = Number::from(random.between(0, greatest));
-    if random.percent(5) {
-        number + random.pick(&[1 << 8, 1 << 16, 1 << 31])
-    } else {
-        number
+    match random.below(100) {
+        0..3 => number + random.pick(&[1 << 8, 1 << 16, 1 << 31]),
+        3..11 => twin_of(number, random),
+        _ => number,
     }
 }
 
-/// The thread in a row: none, one of the first so many, or one that there is not.
+/// The thread in a row: none, one of the first so many, or one that there is not, but may be like one in its low bits.
 fn owner(random: &mut Random, threads: u32) -> Number {
     match random.below(20) {
         0..=5 => 0,
         6 => random.pick(&[17, 100, Number::MAX]),
-        7 => alike(random, THREADS),
+        7 => {
+            let one = random.between(0, threads).into();
+            let twin = twin_of(one, random);
+            random.pick(&[one + (1 << 8), one + (1 << 31), twin])
+        }
         _ => Number::from(random.between(1, threads)),
     }
 }
@@ -272,12 +278,32 @@ fn damage_row(random: &mut Random, rows: &mut [Number]) {
     } else {
         random.below(rows.len())
     };
-    rows[at] = match random.below(4) {
-        0 => random.number() as Number,
+    rows[at] = match random.below(5) {
+        0 => random.number(),
         1 => rows[at].wrapping_add(random.pick(&[1, Number::MAX])),
         2 => rows[random.below(rows.len())],
+        3 => twin_of(rows[at], random),
         _ => Number::from(small_number(random)),
     };
+}
+
+/// Mostly nothing, or twins in a column of some rows.
+fn twin_columns(random: &mut Random, slices: &mut Slices) {
+    if random.percent(20) {
+        twin_column::<REFERENCE_NUMBERS>(random, &mut slices.rows);
+    }
+    if random.percent(20) {
+        twin_column::<PIN_NUMBERS>(random, &mut slices.pins);
+    }
+}
+
+fn twin_column<const NUMBERS: usize>(random: &mut Random, numbers: &mut [Number]) {
+    let column = random.below(NUMBERS);
+    for row in numbers.as_chunks_mut::<NUMBERS>().0 {
+        if random.percent(40) {
+            row[column] = twin_of(row[column], random);
+        }
+    }
 }
 
 /// Changes the class of some row, mostly of one of the first.

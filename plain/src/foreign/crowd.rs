@@ -5,6 +5,7 @@ use crate::facts::{LOCAL, WEAK};
 use crate::lent::references::{Reference, HANDLE};
 use crate::lent::rows::THREAD;
 use crate::limits::{Handle, THREADS};
+use crate::twin::HIGH;
 use std::sync::LazyLock;
 
 /// The slot, and how many handles of it there are of each owner and kind.
@@ -18,7 +19,7 @@ static HANDLES: LazyLock<Vec<[[Handle; FEW]; WEAK as usize + 1]>> = LazyLock::ne
         LOCAL..=WEAK => slots.handle(owner, kind, index),
         _ => 4 * index as Handle,
     };
-    let owners = 0..=THREADS;
+    let owners = 0..=THREADS.into();
     let of_owner = |owner| {
         std::array::from_fn(|kind| {
             std::array::from_fn(|index| handle(owner, kind as Handle, index))
@@ -27,12 +28,12 @@ static HANDLES: LazyLock<Vec<[[Handle; FEW]; WEAK as usize + 1]>> = LazyLock::ne
     owners.map(of_owner).collect()
 });
 
-/// Puts a handle of the slot and of the same kind in each row whose thread is one.
+/// Puts a handle of the slot and of the same kind in each row whose thread is one; its high half stays, so that there are twins.
 pub fn crowd(rows: &mut [Reference]) {
     for row in rows {
         if let Some(kinds) = HANDLES.get(row[THREAD] as usize) {
             let handle = row[HANDLE] as usize;
-            row[HANDLE] = kinds[handle % 4][handle / 4 % FEW];
+            row[HANDLE] = row[HANDLE] / HIGH * HIGH + kinds[handle % 4][handle / 4 % FEW];
         }
     }
 }

@@ -6,7 +6,7 @@ use crate::damage::{damage_bytes, damage_fields, odd_line};
 use crate::edge::edge_line;
 use crate::facts::*;
 use crate::lent::book::Top;
-use crate::lent::pins::{self, BUFFER, FAMILY};
+use crate::lent::pins::{self, Pin, BUFFER, FAMILY};
 use crate::lent::references::{self, Reference, CLASS, HANDLE};
 use crate::lent::rows::{Rows, THREAD};
 use crate::lent::Tables;
@@ -14,6 +14,7 @@ use crate::limits::*;
 use crate::line::{write, Event};
 use crate::random::Random;
 use crate::standing::Standing;
+use crate::twin::{twin_of, HIGH};
 
 /// The most rows that are looked at for a class.
 const MOST_LOOKS: usize = 200;
@@ -136,13 +137,18 @@ impl Aim<'_, '_> {
 
     fn call(&self, thread: u32, random: &mut Random) -> Event {
         // Now and then the release of what stands in some pin row.
-        let pin = any_row(&self.tables.pins.rows, random).filter(|_| random.percent(10));
+        let pin = match random.below(20) {
+            0 | 1 => any_row(&self.tables.pins.rows, random),
+            2..=4 => self.pin(thread, random),
+            _ => None,
+        };
         let family = pin.and_then(|pin| FAMILIES.get(pin[FAMILY] as usize % 256));
         let function = family.map_or_else(|| a_function(random), |&(_, release)| release);
         let facts = known(function);
         let places = [0, 1, 2].map(|index| match (facts.places[index], pin) {
             (PlaceKind::Unused, _) => 0,
             (PlaceKind::Identity, _) if random.percent(60) => 8,
+            (PlaceKind::Buffer(_), Some(pin)) if random.percent(20) => twin_of(pin[BUFFER], random),
             (PlaceKind::Buffer(_), Some(pin)) => pin[BUFFER],
             (PlaceKind::Buffer(family), None) => self.buffer(thread, family, random),
             _ => self
@@ -174,7 +180,11 @@ impl Aim<'_, '_> {
             ResultKind::Global => Field::from(handle / 4 * 4 + GLOBAL),
             ResultKind::Weak => Field::from(handle / 4 * 4 + WEAK),
             ResultKind::Identity => Field::from(handle / 4 * 4),
-            ResultKind::Buffer(_) => random.between(0, 9).into(),
+            ResultKind::Buffer(_) => {
+                let buffer = random.between(0, 9).into();
+                let twin = twin_of(buffer, random);
+                random.pick(&[buffer, buffer, buffer, twin]).into()
+            }
         };
         Event::R {
             thread,
@@ -199,9 +209,13 @@ impl Aim<'_, '_> {
         } else {
             None
         };
+        let handle = alive.unwrap_or_else(|| self.handle(thread, random));
         Event::O {
             thread,
-            handle: alive.unwrap_or_else(|| self.handle(thread, random)),
+            handle: match random.below(8) {
+                0 => twin_of(handle, random),
+                _ => handle,
+            },
             class: match random.below(3) {
                 0 => random.between(OBJECT, THROWABLE),
                 _ => classes::one(random),
@@ -209,15 +223,16 @@ impl Aim<'_, '_> {
         }
     }
 
-    /// Mostly the thread's own, as far as a line can name it.
+    /// Mostly the thread's own, or its twin.
     fn env(&self, thread: u32, random: &mut Random) -> Handle {
         let other = random.between(1, THREADS);
         if self.is_unfit || random.percent(8) {
             return 100 * Handle::from(other);
         }
         let of = if random.percent(90) { thread } else { other };
-        match self.tables.book.env(of) as Handle {
+        match self.tables.book.env(of) {
             0 => 100 * Handle::from(thread),
+            env if random.percent(8) => twin_of(env, random),
             env => env,
         }
     }
@@ -253,12 +268,13 @@ impl Aim<'_, '_> {
         index.map(|index| rows.all()[index][HANDLE])
     }
 
-    /// A handle that stands in some row, or a small number.
+    /// A handle that stands in some row, its twin, or a small number.
     fn handle(&self, thread: u32, random: &mut Random) -> Handle {
         const LAST: Handle = Handle::MAX;
         let rows = &self.tables.references.rows;
         let wanted = Number::from(random.pick(&[thread, thread, 0]));
-        match random.below(10) {
+        match random.below(11) {
+            10 => row_of(rows, wanted, random).map(|row| twin_of(row[HANDLE], random)),
             0..4 => row_of(rows, wanted, random).map(|row| row[HANDLE]),
             4..6 => any_row(rows, random).map(|row| row[HANDLE]),
             6 => Some(random.pick(&[0, 0, 4, LAST, LAST - 1, LAST - 2])),
@@ -268,12 +284,25 @@ impl Aim<'_, '_> {
         .unwrap_or_else(|| Handle::from(random.between(0, 60)))
     }
 
+    /// A pin row that a release by the thread could end if all numbers were cut to 32 bits, if some tries give one.
+    fn pin(&self, thread: u32, random: &mut Random) -> Option<Pin> {
+        let is_such = |row: &Pin| {
+            let mut families = (0..FAMILIES.len() as u8).map(Family);
+            let family = families.find(|family| row[FAMILY] % HIGH == family.0.into());
+            family.is_some_and(|family| row[THREAD] % HIGH == pins::owner(thread, family))
+        };
+        (0..12)
+            .filter_map(|_| any_row(&self.tables.pins.rows, random))
+            .find(is_such)
+    }
+
     fn buffer(&self, thread: u32, family: Family, random: &mut Random) -> Handle {
         let rows = &self.tables.pins.rows;
         let wanted = pins::owner(thread, family);
-        match random.below(4) {
-            0 => row_of(rows, wanted, random).map(|row| row[BUFFER]),
-            1 => any_row(rows, random).map(|row| row[BUFFER]),
+        match random.below(9) {
+            0 | 1 => row_of(rows, wanted, random).map(|row| row[BUFFER]),
+            2 | 3 => any_row(rows, random).map(|row| row[BUFFER]),
+            4 => row_of(rows, wanted, random).map(|row| twin_of(row[BUFFER], random)),
             _ => None,
         }
         .unwrap_or_else(|| Handle::from(random.between(0, 9)))
@@ -282,7 +311,7 @@ impl Aim<'_, '_> {
 
 /// Each function as often, or one of those that do more or take a rare place.
 fn a_function(random: &mut Random) -> u32 {
-    if random.percent(40) {
+    if random.percent(50) {
         return random.between(FIRST_FUNCTION, LAST_FUNCTION);
     }
     if random.percent(45) {

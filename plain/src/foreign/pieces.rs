@@ -3,7 +3,7 @@
 use super::lines::line;
 use crate::damage::odd_line;
 use crate::lent::slices::Slices;
-use crate::limits::{Number, Word, MOST_BYTES, MOST_ROOM};
+use crate::limits::{Class, Number, Word, MOST_BYTES, MOST_ROOM};
 use crate::random::Random;
 use crate::refusal::*;
 use std::ops::DerefMut;
@@ -28,14 +28,15 @@ const RARE: [Refusal; 9] = [
 ];
 
 /// A piece for these tables, which are left as the lines that it is made of leave them.
-pub fn piece<Numbers, Words>(
-    slices: &mut Slices<Numbers, Words>,
+pub fn piece<Numbers, Words, Supers>(
+    slices: &mut Slices<Numbers, Words, Supers>,
     follow: &mut Vec<Vec<u8>>,
     random: &mut Random,
 ) -> Vec<u8>
 where
     Numbers: DerefMut<Target = [Number]>,
     Words: DerefMut<Target = [Word]>,
+    Supers: DerefMut<Target = [Class]>,
 {
     let is_great = slices.rows.len() + slices.pins.len() > MOST_ROOM;
     let tries = match random.below(6) {

@@ -111,7 +111,7 @@ impl IndexedHandles<'_> {
         };
         while row != NONE {
             let index = row as usize;
-            let key = (thread, self.rows.all()[index][HANDLE]);
+            let key = (thread.into(), self.rows.all()[index][HANDLE]);
             self.index.rows.remove(&key);
             self.index.free.end(&mut self.rows, index);
             row = self.index.beside[index].before;

@@ -19,10 +19,6 @@ impl Hasher for Fold {
         }
     }
 
-    fn write_u32(&mut self, number: u32) {
-        self.write_u64(number.into());
-    }
-
     fn write_u64(&mut self, number: u64) {
         self.0 = self.0.rotate_left(TURN) ^ number;
     }

@@ -126,7 +126,7 @@ impl<'a> Book<'a> {
     }
 
     pub fn set_env(&mut self, thread: u32, env: Handle) {
-        self.put(thread, ENV, Word::from(env));
+        self.put(thread, ENV, env);
     }
 
     /// Only the number 1 says that an exception is pending.

@@ -4,11 +4,11 @@ use crate::class::{FIRST_DECLARED, OBJECT};
 use crate::limits::{Class, Number, MOST_CLASSES};
 
 /// The numbers of classes 1 to 4,095, as far as they are lent. Those of reserved classes are not looked at.
-pub struct Classes<'a>(&'a mut [Number]);
+pub struct Classes<'a>(&'a mut [Class]);
 
 impl<'a> Classes<'a> {
     /// Numbers past the last class are neither read nor written.
-    pub fn new(classes: &'a mut [Number]) -> Classes<'a> {
+    pub fn new(classes: &'a mut [Class]) -> Classes<'a> {
         let length = classes.len().min(MOST_CLASSES);
         Classes(&mut classes[..length])
     }
@@ -20,30 +20,33 @@ impl<'a> Classes<'a> {
 
     /// Whether a class is reserved or declared; any number but 0 declares it.
     pub fn is_known(&self, class: Class) -> bool {
-        is_reserved(class.into()) || self.0[index(class)] != 0
+        is_reserved(class) || self.0[index(class)] != 0
     }
 
     pub fn declare(&mut self, class: Class, superclass: Class) {
-        self.0[index(class)] = superclass.into();
+        self.0[index(class)] = superclass;
     }
 
     /// The super of a class by its number; the root has none, nor has what is no class or is not declared.
-    pub fn superclass(&self, class: Number) -> Option<Number> {
+    pub fn superclass(&self, class: Class) -> Option<Class> {
         match class {
-            0 => None,
-            _ if class == Number::from(OBJECT) => None,
-            _ if is_reserved(class) => Some(OBJECT.into()),
+            0 | OBJECT => None,
+            _ if is_reserved(class) => Some(OBJECT),
             _ => {
-                let superclass = self.0.get(class as usize - 1);
+                let superclass = self.0.get(index(class));
                 superclass.copied().filter(|&superclass| superclass != 0)
             }
         }
     }
 
-    /// Whether a class is this one or below it. A chain of supers has at most as many classes as there are; a longer one goes in a circle.
-    pub fn is_within(&self, mut class: Number, other: Class) -> bool {
+    /// Whether the class stated in a row, wider than a class, is this one or below it. A chain of supers has at most as many classes as there are; a longer
+    /// one goes in a circle.
+    pub fn is_within(&self, stated: Number, other: Class) -> bool {
+        let Ok(mut class) = Class::try_from(stated) else {
+            return false;
+        };
         for _ in 0..=MOST_CLASSES {
-            if class == Number::from(other) {
+            if class == other {
                 return true;
             }
             match self.superclass(class) {
@@ -55,8 +58,8 @@ impl<'a> Classes<'a> {
     }
 }
 
-pub fn is_reserved(class: Number) -> bool {
-    (Number::from(OBJECT)..Number::from(FIRST_DECLARED)).contains(&class)
+pub fn is_reserved(class: Class) -> bool {
+    (OBJECT..FIRST_DECLARED).contains(&class)
 }
 
 fn index(class: Class) -> usize {

@@ -7,23 +7,23 @@ use super::references::References;
 use super::rows::{Rows, WORD};
 use super::Tables;
 use crate::findings::Findings;
-use crate::limits::{Number, Word, MOST_CLASSES, PIN_NUMBERS, REFERENCE_NUMBERS};
+use crate::limits::{Class, Number, Word, MOST_CLASSES, PIN_NUMBERS, REFERENCE_NUMBERS};
 use crate::refusal::Refusal;
 use std::ops::DerefMut;
 
 /// Six slices; their numbers are owned if nothing else is said.
 #[derive(Clone, Debug, PartialEq, Eq)]
-pub struct Slices<Numbers = Vec<Number>, Words = Vec<Word>> {
+pub struct Slices<Numbers = Vec<Number>, Words = Vec<Word>, Supers = Vec<Class>> {
     pub rows: Numbers,
     pub marks: Words,
     pub pins: Numbers,
     pub pin_marks: Words,
     pub book: Words,
-    pub classes: Numbers,
+    pub classes: Supers,
 }
 
 /// Six slices as they are lent.
-pub type Lent<'a> = Slices<&'a mut [Number], &'a mut [Word]>;
+pub type Lent<'a> = Slices<&'a mut [Number], &'a mut [Word], &'a mut [Class]>;
 
 impl Slices {
     /// Slices of so many rows, a whole book and a whole class table, as a start leaves them.
@@ -55,10 +55,11 @@ impl<'a> Lent<'a> {
     }
 }
 
-impl<Numbers, Words> Slices<Numbers, Words>
+impl<Numbers, Words, Supers> Slices<Numbers, Words, Supers>
 where
     Numbers: DerefMut<Target = [Number]>,
     Words: DerefMut<Target = [Word]>,
+    Supers: DerefMut<Target = [Class]>,
 {
     pub fn lend(&mut self) -> Lent<'_> {
         Slices {

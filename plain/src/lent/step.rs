@@ -78,11 +78,11 @@ impl<H: Handles, B: Buffers> Tables<'_, H, B> {
             return Err(OUT_OF_STEP);
         }
         let own = self.book.env(thread);
-        if own != 0 && own != Word::from(env) {
+        if own != 0 && own != env {
             return Err(WRONG_ENV);
         }
         for other in 1..=THREADS {
-            if other != thread && self.book.env(other) == Word::from(env) {
+            if other != thread && self.book.env(other) == env {
                 return Err(WRONG_ENV);
             }
         }
@@ -153,7 +153,7 @@ impl<H: Handles, B: Buffers> Tables<'_, H, B> {
         let facts = known(function);
         let top_is_pushed = self.book.is_top_pushed(thread);
 
-        if self.book.env(thread) != Word::from(env) {
+        if self.book.env(thread) != env {
             findings.add(1, 0, env);
         }
         if self.book.is_pending(thread) && !facts.allowed_pending {
@@ -211,8 +211,7 @@ impl<H: Handles, B: Buffers> Tables<'_, H, B> {
         };
         let kind = known(function).result;
         let frame = self.book.frames(thread);
-        // Only a status can be negative, and a status makes nothing.
-        let made = result as Handle;
+        let made = line::made(result);
         match kind {
             ResultKind::Local | ResultKind::Global | ResultKind::Weak if made != 0 => {
                 if self.references.is_alive(thread, made) {
@@ -297,7 +296,7 @@ impl<H: Handles, B: Buffers> Tables<'_, H, B> {
         let globals_and_weaks = self.references.globals_and_weaks_alive() as Word;
         for (rule, count) in [(8, buffers), (9, monitors), (10, globals_and_weaks)] {
             if count > 0 {
-                findings.add(rule, 0, count as Number);
+                findings.add(rule, 0, count);
             }
         }
         self.book.close();

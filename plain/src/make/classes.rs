@@ -7,6 +7,7 @@ use crate::lent::rows::THREAD;
 use crate::limits::{Class, Handle, Number, MOST_CLASSES};
 use crate::line::Event;
 use crate::standing::Standing;
+use crate::twin::twin_of;
 
 /// How many classes there are beyond as many as there are handles of a kind.
 const MORE: usize = 6;
@@ -56,6 +57,14 @@ impl Maker<'_> {
                 handle: self.spoilt_value(thread),
                 class: self.class(),
             },
+            5 => {
+                let alive = self.alive_of_any_kind(thread).unwrap_or(0);
+                Event::O {
+                    thread,
+                    handle: twin_of(alive, &mut self.random),
+                    class: self.known_class(),
+                }
+            }
             _ => Event::O {
                 thread,
                 handle: self.spoilt_value(thread),

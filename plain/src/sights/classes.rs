@@ -8,7 +8,7 @@ use crate::lent::references::{self, CLASS, HANDLE};
 use crate::lent::rows::THREAD;
 use crate::lent::Tables;
 use crate::limits::{Class, Handle, Number, THREADS};
-use crate::line::Event;
+use crate::line::{self, Event};
 use crate::standing::Standing;
 use std::collections::BTreeMap;
 
@@ -63,7 +63,7 @@ impl Classed {
             (Some(fixed), Some(stated)) => self.alive(tables, own, value, stated, fixed, &place),
             (Some(fixed), None) => vec![self.not_alive(tables, own, value, fixed)],
             (None, Some(stated)) if stated != 0 && "rolgwX".contains(letter) => {
-                let root = root(tables, stated);
+                let root = root(tables, stated.try_into().expect("a class"));
                 vec![format!("no class: {letter}, stated below {root}")]
             }
             _ => Vec::new(),
@@ -120,7 +120,6 @@ impl Classed {
         let is_open = |thread| tables.book.items(thread) > 0;
         match *event {
             Event::K { superclass, .. } => {
-                let superclass = Number::from(superclass);
                 let (root, is_reserved) = (root(tables, superclass), is_reserved(superclass));
                 let items = (1..=THREADS).any(is_open);
                 vec![
@@ -172,7 +171,7 @@ impl Classed {
             } => {
                 let open = self.open.entry(thread).or_default();
                 let source = open.pop().unwrap_or(0);
-                let result = result as Handle;
+                let result = line::made(result);
                 let makes = "LGW".contains(known(function).letters().1) && result != 0;
                 match function {
                     _ if !makes => {}
@@ -248,7 +247,7 @@ fn key(thread: u32, handle: Handle) -> Key {
 }
 
 /// The reserved class that a class is, or is below.
-fn root(tables: &Tables, mut class: Number) -> Number {
+fn root(tables: &Tables, mut class: Class) -> Class {
     while let (false, Some(superclass)) = (is_reserved(class), tables.classes.superclass(class)) {
         class = superclass;
     }

@@ -6,6 +6,7 @@ use crate::form::{form, Form, Kind, HANDLE, RESULT};
 use crate::limits::{Field, Handle, MOST_BYTES};
 use crate::line::Event;
 use crate::refusal::{Refusal, MALFORMED, NO_LINE};
+use crate::twin::HIGH;
 use std::collections::BTreeSet;
 
 pub fn of_read(event: &Event) -> Vec<String> {
@@ -96,9 +97,7 @@ fn out_of_range(form: &'static Form, fields: &[&str]) -> Vec<String> {
         }];
     }
     let shown = |(index, (&number, kind)): (usize, (&Field, Kind))| match edge(kind, number) {
-        Some(edge @ ("just below" | "just above")) => {
-            Some(format!("3: {} {edge}", place(form, index)))
-        }
+        Some(edge) if !kind.holds(number) => Some(format!("3: {} {edge}", place(form, index))),
         _ => None,
     };
     numbers
@@ -114,12 +113,19 @@ fn place(form: &'static Form, index: usize) -> String {
     format!("{} {}", form.name(), index.min(form.fields.len()))
 }
 
-fn edge(Kind(least, greatest): Kind, number: Field) -> Option<&'static str> {
+fn edge(kind: Kind, number: Field) -> Option<&'static str> {
+    let Kind(least, greatest) = kind;
+    let is_cut = |bits| kind.holds(number.rem_euclid(Field::from(1) << bits));
     match number {
         _ if number == least => Some("least"),
         _ if number == greatest => Some("greatest"),
         _ if number == least - 1 => Some("just below"),
         _ if number == greatest + 1 => Some("just above"),
+        _ if number == u32::MAX.into() => Some("last of 32 bits"),
+        _ if number == HIGH.into() => Some("first of more than 32 bits"),
+        _ if kind.holds(number) => None,
+        _ if is_cut(u32::BITS) => Some("out, but not if cut to 32 bits"),
+        _ if is_cut(Handle::BITS) => Some("out, but not if cut to 64 bits"),
         _ => None,
     }
 }
@@ -134,5 +140,6 @@ fn result(function: Field, result: Field) -> (char, &'static str) {
         _ if result + 4 > Handle::MAX.into() => "greatest",
         _ => "some",
     };
-    (known(function as u32).letters().1, class)
+    let function = function.try_into().expect("a function in range");
+    (known(function).letters().1, class)
 }

@@ -1,7 +1,7 @@
 //! Lines and what writers are handed, from a seed, good and bad.
 
 use crate::called::Handed;
-use crate::damage::{damage_bytes, damage_fields, odd_line, MALFORMED, NUMBERS};
+use crate::damage::{add_digits, damage_bytes, damage_fields, odd_line, MALFORMED, NUMBERS};
 use crate::edge::edge_line;
 use crate::facts::*;
 use crate::limits::{
@@ -92,19 +92,25 @@ fn spoilt_line(random: &mut Random) -> Vec<u8> {
 
 /// What is no number, or another number, of which some would be the good one if they were cut to 32 or 64 bits.
 fn other_writing(good: Field, random: &mut Random) -> String {
-    let times = random.between(1, 3) as i128;
+    let times: Field = random.between(1, 3).into();
     let sign = random.pick(&[1, -1]);
-    match random.below(8) {
-        0 => (i128::from(good) + sign * (times << 32)).to_string(),
-        1 => (i128::from(good) + sign * (times << 64)).to_string(),
-        2 => (-i128::from(good)).to_string(),
+    match random.below(9) {
+        0 => (good + sign * (times << 32)).to_string(),
+        1 => (good + sign * (times << 64)).to_string(),
+        2 => (-good).to_string(),
         3 => format!("{}{good}", random.pick(&["0", "-", "-0", "+", " ", "00"])),
         4 => format!("{good}{}", random.pick(&["0", "\t", "-", " ", "\r", "\n"])),
         5 => random.pick(&MALFORMED).to_string(),
         6 => random.pick(&NUMBERS).to_string(),
+        7 => {
+            let mut field = good.to_string().into_bytes();
+            add_digits(&mut field, random);
+            String::from_utf8(field).expect("digits")
+        }
         _ => {
             let sign = random.pick(&["", "", "-"]);
-            let digits = 1 + random.below(40);
+            let most = random.pick(&[23, 70, MOST_BYTES]);
+            let digits = 1 + random.below(most);
             let digit = |_| random.pick(b"0123456789") as char;
             sign.chars().chain((0..digits).map(digit)).collect()
         }
@@ -158,7 +164,7 @@ fn good(random: &mut Random) -> Handed {
                 _ => number(random),
             }),
             capacity: match facts.uses_capacity {
-                true => number(random) as i32,
+                true => narrow(random).cast_signed(),
                 false => 0,
             },
         },
@@ -177,7 +183,7 @@ fn good(random: &mut Random) -> Handed {
                     ResultKind::Buffer(_) => number(random),
                 },
                 status: match facts.result {
-                    ResultKind::Status => number(random) as i32,
+                    ResultKind::Status => narrow(random).cast_signed(),
                     _ => 0,
                 },
                 pending: random.between(0, 1),
@@ -217,7 +223,7 @@ fn spoil(handed: &mut Handed, random: &mut Random) {
                 1 => *env = number(random),
                 2 => *function = other_function(random),
                 3 => places[random.below(3)] = number(random),
-                _ => *capacity = number(random) as i32,
+                _ => *capacity = narrow(random).cast_signed(),
             },
             Handed::Return {
                 thread,
@@ -229,8 +235,8 @@ fn spoil(handed: &mut Handed, random: &mut Random) {
                 0 => *thread = other_thread(random),
                 1 => *function = other_function(random),
                 2 => *result = number(random),
-                3 => *status = number(random) as i32,
-                _ => *pending = number(random),
+                3 => *status = narrow(random).cast_signed(),
+                _ => *pending = narrow(random),
             },
             Handed::Declare { class, superclass } => match random.below(2) {
                 0 => *class = other_class(random),
@@ -263,7 +269,7 @@ fn other_thread(random: &mut Random) -> u32 {
         2 => THREADS + 1,
         3 => one + (1 << 8),
         4 => one + (1 << 16),
-        _ => number(random),
+        _ => narrow(random),
     }
 }
 
@@ -284,7 +290,7 @@ fn other_class(random: &mut Random) -> Class {
         1 => MOST_CLASSES as Class + random.between(0, 2),
         2 => one + (1 << 12),
         3 => one + (1 << 16),
-        _ => number(random),
+        _ => narrow(random),
     }
 }
 
@@ -293,7 +299,7 @@ fn other_count(random: &mut Random) -> u32 {
     match random.below(4) {
         0..2 => one,
         2 => one + (1 << 8),
-        _ => number(random),
+        _ => narrow(random),
     }
 }
 
@@ -303,17 +309,31 @@ fn other_function(random: &mut Random) -> u32 {
         0 => one,
         1 => one + (1 << 8),
         2 => one + (1 << 16),
-        _ => number(random),
+        _ => narrow(random),
     }
 }
 
-/// Small ones, those at the end of the range and about each power of two, and any.
+/// A handle or another number of its width.
 fn number(random: &mut Random) -> Number {
-    match random.below(5) {
+    of_bits(Number::BITS, random)
+}
+
+/// A number that C has in 32 bits.
+fn narrow(random: &mut Random) -> u32 {
+    of_bits(u32::BITS, random) as u32
+}
+
+/// Of so many bits small ones, those at the end of the range, about its middle and about each power of two, and any, of each length as often or mostly long.
+fn of_bits(bits: u32, random: &mut Random) -> u64 {
+    let greatest = u64::MAX >> (u64::BITS - bits);
+    let few = u64::from(random.between(0, 5));
+    match random.below(7) {
         0 => 0,
-        1 => random.between(0, 20) as Number,
-        2 => Number::MAX - random.between(0, 5) as Number,
-        3 => (1 << random.below(Number::BITS as usize)) - random.between(0, 1) as Number,
-        _ => random.number() as Number,
+        1 => random.between(0, 20).into(),
+        2 => greatest - few,
+        3 => (1 << (bits / 2)) - 2 + few,
+        4 => (1 << random.below(bits as usize)) - few % 2,
+        5 => random.number() >> random.between(u64::BITS - bits, u64::BITS - 1),
+        _ => random.number() & greatest,
     }
 }

@@ -2,7 +2,8 @@
 
 use crate::called::Handed;
 use crate::damage::{MALFORMED, NUMBERS};
-use crate::limits::{Class, Handle, MOST_BYTES, MOST_HANDLES, THREADS};
+use crate::limits::{Class, Field, Handle, MOST_BYTES, MOST_HANDLES, THREADS};
+use crate::twin::{ADDRESS, HIGH};
 
 /// Of which all lines of up to four bytes are made.
 const SOME: [u8; 14] = *b"NXCRKOZ\t\n\r-019";
@@ -14,26 +15,30 @@ const FUNCTIONS: u32 = 301;
 const MOST_COUNT: usize = 12;
 
 /// Good lines, written with spaces for tabs.
-const GOOD: [&str; 15] = [
+const GOOD: [&str; 17] = [
     "N 1 100",
-    "N 16 4294967295 5 9 4294967293",
+    "N 16 18446744073709551615 5 4294967297 18446744073709551613",
     "N 1 100 1 5 9 13 17 21 25 29",
     "X 2 7",
+    "X 16 18446744073709551615",
     "C 3 300 19 0 0 0 -5",
     "C 1 100 104 5 8 9 0",
+    "C 1 140187412345673 67 4294967295 4294967296 18446744073709551612 0",
     "C 16 1 26 0 0 0 2147483647",
     "R 4 217 -1 1",
     "R 1 6 9 0",
-    "R 1 165 4294967294 1",
+    "R 1 165 18446744073709551614 1",
     "K 5 1",
     "K 4095 4094",
     "O 1 5 2",
-    "O 16 4294967295 4095",
+    "O 16 18446744073709551615 4095",
     "Z",
 ];
 
 /// Numbers of each kind, at both ends, and past them.
-const VALUES: [i64; 19] = [
+const VALUES: [Field; 29] = [
+    -18_446_744_073_709_551_616,
+    -9_223_372_036_854_775_809,
     -4_294_967_296,
     -2_147_483_649,
     -2_147_483_648,
@@ -52,7 +57,15 @@ const VALUES: [i64; 19] = [
     4_294_967_295,
     4_294_967_296,
     4_294_967_297,
+    4_294_967_298,
+    4_294_967_299,
     9_223_372_036_854_775_807,
+    18_446_744_073_709_551_612,
+    18_446_744_073_709_551_613,
+    18_446_744_073_709_551_614,
+    18_446_744_073_709_551_615,
+    18_446_744_073_709_551_616,
+    18_446_744_073_709_551_617,
 ];
 
 pub fn lines() -> Vec<Vec<u8>> {
@@ -122,7 +135,7 @@ fn counted() -> Vec<Vec<u8>> {
 
 /// Good lines with each odd field in each place, and with two of a few.
 fn of_fields() -> Vec<Vec<u8>> {
-    const TWO: [&str; 11] = [
+    const TWO: [&str; 13] = [
         "-1",
         "-0",
         "01",
@@ -132,7 +145,9 @@ fn of_fields() -> Vec<Vec<u8>> {
         "233",
         "4095",
         "4096",
-        "4294967296",
+        "4294967297",
+        "18446744073709551615",
+        "18446744073709551617",
         "",
     ];
     let mut lines = Vec::new();
@@ -167,7 +182,7 @@ fn with(fields: &[&str], others: &[(usize, &str)]) -> Vec<u8> {
 fn of_functions() -> Vec<Vec<u8>> {
     let mut lines = Vec::new();
     for function in 0..FUNCTIONS {
-        let mut call = |[a, b, c]: [i64; 3], n: i64| {
+        let mut call = |[a, b, c]: [Field; 3], n: Field| {
             lines.push(bytes(&format!("C 1 100 {function} {a} {b} {c} {n}")));
         };
         call([5, 8, 9], 0);
@@ -189,7 +204,17 @@ fn of_functions() -> Vec<Vec<u8>> {
 
 /// Lines of each length about the longest, and far beyond: digits, tabs, what is no number, LFs inside; with an LF and without.
 fn long() -> Vec<Vec<u8>> {
-    let starts: [&[u8]; 6] = [b"N\t1\t1\t", b"X\t1\t", b"R\t1\t19\t-", b"Z", b"Z\n", b""];
+    let greatest = b"\t18446744073709551613".repeat(1 + MOST_HANDLES);
+    let longest = [b"N\t16", &greatest[..]].concat();
+    let starts: [&[u8]; 7] = [
+        &longest,
+        b"N\t1\t1\t",
+        b"X\t1\t",
+        b"R\t1\t19\t-",
+        b"Z",
+        b"Z\n",
+        b"",
+    ];
     let lengths = (0..=2 * MOST_BYTES + 40).chain([4_095, 65_535, 65_536, 65_537, 1_000_000]);
     let mut lines = Vec::new();
     for length in lengths {
@@ -211,14 +236,21 @@ fn long() -> Vec<Vec<u8>> {
 }
 
 pub fn handed() -> Vec<Handed> {
-    const HANDLES: [Handle; 10] = [
+    const HANDLES: [Handle; 17] = [
         0,
         1,
         2,
         3,
         4,
         5,
-        0x8000_0000,
+        HIGH - 1,
+        HIGH,
+        HIGH + 1,
+        HIGH + 2,
+        HIGH + 3,
+        ADDRESS,
+        1 << 63,
+        Handle::MAX - 3,
         Handle::MAX - 2,
         Handle::MAX - 1,
         Handle::MAX,

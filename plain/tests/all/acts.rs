@@ -1,6 +1,6 @@
 //! What lines do, and the breaches judged on them.
 
-use crate::common::{findings, judged, judged_with, line, told, TWO_EQUAL_TURNED};
+use crate::common::{findings, judged, judged_with, line, strs, told, TWO_EQUAL_TURNED};
 use plain::judge::Judge;
 
 /// Takes the lines of some parts together.
@@ -33,10 +33,6 @@ const MAKES: [&str; 36] = [
 /// Makes this many locals in thread 1, handles 101, 105 and so on.
 fn makes(count: usize) -> &'static [&'static str] {
     &MAKES[..2 * count]
-}
-
-fn strs(lines: &[String]) -> Vec<&str> {
-    lines.iter().map(String::as_str).collect()
 }
 
 #[test]
@@ -628,8 +624,11 @@ fn with_an_exception_pending_22_functions_are_allowed() {
 #[test]
 fn a_nonzero_multiple_of_4_in_a_handle_place_is_4() {
     for function in [31, 5, 23, 22, 227] {
-        let call = format!("C 1 100 {function} 4294967292 0 0 0");
-        assert_eq!(findings(&["N 1 100", &call]), ["2 4 1 4294967292"]);
+        for identity in [4_u64, 4_294_967_296, 18_446_744_073_709_551_612] {
+            let call = format!("C 1 100 {function} {identity} 0 0 0");
+            let wanted = format!("2 4 1 {identity}");
+            assert_eq!(findings(&["N 1 100", &call]), [wanted]);
+        }
     }
 }
 
@@ -659,10 +658,12 @@ fn a_buffer_has_no_kind() {
         2,
         3,
         4,
-        4294967292_u32,
-        4294967293,
-        4294967294,
         4294967295,
+        4294967296,
+        18446744073709551612_u64,
+        18446744073709551613,
+        18446744073709551614,
+        18446744073709551615,
     ] {
         let lines = [
             "N 1 100 5".to_string(),

@@ -2,9 +2,10 @@
 
 use crate::common::line;
 use plain::called::{read, Handed};
+use plain::limits::MOST_BYTES;
 
 /// What the reader gives and leaves where every number was 7 before, for a line given with spaces for tabs.
-fn said(text: &str) -> (i32, [u32; 10], u32) {
+fn said(text: &str) -> (i32, [u64; 10], u32) {
     let (mut numbers, mut count) = ([7; 10], 7);
     let letter = read(&line(text), &mut numbers, &mut count);
     (letter, numbers, count)
@@ -16,21 +17,59 @@ fn numbers_are_left_in_their_order_and_0_past_them() {
         ("N 16 100", b'N', &[16, 100][..]),
         ("N 1 100 5 9", b'N', &[1, 100, 5, 9]),
         (
-            "N 1 4294967295 1 5 9 13 17 21 25 4294967293",
+            "N 1 18446744073709551615 1 5 9 13 17 4294967293 4294967297 18446744073709551613",
             b'N',
-            &[1, u32::MAX, 1, 5, 9, 13, 17, 21, 25, u32::MAX - 2],
+            &[
+                1,
+                u64::MAX,
+                1,
+                5,
+                9,
+                13,
+                17,
+                (1 << 32) - 3,
+                (1 << 32) + 1,
+                u64::MAX - 2,
+            ],
         ),
-        ("X 2 4294967295", b'X', &[2, u32::MAX]),
+        ("X 2 4294967296", b'X', &[2, 1 << 32]),
+        ("X 2 18446744073709551615", b'X', &[2, u64::MAX]),
         ("C 3 300 104 5 8 9 0", b'C', &[3, 300, 104, 5, 8, 9, 0]),
         (
             "C 3 300 19 0 0 0 -5",
             b'C',
-            &[3, 300, 19, 0, 0, 0, u32::MAX - 4],
+            &[3, 300, 19, 0, 0, 0, u64::MAX - 4],
         ),
-        ("R 4 165 4294967295 1", b'R', &[4, 165, u32::MAX, 1]),
-        ("R 4 217 -2147483648 0", b'R', &[4, 217, 0x8000_0000, 0]),
+        (
+            "C 1 140187412345673 64 4294967295 4294967296 18446744073709551615 0",
+            b'C',
+            &[
+                1,
+                140_187_412_345_673,
+                64,
+                (1 << 32) - 1,
+                1 << 32,
+                u64::MAX,
+                0,
+            ],
+        ),
+        (
+            "R 4 165 18446744073709551615 1",
+            b'R',
+            &[4, 165, u64::MAX, 1],
+        ),
+        ("R 4 217 2147483647 0", b'R', &[4, 217, 0x7fff_ffff, 0]),
+        (
+            "R 4 217 -2147483648 0",
+            b'R',
+            &[4, 217, 0xffff_ffff_8000_0000, 0],
+        ),
         ("K 4095 5", b'K', &[4_095, 5]),
-        ("O 16 4294967295 4095", b'O', &[16, u32::MAX, 4_095]),
+        (
+            "O 16 18446744073709551615 4095",
+            b'O',
+            &[16, u64::MAX, 4_095],
+        ),
         ("Z", b'Z', &[]),
     ] {
         let mut ten = [0; 10];
@@ -58,7 +97,7 @@ fn what_is_read_is_what_the_writer_is_handed() {
         "X 2 7",
         "C 3 300 26 0 0 0 -2147483648",
         "R 4 218 -1 1",
-        "R 4 6 4294967293 0",
+        "R 4 6 18446744073709551613 0",
         "K 5 1",
         "O 1 0 2",
         "Z",
@@ -66,7 +105,7 @@ fn what_is_read_is_what_the_writer_is_handed() {
         let (letter, numbers, count) = said(text);
         let handed = Handed::of(letter as u8, &numbers[..count as usize]).unwrap();
         assert_eq!(i32::from(handed.letter()), letter);
-        let mut buffer = [b'?'; 129];
+        let mut buffer = [b'?'; MOST_BYTES + 1];
         let length = handed.write(&mut buffer) as usize;
         assert_eq!(buffer[..length], line(text)[..]);
         assert_eq!(handed.write(&mut buffer[..length - 1]), -7);
@@ -76,6 +115,21 @@ fn what_is_read_is_what_the_writer_is_handed() {
     assert_eq!(Handed::of(b'K', &[1; 3]), None);
     assert_eq!(Handed::of(b'O', &[1; 2]), None);
     assert_eq!(Handed::of(b'A', &[]), None);
+    const HIGH: u64 = 1 << 32;
+    for (letter, numbers) in [
+        (b'N', &[HIGH + 1, 100][..]),
+        (b'X', &[HIGH + 1, 0]),
+        (b'C', &[HIGH + 1, 100, 4, 0, 0, 0, 0]),
+        (b'C', &[1, 100, HIGH + 4, 0, 0, 0, 0]),
+        (b'C', &[1, 100, 19, 0, 0, 0, HIGH - 5]),
+        (b'R', &[1, HIGH + 19, 0, 0]),
+        (b'R', &[1, 19, HIGH - 1, 0]),
+        (b'R', &[1, 19, 0, HIGH]),
+        (b'K', &[5, HIGH + 1]),
+        (b'O', &[1, 5, HIGH + 2]),
+    ] {
+        assert_eq!(Handed::of(letter, numbers), None, "{numbers:?}");
+    }
 }
 
 #[test]
@@ -98,6 +152,6 @@ fn a_result_stands_beside_no_status() {
         (answer(4, 0, -1), -3),
         (answer(233, 0, 0), -3),
     ] {
-        assert_eq!(handed.write(&mut [0; 129]), reply, "{handed:?}");
+        assert_eq!(handed.write(&mut [0; MOST_BYTES + 1]), reply, "{handed:?}");
     }
 }

@@ -13,7 +13,7 @@ const NONE: [&str; 0] = [];
 
 /// Whether a handle with these statements before is condemned in a place for a class (33), a string (164) and a throwable (13).
 #[track_caller]
-fn condemned(lines: &[&str], handle: u32) -> [bool; 3] {
+fn condemned(lines: &[&str], handle: u64) -> [bool; 3] {
     [33, 164, 13].map(|function| {
         let call = format!("C 1 100 {function} {handle} 0 0 0");
         let (_, found) = judged(&[lines, &[&call]].concat());
@@ -141,7 +141,7 @@ fn the_class_is_judged_last_and_gives_no_second_finding() {
         "N 2 200 13",
         "O 2 13 4",
     ];
-    let found = |value: u32| {
+    let found = |value: u64| {
         let call = format!("C 1 100 164 {value} 0 0 0");
         findings(&[&lines[..], &[&call]].concat())
     };
@@ -466,7 +466,7 @@ fn standings_agree_with_what_is_judged() {
         classes[class - 1] = superclass;
     }
     let classes = Classes::new(&mut classes);
-    for stated in (1..20).chain([4_094, 4_095, 4_096, u32::MAX]) {
+    for stated in (1..20).chain([4_094, 4_095, 4_096, 1 << 32, (1 << 32) + 2, u64::MAX]) {
         for fixed in 2..=4 {
             let standing = Standing::of(&classes, stated, fixed);
             assert_eq!(standing.is_right(), classes.is_within(stated, fixed));

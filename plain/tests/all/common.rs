@@ -7,7 +7,7 @@ use plain::lent::references::CLASS;
 use plain::lent::reply::list_reply;
 use plain::lent::rows::WORD;
 use plain::lent::slices::Slices;
-use plain::limits::{Number, PIN_NUMBERS, REFERENCE_NUMBERS};
+use plain::limits::{Class, Number, PIN_NUMBERS, PIN_ROWS, REFERENCE_NUMBERS, REFERENCE_ROWS};
 
 /// A line given with spaces for tabs and without its LF.
 pub fn line(text: &str) -> Vec<u8> {
@@ -16,6 +16,10 @@ pub fn line(text: &str) -> Vec<u8> {
 
 pub fn trace(lines: &[&str]) -> Vec<u8> {
     lines.iter().flat_map(|text| line(text)).collect()
+}
+
+pub fn strs(lines: &[String]) -> Vec<&str> {
+    lines.iter().map(String::as_str).collect()
 }
 
 /// The findings as `line rule place thing`.
@@ -47,7 +51,7 @@ pub fn judged_with(reference_rows: usize, pin_rows: usize, lines: &[&str]) -> (J
 
 #[track_caller]
 pub fn judged(lines: &[&str]) -> (Judge, Vec<String>) {
-    judged_with(2_048, 256, lines)
+    judged_with(REFERENCE_ROWS, PIN_ROWS, lines)
 }
 
 /// The findings of lines that are all accepted.
@@ -59,7 +63,7 @@ pub fn findings(lines: &[&str]) -> Vec<String> {
 /// The number by which the last line is refused, the others being accepted.
 #[track_caller]
 pub fn refusal(lines: &[&str]) -> u8 {
-    refusal_with(2_048, 256, lines)
+    refusal_with(REFERENCE_ROWS, PIN_ROWS, lines)
 }
 
 #[track_caller]
@@ -109,7 +113,7 @@ pub trait Lent {
     fn class_in(&mut self, index: usize) -> &mut Number;
 
     /// The super of a class.
-    fn superclass(&mut self, class: usize) -> &mut Number;
+    fn superclass(&mut self, class: usize) -> &mut Class;
 
     /// Writes a pin row and marks it.
     fn put_pin(&mut self, index: usize, row: [Number; PIN_NUMBERS]);
@@ -174,7 +178,7 @@ impl Lent for Slices {
         &mut self.rows[index * REFERENCE_NUMBERS + CLASS]
     }
 
-    fn superclass(&mut self, class: usize) -> &mut Number {
+    fn superclass(&mut self, class: usize) -> &mut Class {
         &mut self.classes[class - 1]
     }
 

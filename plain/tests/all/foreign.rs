@@ -334,7 +334,7 @@ fn of_equal_rows_the_lowest_is_ended() {
 fn a_row_of_thread_17_is_no_thread_s_but_counts() {
     let mut lent = in_native();
     lent.put_reference(0, [17, 5, 1, 7]);
-    lent.put_reference(1, [u32::MAX, 6, 0, 7]);
+    lent.put_reference(1, [u64::MAX, 6, 0, 7]);
     lent.put_pin(0, [17, 10, 8, 7]);
     assert_eq!(lent.accepts("C 1 100 225 5 8 0 0"), ["2 8 2 8", "2 11 1 5"]);
     lent.accepts("R 1 225 0 0");
@@ -399,8 +399,8 @@ fn frames_of_rows_above_the_top_end_with_it() {
     let mut lent = in_native();
     lent.put_reference(0, [1, 5, 0, 7]);
     lent.put_reference(1, [1, 9, 1, 7]);
-    lent.put_reference(2, [1, 13, u32::MAX, 7]);
-    lent.put_reference(3, [2, 13, u32::MAX, 7]);
+    lent.put_reference(2, [1, 13, u64::MAX, 7]);
+    lent.put_reference(3, [2, 13, u64::MAX, 7]);
     lent.accepts("X 1 0");
     assert_eq!(lent.marks, [0b1001]);
 }
@@ -644,8 +644,9 @@ fn a_start_clears_every_number() {
         lent.classes.fill(7);
         lent.start();
         assert_eq!(lent.classes.len(), classes);
-        let numbers = lent.rows.iter().chain(&lent.pins).chain(&lent.classes);
-        assert!(numbers.into_iter().all(|&number| number == 0));
+        let mut numbers = lent.rows.iter().chain(&lent.pins);
+        assert!(numbers.all(|&number| number == 0));
+        assert!(lent.classes.iter().all(|&number| number == 0));
         assert!(lent
             .marks
             .iter()

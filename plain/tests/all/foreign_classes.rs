@@ -5,7 +5,7 @@ use plain::lent::slices::Slices;
 use plain::limits::REFERENCE_NUMBERS;
 
 /// Tables in which thread 1 has a local 5 with this class.
-fn with_class(class: u32) -> Slices {
+fn with_class(class: u64) -> Slices {
     let mut lent = Slices::after(8, 8, &["N 1 100 5"]);
     *lent.class_in(0) = class;
     lent
@@ -127,11 +127,25 @@ fn a_chain_that_leaves_the_table_is_below_nothing() {
         *lent.superclass(5) = 6;
         *lent.superclass(6) = end;
         assert_eq!(condemned(&lent), [true; 3], "{end}");
-        *lent.class_in(0) = end;
+        *lent.class_in(0) = end.into();
         assert_eq!(condemned(&lent), [end != 0; 3], "{end}");
     }
     let lent = with_class(9);
     assert_eq!(condemned(&lent), [true; 3], "a class that is not declared");
+}
+
+#[test]
+fn a_class_in_a_row_is_not_cut_to_32_bits() {
+    const HIGH: u64 = 1 << 32;
+    let mut lent = with_class(5);
+    *lent.superclass(5) = 3;
+    assert_eq!(condemned(&lent), [true, false, true]);
+    for other in [HIGH, HIGH + 2, HIGH + 3, HIGH + 5, 7 * HIGH + 3, u64::MAX] {
+        *lent.class_in(0) = other;
+        assert_eq!(condemned(&lent), [true; 3], "{other}");
+    }
+    *lent.class_in(0) = 0;
+    assert_eq!(condemned(&lent), [false; 3]);
 }
 
 #[test]
@@ -200,7 +214,7 @@ fn the_row_of_31_s_result_says_class_whatever_stood_there() {
 
 #[test]
 fn a_class_in_a_row_matters_only_where_a_place_has_one() {
-    for class in [1, 5, 4_096, u32::MAX] {
+    for class in [1, 5, 4_096, (1 << 32) + 2, u64::MAX] {
         let lent = with_class(class);
         for text in ["C 1 100 31 5 0 0 0", "C 1 100 24 5 5 0 0", "X 1 5", "Z"] {
             assert!(lent.clone().accepts(text).is_empty(), "{text}");

@@ -15,7 +15,7 @@ use std::collections::BTreeSet;
 fn every_refusal_rule_place_and_kind_of_leak_comes_up_over_foreign_tables() {
     let mut coverage = Coverage::of_foreign();
     let mut profiles = BTreeSet::new();
-    for seed in 0..4_000 {
+    for seed in 0..5_000 {
         let mut random = Random::new(seed);
         let mut foreign = make(&mut random);
         profiles.insert(foreign.profile);

@@ -16,8 +16,8 @@ fn leaks(lent: &mut Slices) -> Vec<String> {
     list[..4 * count].chunks(4).map(told).collect()
 }
 
-fn told(record: &[u32]) -> String {
-    let numbers: Vec<String> = record.iter().map(u32::to_string).collect();
+fn told(record: &[u64]) -> String {
+    let numbers: Vec<String> = record.iter().map(u64::to_string).collect();
     numbers.join(" ")
 }
 
@@ -337,19 +337,21 @@ fn leaks_of_one_line_are_ordered_by_rule_and_then_by_row() {
 #[test]
 fn the_least_and_the_greatest_line_are_lines_like_others() {
     let mut lent = closed();
-    lent.put_pin(0, [0, 0, 1, u32::MAX]);
+    lent.put_pin(0, [0, 0, 1, u64::MAX]);
     lent.put_pin(1, [0, 0, 2, 0]);
-    lent.put_reference(0, [0, 3, 0, u32::MAX - 1]);
+    lent.put_pin(2, [0, 0, 3, 1 << 32]);
+    lent.put_reference(0, [0, 3, 0, u64::MAX - 1]);
     lent.put_reference(1, [0, 2, 0, 0]);
-    lent.put_reference(2, [0, 6, 0, 1 << 31]);
+    lent.put_reference(2, [0, 6, 0, (1 << 32) - 1]);
     assert_eq!(
         leaks(&mut lent),
         [
             "8 0 2 0".to_string(),
             "10 0 2 0".to_string(),
-            format!("10 0 6 {}", 1_u32 << 31),
-            format!("10 0 3 {}", u32::MAX - 1),
-            format!("8 0 1 {}", u32::MAX)
+            "10 0 6 4294967295".to_string(),
+            "8 0 3 4294967296".to_string(),
+            format!("10 0 3 {}", u64::MAX - 1),
+            format!("8 0 1 {}", u64::MAX)
         ]
     );
 }
@@ -358,20 +360,21 @@ fn the_least_and_the_greatest_line_are_lines_like_others() {
 fn every_used_pin_row_leaks_and_every_used_reference_row_of_thread_0() {
     let mut lent = closed();
     lent.put_pin(0, [17, 99, 0, 1]);
-    lent.put_pin(1, [u32::MAX, 0, u32::MAX, 2]);
+    lent.put_pin(1, [u64::MAX, 0, u64::MAX, 2]);
     lent.put_pin(2, [0, 0, 0, 0]);
     lent.put_reference(0, [0, 5, 1, 3]);
-    lent.put_reference(1, [0, 8, u32::MAX, 4]);
+    lent.put_reference(1, [0, 8, u64::MAX, 4]);
     lent.put_reference(2, [0, 0, 0, 0]);
     lent.put_reference(3, [1, 6, 0, 5]);
     lent.put_reference(4, [17, 7, 0, 5]);
+    lent.put_reference(5, [1 << 32, 7, 0, 5]);
     assert_eq!(
         leaks(&mut lent),
         [
             "8 0 0 0",
             "10 0 0 0",
             "8 17 0 1",
-            "8 4294967295 4294967295 2",
+            "8 18446744073709551615 18446744073709551615 2",
             "10 0 5 3",
             "10 0 8 4"
         ]

@@ -2,7 +2,7 @@
 
 use crate::common::{findings, line, refusal};
 use plain::facts::{facts, PlaceKind, ResultKind, FIRST_FUNCTION, LAST_FUNCTION};
-use plain::limits::{PIN_ROWS, REFERENCE_ROWS};
+use plain::limits::{MOST_BYTES, PIN_ROWS, REFERENCE_ROWS};
 use plain::line::{read, write, Event};
 use plain::make::{make, PROFILES};
 use plain::random::Random;
@@ -86,14 +86,14 @@ fn every_event_is_read() {
 }
 
 #[test]
-fn a_line_has_at_most_128_bytes_before_its_lf() {
-    assert_eq!(read(&long(128)), Err(3));
-    assert_eq!(read(&long(129)), Err(1));
+fn a_line_has_at_most_224_bytes_before_its_lf() {
+    assert_eq!(read(&long(224)), Err(3));
+    assert_eq!(read(&long(225)), Err(1));
 }
 
 #[test]
 fn a_long_line_that_is_also_malformed_is_1() {
-    let malformed = [&[b'x'; 129][..], b"\n"].concat();
+    let malformed = [&[b'x'; 225][..], b"\n"].concat();
     assert_eq!(read(&malformed), Err(1));
     assert_eq!(read(&malformed[1..]), Err(2));
 }
@@ -166,27 +166,85 @@ fn the_form_of_every_field_comes_before_any_range() {
 
 #[test]
 fn thirty_digits_are_a_number_out_of_range_and_nothing_wraps() {
-    for great in [
-        "100000000000000000000000000000",
-        "4294967296",
-        "4294967297",
+    let zeros = |count| format!("1{}", "0".repeat(count));
+    let beyond = [
         "18446744073709551616",
         "18446744073709551617",
+        "18446744073709551621",
+        "20000000000000000000",
+        "99999999999999999999",
+        "100000000000000000001",
+        "184467440737095516150",
         "340282366920938463463374607431768211457",
-        "-100000000000000000000000000000",
-        "-4294967295",
-        "-18446744073709551615",
+    ];
+    let long = [29, 64, 200].map(zeros);
+    for great in beyond.into_iter().chain(long.iter().map(String::as_str)) {
+        for line in [
+            format!("X 1 {great}"),
+            format!("X 1 -{great}"),
+            format!("N 1 {great}"),
+            format!("N 1 1 {great}"),
+            format!("C 1 {great} 4 0 0 0 0"),
+            format!("C 1 1 64 {great} 0 0 0"),
+            format!("C 1 1 64 0 {great} 0 0"),
+            format!("C 1 1 64 0 0 {great} 0"),
+            format!("R 1 165 {great} 0"),
+            format!("O 1 {great} 2"),
+        ] {
+            assert_eq!(said(&line), 3, "{line}");
+        }
+    }
+}
+
+#[test]
+fn threads_functions_statuses_and_classes_are_not_cut_to_32_bits() {
+    for bits in [32, 64, 96] {
+        let high = 1_i128 << bits;
+        for line in [
+            format!("N {} 100", high + 1),
+            format!("X {} 0", high + 1),
+            format!("C {} 100 4 0 0 0 0", high + 1),
+            format!("C 1 100 {} 0 0 0 0", high + 4),
+            format!("C 1 100 19 0 0 0 {high}"),
+            format!("C 1 100 19 0 0 0 {}", high - 5),
+            format!("C 1 100 19 0 0 0 {}", 1 - high),
+            format!("R {} 4 0 0", high + 1),
+            format!("R 1 {} 0 0", high + 4),
+            format!("R 1 217 {high} 0"),
+            format!("R 1 217 {} 0", high - 1),
+            format!("R 1 217 {} 0", -high),
+            format!("R 1 4 0 {}", high + 1),
+            format!("K {} 1", high + 5),
+            format!("K 5 {}", high + 1),
+            format!("O {} 5 2", high + 1),
+            format!("O 1 5 {}", high + 2),
+        ] {
+            assert_eq!(said(&line), 3, "{line}");
+        }
+    }
+}
+
+#[test]
+fn each_digit_of_twenty_counts() {
+    for result in [
+        4_294_967_295,
+        4_294_967_296,
+        140_187_412_345_673,
+        9_223_372_036_854_775_807,
+        9_223_372_036_854_775_808,
+        9_999_999_999_999_999_999,
+        10_000_000_000_000_000_000,
+        18_446_744_073_709_551_609,
+        u64::MAX,
     ] {
-        assert_eq!(said(&format!("X 1 {great}")), 3, "{great}");
-        assert_eq!(said(&format!("X {great} 0")), 3, "{great}");
-        assert_eq!(said(&format!("R 1 217 {great} 0")), 3, "{great}");
-        assert_eq!(said(&format!("C 1 1 19 0 0 0 {great}")), 3, "{great}");
+        let event = Event::X { thread: 1, result };
+        assert_eq!(read(&line(&format!("X 1 {result}"))), Ok(event));
     }
 }
 
 #[test]
 fn forms_of_numbers() {
-    for number in ["-1", "-9", "-10", "-4294967296"] {
+    for number in ["-1", "-9", "-10", "-4294967296", "-18446744073709551615"] {
         assert_eq!(said(&format!("X 1 {number}")), 3, "{number}");
     }
     for other in [
@@ -248,7 +306,7 @@ fn an_lf_inside_a_lent_line_is_2_unless_1_comes_first() {
     assert_eq!(read(b"\nZ\n"), Err(2));
     assert_eq!(read(b"N\t1\t100\nZ\n"), Err(2));
     assert_eq!(read(b"Z\nZ"), Err(1));
-    let long = [&[b'\n'; 129][..], b"\n"].concat();
+    let long = [&[b'\n'; 225][..], b"\n"].concat();
     assert_eq!(read(&long), Err(1));
 }
 
@@ -267,10 +325,22 @@ fn other_letters_are_2() {
 
 #[test]
 fn n_handles_are_local_kind_and_never_null() {
-    for handle in ["0", "2", "3", "4", "4294967294", "4294967295", "4294967292"] {
+    for handle in [
+        "0",
+        "2",
+        "3",
+        "4",
+        "4294967296",
+        "4294967298",
+        "18446744073709551612",
+        "18446744073709551614",
+        "18446744073709551615",
+    ] {
         assert_eq!(said(&format!("N 1 100 5 {handle}")), 3, "{handle}");
     }
-    assert_eq!(said("N 1 100 5 4294967293"), 0);
+    for handle in ["4294967293", "4294967297", "18446744073709551613"] {
+        assert_eq!(said(&format!("N 1 100 5 {handle}")), 0, "{handle}");
+    }
 }
 
 #[test]
@@ -281,10 +351,18 @@ fn env_0_is_3_on_n_and_on_c() {
 
 #[test]
 fn the_x_result_is_only_ranged_and_then_judged() {
-    for result in ["0", "1", "2", "3", "4", "4294967295"] {
+    for result in [
+        "0",
+        "1",
+        "2",
+        "3",
+        "4",
+        "4294967296",
+        "18446744073709551615",
+    ] {
         assert_eq!(said(&format!("X 1 {result}")), 0, "{result}");
     }
-    assert_eq!(said("X 1 4294967296"), 3);
+    assert_eq!(said("X 1 18446744073709551616"), 3);
     let found = |result| findings(&["N 1 100 5", &format!("X 1 {result}")]);
     assert!(found(0).is_empty());
     assert!(found(5).is_empty());
@@ -344,18 +422,18 @@ fn unused_places_and_capacity_are_0() {
 
 #[test]
 fn results_are_what_their_kind_says() {
-    let ends = [0, 2_147_483_648, 4_294_967_296_i64];
-    let near = |end: i64| (-5..=5).flat_map(move |by| [end + by, -end + by]);
+    let ends = [0, 1 << 31, 1 << 32, 1_i128 << 64];
+    let near = |end: i128| (-5..=5).flat_map(move |by| [end + by, -end + by]);
     for function in FIRST_FUNCTION..=LAST_FUNCTION {
         let kind = facts(function).unwrap().result;
         for result in ends.into_iter().flat_map(near) {
-            let (lowest, highest, remainders): (i64, i64, &[i64]) = match kind {
+            let (lowest, highest, remainders): (i128, i128, &[i128]) = match kind {
                 ResultKind::Nothing => (0, 0, &[0]),
-                ResultKind::Local => (0, 4_294_967_295, &[1]),
-                ResultKind::Global => (0, 4_294_967_295, &[2]),
-                ResultKind::Weak => (0, 4_294_967_295, &[3]),
-                ResultKind::Identity => (0, 4_294_967_295, &[0]),
-                ResultKind::Buffer(_) => (0, 4_294_967_295, &[0, 1, 2, 3]),
+                ResultKind::Local => (0, 18_446_744_073_709_551_615, &[1]),
+                ResultKind::Global => (0, 18_446_744_073_709_551_615, &[2]),
+                ResultKind::Weak => (0, 18_446_744_073_709_551_615, &[3]),
+                ResultKind::Identity => (0, 18_446_744_073_709_551_615, &[0]),
+                ResultKind::Buffer(_) => (0, 18_446_744_073_709_551_615, &[0, 1, 2, 3]),
                 ResultKind::Status => (-2_147_483_648, 2_147_483_647, &[0, 1, 2, 3]),
             };
             let ranged = lowest <= result && result <= highest;
@@ -374,25 +452,29 @@ fn both_ends_of_all_ranges() {
         ("N 1 1", 0),
         ("N 16 1", 0),
         ("N 17 1", 3),
-        ("N 1 4294967295", 0),
-        ("N 1 4294967296", 3),
+        ("N 1 18446744073709551615", 0),
+        ("N 1 18446744073709551616", 3),
         ("N 1 1 1", 0),
-        ("N 1 1 4294967293", 0),
-        ("N 1 1 4294967297", 3),
+        ("N 1 1 18446744073709551613", 0),
+        ("N 1 1 18446744073709551617", 3),
         ("X 0 0", 3),
-        ("X 16 4294967295", 0),
+        ("X 16 18446744073709551615", 0),
+        ("X 1 18446744073709551616", 3),
         ("X 17 0", 3),
         ("C 0 1 4 0 0 0 0", 3),
-        ("C 16 4294967295 4 0 0 0 0", 0),
+        ("C 16 18446744073709551615 4 0 0 0 0", 0),
         ("C 17 1 4 0 0 0 0", 3),
-        ("C 1 4294967296 4 0 0 0 0", 3),
+        ("C 1 18446744073709551616 4 0 0 0 0", 3),
         ("C 1 1 3 0 0 0 0", 3),
         ("C 1 1 232 0 0 0 0", 0),
         ("C 1 1 233 0 0 0 0", 3),
-        ("C 1 1 64 4294967295 4294967295 4294967295 0", 0),
-        ("C 1 1 64 4294967296 0 0 0", 3),
-        ("C 1 1 64 0 4294967296 0 0", 3),
-        ("C 1 1 64 0 0 4294967296 0", 3),
+        (
+            "C 1 1 64 18446744073709551615 18446744073709551615 18446744073709551615 0",
+            0,
+        ),
+        ("C 1 1 64 18446744073709551616 0 0 0", 3),
+        ("C 1 1 64 0 18446744073709551616 0 0", 3),
+        ("C 1 1 64 0 0 18446744073709551616 0", 3),
         ("C 1 1 19 0 0 0 -2147483649", 3),
         ("C 1 1 19 0 0 0 -2147483648", 0),
         ("C 1 1 26 0 0 0 2147483647", 0),
@@ -412,9 +494,9 @@ fn both_ends_of_all_ranges() {
         ("K 5 4096", 3),
         ("O 0 5 2", 3),
         ("O 1 0 1", 0),
-        ("O 16 4294967295 4095", 0),
+        ("O 16 18446744073709551615 4095", 0),
         ("O 17 5 2", 3),
-        ("O 1 4294967296 2", 3),
+        ("O 1 18446744073709551616 2", 3),
         ("O 1 5 0", 3),
         ("O 1 5 4096", 3),
     ] {
@@ -476,11 +558,12 @@ fn the_writer_refuses_what_the_reader_would() {
         r(6, 2, 0),
         r(6, -3, 0),
         r(7, 5, 0),
-        r(21, 4_294_967_298, 0),
+        r(21, 18_446_744_073_709_551_618, 0),
         r(165, -1, 0),
-        r(165, 4_294_967_296, 0),
+        r(165, 18_446_744_073_709_551_616, 0),
         r(217, 2_147_483_648, 0),
-        r(217, i64::MIN, 0),
+        r(217, 4_294_967_296, 0),
+        r(217, i128::MIN, 0),
         r(4, 0, 2),
         r(3, 0, 0),
         k(0, 1),
@@ -503,9 +586,9 @@ fn the_writer_refuses_what_the_reader_would() {
 fn a_short_buffer_is_7_and_bytes_past_a_line_stay() {
     let event = Event::X {
         thread: 16,
-        result: 4_294_967_295,
+        result: u64::MAX,
     };
-    let line = b"X\t16\t4294967295\n";
+    let line = b"X\t16\t18446744073709551615\n";
     for room in 0..line.len() {
         let mut buffer = vec![b'?'; room];
         assert_eq!(write(&event, &mut buffer), Err(7));
@@ -523,23 +606,24 @@ fn a_short_buffer_is_7_and_bytes_past_a_line_stay() {
 fn the_longest_lines_are_written() {
     let event = Event::N {
         thread: 16,
-        env: u32::MAX,
+        env: u64::MAX,
         count: 8,
-        handles: [u32::MAX - 2; 8],
+        handles: [u64::MAX - 2; 8],
     };
-    assert_eq!(write(&event, &mut [0; 128]), Ok(104));
+    assert_eq!(write(&event, &mut [0; 194]), Ok(194));
+    assert_eq!(write(&event, &mut [0; 193]), Err(7));
     let event = Event::C {
         thread: 16,
-        env: u32::MAX,
+        env: u64::MAX,
         function: 26,
         places: [0; 3],
         capacity: i32::MIN,
     };
-    let mut buffer = [0; 128];
+    let mut buffer = [0; MOST_BYTES];
     let length = write(&event, &mut buffer).unwrap();
     assert_eq!(
         &buffer[..length],
-        b"C\t16\t4294967295\t26\t0\t0\t0\t-2147483648\n"
+        b"C\t16\t18446744073709551615\t26\t0\t0\t0\t-2147483648\n"
     );
 }
 
@@ -550,7 +634,7 @@ fn what_is_written_is_read_and_what_is_read_is_written() {
         let trace = make(profile, seed, 300, REFERENCE_ROWS, PIN_ROWS);
         for line in trace.split_inclusive(|&byte| byte == b'\n') {
             if let Ok(event) = read(line) {
-                let mut buffer = [0; 128];
+                let mut buffer = [0; MOST_BYTES];
                 let length = write(&event, &mut buffer).unwrap();
                 assert_eq!(&buffer[..length], line);
                 assert_eq!(read(&buffer[..length]), Ok(event));
@@ -568,9 +652,9 @@ fn any_event_the_writer_takes_is_read_back() {
     for _ in 0..200_000 {
         let number = |random: &mut Random| match random.below(4) {
             0 => 0,
-            1 => random.between(0, 20),
-            2 => u32::MAX - random.between(0, 5),
-            _ => random.number() as u32,
+            1 => random.between(0, 20).into(),
+            2 => u64::MAX - u64::from(random.between(0, 5)),
+            _ => random.number() >> random.between(0, 63),
         };
         let thread = random.between(0, 17);
         let function = random.between(0, 240);
@@ -606,16 +690,16 @@ fn any_event_the_writer_takes_is_read_back() {
                 env: number(&mut random),
                 function,
                 places: [(); 3].map(|()| number(&mut random)),
-                capacity: number(&mut random) as i32,
+                capacity: random.pick(&[0, 0, 1, -1, i32::MIN, i32::MAX]),
             },
             _ => Event::R {
                 thread,
                 function,
-                result: i64::from(number(&mut random)) - i64::from(number(&mut random) / 2),
+                result: i128::from(number(&mut random)) - i128::from(number(&mut random) / 2),
                 pending: random.between(0, 2),
             },
         };
-        let mut buffer = [0; 128];
+        let mut buffer = [0; MOST_BYTES];
         match write(&event, &mut buffer) {
             Ok(length) => {
                 assert_eq!(read(&buffer[..length]), Ok(event));

@@ -18,4 +18,5 @@ mod programs;
 mod shut_out;
 mod single;
 mod steps;
+mod twins;
 mod whole_run;

@@ -259,7 +259,7 @@ fn classed() -> Vec<String> {
 fn what_classes_show_comes_up() {
     let profiles = ["classes", "copies"].map(|name| profile(name).unwrap());
     let traces = profiles.into_iter().flat_map(|profile| {
-        (0..300).map(move |seed| make(profile, seed, 150, REFERENCE_ROWS, PIN_ROWS))
+        (0..600).map(move |seed| make(profile, seed, 150, REFERENCE_ROWS, PIN_ROWS))
     });
     let sights = |trace: Vec<u8>| sights(&trace, REFERENCE_ROWS, PIN_ROWS);
     let shown: BTreeSet<String> = traces.flat_map(sights).collect();
@@ -421,6 +421,7 @@ fn big_traces_keep_as_many_handles_alive_as_they_are_to() {
         ("steady", (15_000, 40_000), 1_950..=2_048),
         ("oneslot", (15_000, 40_000), 1_950..=2_048),
         ("crowd", (33_500, 60_000), 15_800..=16_200),
+        ("wide", (15_000, 40_000), 980..=1_024),
         ("recorded", (200, 40_000), 20..=100),
         ("alive-16", (200, 20_000), 14..=24),
         ("alive-64", (200, 20_000), 60..=68),
@@ -441,7 +442,7 @@ fn big_traces_keep_as_many_handles_alive_as_they_are_to() {
 
 #[test]
 fn the_steady_trace_has_locals_in_16_threads() {
-    let mut judge = Judge::new(REFERENCE_ROWS, PIN_ROWS);
+    let mut judge = Judge::new(KINDS[0].reference_rows, PIN_ROWS);
     for line in big_trace(KINDS[0], 40_000).split_inclusive(|&byte| byte == b'\n') {
         judge.step(line).unwrap();
     }
@@ -454,8 +455,9 @@ fn the_steady_trace_has_locals_in_16_threads() {
 
 #[test]
 fn in_the_oneslot_trace_every_handle_has_the_same_slot() {
-    let mut judge = Judge::new(REFERENCE_ROWS, PIN_ROWS);
-    for line in big_trace(kind("oneslot").unwrap(), 30_000).split_inclusive(|&byte| byte == b'\n') {
+    let oneslot = kind("oneslot").unwrap();
+    let mut judge = Judge::new(oneslot.reference_rows, PIN_ROWS);
+    for line in big_trace(oneslot, 30_000).split_inclusive(|&byte| byte == b'\n') {
         judge.step(line).unwrap();
     }
     let rows = judge.tables().references.rows;

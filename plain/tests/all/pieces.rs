@@ -50,7 +50,7 @@ fn a_rest_without_lf_waits_for_more_and_is_refused_at_the_end() {
 
 #[test]
 fn more_than_128_bytes_without_lf_are_refused_at_once() {
-    for (bytes, wanted) in [(127, MORE), (128, MORE), (129, -1), (5_000, -1)] {
+    for (bytes, wanted) in [(223, MORE), (224, MORE), (225, -1), (5_000, -1)] {
         let piece = vec![b'1'; bytes];
         let (reply, far, _) = pass(&mut Slices::new(8, 8), &piece, false, 504);
         assert_eq!((reply, far), (wanted, [0; 3]), "{bytes}");

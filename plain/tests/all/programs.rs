@@ -53,7 +53,7 @@ fn the_program_judges_standard_input() {
 }
 
 #[test]
-fn the_program_lends_2048_and_256_rows_or_others() {
+fn the_program_lends_1024_and_256_rows_or_others() {
     let input = trace(&["N 1 100 5 9", "Z"]);
     assert_eq!(judge(&[], &input), trace(&["end closed 2 0 0"]));
     let rooms = ["--rooms", "1", "0"];
@@ -66,7 +66,7 @@ fn the_program_lends_2048_and_256_rows_or_others() {
             REFERENCE_ROWS,
             PIN_ROWS,
         );
-        let (output, expected) = (run_on(&made), report(&made, 2_048, 256));
+        let (output, expected) = (run_on(&made), report(&made, 1_024, 256));
         assert_eq!(output, expected);
     }
 }
@@ -121,7 +121,7 @@ fn the_program_stops_in_a_line_without_end() {
         .spawn()
         .unwrap();
     let mut input = child.stdin.take().unwrap();
-    input.write_all(&[b'1'; 200]).unwrap();
+    input.write_all(&[b'1'; 300]).unwrap();
     let mut printed = String::new();
     child
         .stdout
@@ -161,7 +161,7 @@ fn traces_prints_several_with_their_reports_and_leaks() {
     let report = report_and_leaks(&made.trace, REFERENCE_ROWS, PIN_ROWS);
     assert!(report.ends_with(b"leak\t10\t0\t7\t5\nleak\t8\t1\t8000\t16\n"));
     let head = format!(
-        "2048 256 {} {} {}\n",
+        "1024 256 {} {} {}\n",
         made.trace.len(),
         report.len(),
         made.name
@@ -194,12 +194,12 @@ fn compare_finds_no_difference_from_itself() {
             &["--seed", "9", "--count", "34"][..],
             "compared 34 traces, ",
         ),
-        (&["--walk"], "compared 2366 traces, "),
+        (&["--walk"], "compared 2596 traces, "),
         (
             &["--leaks", "--seed", "9", "--count", "34"],
             "compared 34 traces, ",
         ),
-        (&["--leaks", "--walk"], "compared 2366 traces, "),
+        (&["--leaks", "--walk"], "compared 2596 traces, "),
     ] {
         let output = run(COMPARE, &[options, &["--", PLAIN]].concat());
         let printed = String::from_utf8(output.stdout).unwrap();
@@ -280,4 +280,6 @@ fn measure_tells_the_time_a_line_takes() {
         "{printed}"
     );
     assert_eq!(printed.matches(" ns/line\n").count(), 3, "{printed}");
+    assert!(run(MEASURE, &["--rows", "2048", file]).status.success());
+    assert_eq!(run(MEASURE, &["--rows", file]).status.code(), Some(2));
 }

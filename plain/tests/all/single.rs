@@ -1,5 +1,6 @@
 //! The single lines, and what writers are handed, to hold readers and writers to.
 
+use plain::limits::MOST_BYTES;
 use plain::line::read;
 use plain::random::Random;
 use plain::single::{chosen, handed, line};
@@ -31,7 +32,7 @@ fn what_is_written_and_what_is_refused_come_up_for_each_letter() {
     for all in [chosen::handed(), any] {
         let mut counts: BTreeMap<(u8, bool), u32> = BTreeMap::new();
         for handed in all {
-            let reply = handed.write(&mut [0; 129]);
+            let reply = handed.write(&mut [0; MOST_BYTES + 1]);
             assert!(reply > 0 || reply == -3, "{handed:?}: {reply}");
             *counts.entry((handed.letter(), reply > 0)).or_default() += 1;
         }
