@@ -1,20 +1,22 @@
 /* Judges the trace on standard input, piece by piece, and prints what `./judge --leaks` prints: findings as they come. */
+#include <inttypes.h>
 #include <stdio.h>
 #include <string.h>
 
 #include "weir_judge.h"
 
-/* The bytes of the trace that are held at once, 129 or more, and those of findings, WEIR_SHOWN or more. */
+/* The bytes of the trace that are held at once, 225 or more, and those of findings, WEIR_SHOWN or more. */
 #ifndef PIECE
 #define PIECE 65536
 #define OUT 65536
 #endif
 
-enum { REFERENCE_ROWS = 2048, PIN_ROWS = 256, WORD = 64 };
+enum { REFERENCE_ROWS = 1024, PIN_ROWS = 256, WORD = 64 };
 
-static uint32_t rows[REFERENCE_ROWS * WEIR_REFERENCE], pins[PIN_ROWS * WEIR_PIN], classes[WEIR_CLASSES];
+static uint64_t rows[REFERENCE_ROWS * WEIR_REFERENCE], pins[PIN_ROWS * WEIR_PIN];
 static uint64_t marks[REFERENCE_ROWS / WORD], pin_marks[PIN_ROWS / WORD], book[WEIR_BOOK];
-static uint32_t leaks[(REFERENCE_ROWS + PIN_ROWS) * WEIR_LEAK];
+static uint32_t classes[WEIR_CLASSES];
+static uint64_t leaks[(REFERENCE_ROWS + PIN_ROWS) * WEIR_LEAK];
 static uint8_t piece[PIECE], out[OUT];
 
 #define COUNT(slice) (sizeof(slice) / sizeof((slice)[0]))
@@ -57,7 +59,7 @@ int main(void)
     refusal = stop < 0 ? -stop : 0;
     count = weir_leaks(TABLES, leaks, COUNT(leaks));
     printf("end\t%s\t%lu\t%d\t%lu\n", refusal ? "refused" : count < 0 ? "open" : "closed", lines, refusal, findings);
-    for (const uint32_t *leak = leaks; count > 0; leak += WEIR_LEAK, count--)
-        printf("leak\t%u\t%u\t%u\t%u\n", leak[0], leak[1], leak[2], leak[3]);
+    for (const uint64_t *leak = leaks; count > 0; leak += WEIR_LEAK, count--)
+        printf("leak\t%" PRIu64 "\t%" PRIu64 "\t%" PRIu64 "\t%" PRIu64 "\n", leak[0], leak[1], leak[2], leak[3]);
     return 0;
 }

@@ -20,9 +20,9 @@ static void expect(int holds, const char *what)
 /* ---- a line, written and read back */
 
 /* The line in d, of which a writer returned r, is read as its letter and the numbers that it was written of, 0 past them. */
-static void check(const uint8_t *d, int32_t r, char letter, uint32_t count, const uint32_t numbers[WEIR_NUMBERS])
+static void check(const uint8_t *d, int32_t r, char letter, uint32_t count, const uint64_t numbers[WEIR_NUMBERS])
 {
-    uint32_t found[WEIR_NUMBERS];
+    uint64_t found[WEIR_NUMBERS];
     uint32_t found_count;
 
     expect(r > 0 && r <= WEIR_LINE && d[r - 1] == '\n', "a line is written");
@@ -35,42 +35,42 @@ static void check(const uint8_t *d, int32_t r, char letter, uint32_t count, cons
     }
 }
 
-static int32_t checked_enter(uint8_t d[WEIR_LINE], uint32_t thread, uint32_t env, uint32_t count,
-                             const uint32_t handles[WEIR_HANDLES])
+static int32_t checked_enter(uint8_t d[WEIR_LINE], uint32_t thread, uint64_t env, uint32_t count,
+                             const uint64_t handles[WEIR_HANDLES])
 {
     const int32_t r = weir_enter(d, WEIR_LINE, thread, env, count, handles);
-    uint32_t numbers[WEIR_NUMBERS] = {thread, env};
+    uint64_t numbers[WEIR_NUMBERS] = {thread, env};
 
     memcpy(numbers + 2, handles, WEIR_HANDLES * sizeof numbers[0]);
     check(d, r, 'N', 2 + count, numbers);
     return r;
 }
 
-static int32_t checked_leave(uint8_t d[WEIR_LINE], uint32_t thread, uint32_t result)
+static int32_t checked_leave(uint8_t d[WEIR_LINE], uint32_t thread, uint64_t result)
 {
     const int32_t r = weir_leave(d, WEIR_LINE, thread, result);
-    const uint32_t numbers[WEIR_NUMBERS] = {thread, result};
+    const uint64_t numbers[WEIR_NUMBERS] = {thread, result};
 
     check(d, r, 'X', 2, numbers);
     return r;
 }
 
-static int32_t checked_call(uint8_t d[WEIR_LINE], uint32_t thread, uint32_t env, uint32_t function, uint32_t a, uint32_t b,
-                            uint32_t c, int32_t n)
+static int32_t checked_call(uint8_t d[WEIR_LINE], uint32_t thread, uint64_t env, uint32_t function, uint64_t a, uint64_t b,
+                            uint64_t c, int32_t n)
 {
     const int32_t r = weir_call(d, WEIR_LINE, thread, env, function, a, b, c, n);
-    const uint32_t numbers[WEIR_NUMBERS] = {thread, env, function, a, b, c, (uint32_t)n};
+    const uint64_t numbers[WEIR_NUMBERS] = {thread, env, function, a, b, c, (uint64_t)n};
 
     check(d, r, 'C', 7, numbers);
     return r;
 }
 
 /* A function gives a result or a status, and the other is 0. */
-static int32_t checked_return(uint8_t d[WEIR_LINE], uint32_t thread, uint32_t function, uint32_t result, int32_t status,
+static int32_t checked_return(uint8_t d[WEIR_LINE], uint32_t thread, uint32_t function, uint64_t result, int32_t status,
                               uint32_t pending)
 {
     const int32_t r = weir_return(d, WEIR_LINE, thread, function, result, status, pending);
-    const uint32_t numbers[WEIR_NUMBERS] = {thread, function, status != 0 ? (uint32_t)status : result, pending};
+    const uint64_t numbers[WEIR_NUMBERS] = {thread, function, status != 0 ? (uint64_t)status : result, pending};
 
     check(d, r, 'R', 4, numbers);
     return r;
@@ -79,16 +79,16 @@ static int32_t checked_return(uint8_t d[WEIR_LINE], uint32_t thread, uint32_t fu
 static int32_t checked_declare(uint8_t d[WEIR_LINE], uint32_t class_number, uint32_t super_number)
 {
     const int32_t r = weir_declare(d, WEIR_LINE, class_number, super_number);
-    const uint32_t numbers[WEIR_NUMBERS] = {class_number, super_number};
+    const uint64_t numbers[WEIR_NUMBERS] = {class_number, super_number};
 
     check(d, r, 'K', 2, numbers);
     return r;
 }
 
-static int32_t checked_state(uint8_t d[WEIR_LINE], uint32_t thread, uint32_t handle, uint32_t class_number)
+static int32_t checked_state(uint8_t d[WEIR_LINE], uint32_t thread, uint64_t handle, uint32_t class_number)
 {
     const int32_t r = weir_state(d, WEIR_LINE, thread, handle, class_number);
-    const uint32_t numbers[WEIR_NUMBERS] = {thread, handle, class_number};
+    const uint64_t numbers[WEIR_NUMBERS] = {thread, handle, class_number};
 
     check(d, r, 'O', 3, numbers);
     return r;
@@ -97,7 +97,7 @@ static int32_t checked_state(uint8_t d[WEIR_LINE], uint32_t thread, uint32_t han
 static int32_t checked_end(uint8_t d[WEIR_LINE])
 {
     const int32_t r = weir_end(d, WEIR_LINE);
-    const uint32_t numbers[WEIR_NUMBERS] = {0};
+    const uint64_t numbers[WEIR_NUMBERS] = {0};
 
     check(d, r, 'Z', 0, numbers);
     return r;
@@ -114,36 +114,38 @@ static void emit(const uint8_t *d, int32_t r)
 
 static void trace(void)
 {
-    const uint32_t arguments[WEIR_HANDLES] = {5, 9};
+    /* as a 64-bit VM gives them; the two locals are equal in their lower 32 bits */
+    const uint64_t env = 140102034691320u;
+    const uint64_t arguments[WEIR_HANDLES] = {5, 4294967301u};
     uint8_t d[WEIR_LINE];
 
     /* class 5 is declared under object */
     emit(d, checked_declare(d, 5, 1));
     /* Java enters a native of thread 1 with two locals, one of class 5 and a string */
-    emit(d, checked_enter(d, 1, 100, 2, arguments));
+    emit(d, checked_enter(d, 1, env, 2, arguments));
     emit(d, checked_state(d, 1, 5, 5));
-    emit(d, checked_state(d, 1, 9, 3));
+    emit(d, checked_state(d, 1, 4294967301u, 3));
     /* PushLocalFrame(8) gives 0 */
-    emit(d, checked_call(d, 1, 100, 19, 0, 0, 0, 8));
+    emit(d, checked_call(d, 1, env, 19, 0, 0, 0, 8));
     emit(d, checked_return(d, 1, 19, 0, 0, 0));
     /* EnsureLocalCapacity(-5) fails with -1 and an exception */
-    emit(d, checked_call(d, 1, 100, 26, 0, 0, 0, -5));
+    emit(d, checked_call(d, 1, env, 26, 0, 0, 0, -5));
     emit(d, checked_return(d, 1, 26, 0, -1, 1));
     /* ExceptionClear */
-    emit(d, checked_call(d, 1, 100, 17, 0, 0, 0, 0));
+    emit(d, checked_call(d, 1, env, 17, 0, 0, 0, 0));
     emit(d, checked_return(d, 1, 17, 0, 0, 0));
-    /* GetObjectClass of 5 gives the local 13, GetMethodID the identity 4096 */
-    emit(d, checked_call(d, 1, 100, 31, 5, 0, 0, 0));
-    emit(d, checked_return(d, 1, 31, 13, 0, 0));
-    emit(d, checked_call(d, 1, 100, 33, 13, 0, 0, 0));
-    emit(d, checked_return(d, 1, 33, 4096, 0, 0));
-    /* GetStringUTFChars of 9 gives a buffer, which is released */
-    emit(d, checked_call(d, 1, 100, 169, 9, 0, 0, 0));
-    emit(d, checked_return(d, 1, 169, 4294967295u, 0, 0));
-    emit(d, checked_call(d, 1, 100, 170, 9, 4294967295u, 0, 0));
+    /* GetObjectClass of 5 gives a local, GetMethodID an identity: the highest of their kinds */
+    emit(d, checked_call(d, 1, env, 31, 5, 0, 0, 0));
+    emit(d, checked_return(d, 1, 31, 18446744073709551613u, 0, 0));
+    emit(d, checked_call(d, 1, env, 33, 18446744073709551613u, 0, 0, 0));
+    emit(d, checked_return(d, 1, 33, 18446744073709551612u, 0, 0));
+    /* GetStringUTFChars of the string gives a buffer, which is released */
+    emit(d, checked_call(d, 1, env, 169, 4294967301u, 0, 0, 0));
+    emit(d, checked_return(d, 1, 169, 18446744073709551615u, 0, 0));
+    emit(d, checked_call(d, 1, env, 170, 4294967301u, 18446744073709551615u, 0, 0));
     emit(d, checked_return(d, 1, 170, 0, 0, 0));
     /* PopLocalFrame with nothing to keep */
-    emit(d, checked_call(d, 1, 100, 20, 0, 0, 0, 0));
+    emit(d, checked_call(d, 1, env, 20, 0, 0, 0, 0));
     emit(d, checked_return(d, 1, 20, 0, 0, 0));
     /* back to Java with the local 5, and the end */
     emit(d, checked_leave(d, 1, 5));
@@ -181,10 +183,12 @@ static void refuses(int32_t r, int32_t number, const char *what)
 
 static void bad_events(void)
 {
-    const uint32_t none[WEIR_HANDLES] = {0};
-    const uint32_t eight[WEIR_HANDLES] = {1, 5, 9, 13, 17, 21, 25, 29};
-    const uint32_t gap[WEIR_HANDLES] = {5, 0, 9};
-    const uint32_t global[WEIR_HANDLES] = {5, 6};
+    const uint64_t none[WEIR_HANDLES] = {0};
+    const uint64_t eight[WEIR_HANDLES] = {1, 5, 9, 13, 17, 21, 25, 29};
+    const uint64_t gap[WEIR_HANDLES] = {5, 0, 9};
+    const uint64_t wide_gap[WEIR_HANDLES] = {5, 4294967296u, 9};
+    const uint64_t global[WEIR_HANDLES] = {5, 6};
+    const uint64_t highest_global[WEIR_HANDLES] = {18446744073709551614u};
     const size_t size = sizeof buffer;
 
     refuses(weir_enter(fresh(), size, 0, 100, 0, none), WEIR_BAD, "N of thread 0 is bad");
@@ -194,8 +198,10 @@ static void bad_events(void)
     refuses(weir_enter(fresh(), size, 1, 100, 4294967295u, eight), WEIR_BAD, "N of 4294967295 handles is bad");
     refuses(weir_enter(fresh(), size, 1, 100, 7, eight), WEIR_BAD, "N with a slot past the count is bad");
     refuses(weir_enter(fresh(), size, 1, 100, 1, gap), WEIR_BAD, "N with a slot two past the count is bad");
+    refuses(weir_enter(fresh(), size, 1, 100, 1, wide_gap), WEIR_BAD, "N with 4294967296 past the count is bad");
     refuses(weir_enter(fresh(), size, 1, 100, 3, gap), WEIR_BAD, "N with a null handle is bad");
     refuses(weir_enter(fresh(), size, 1, 100, 2, global), WEIR_BAD, "N with a global handle is bad");
+    refuses(weir_enter(fresh(), size, 1, 100, 1, highest_global), WEIR_BAD, "N with the highest global is bad");
     refuses(weir_leave(fresh(), size, 0, 0), WEIR_BAD, "X of thread 0 is bad");
     refuses(weir_leave(fresh(), size, 17, 5), WEIR_BAD, "X of thread 17 is bad");
     refuses(weir_call(fresh(), size, 17, 100, 6, 0, 0, 0, 0), WEIR_BAD, "C of thread 17 is bad");
@@ -203,6 +209,9 @@ static void bad_events(void)
     refuses(weir_call(fresh(), size, 1, 100, 3, 0, 0, 0, 0), WEIR_BAD, "C of function 3 is bad");
     refuses(weir_call(fresh(), size, 1, 100, 233, 0, 0, 0, 0), WEIR_BAD, "C of function 233 is bad");
     refuses(weir_call(fresh(), size, 1, 100, 31, 5, 9, 0, 0), WEIR_BAD, "C of 31 with b is bad");
+    refuses(weir_call(fresh(), size, 1, 100, 31, 5, 4294967296u, 0, 0), WEIR_BAD, "C of 31 with 4294967296 for b is bad");
+    refuses(weir_call(fresh(), size, 1, 100, 31, 5, 0, 4294967296u, 0), WEIR_BAD, "C of 31 with 4294967296 for c is bad");
+    refuses(weir_call(fresh(), size, 1, 100, 6, 4294967296u, 0, 0, 0), WEIR_BAD, "C of 6 with 4294967296 for a is bad");
     refuses(weir_call(fresh(), size, 1, 100, 31, 5, 0, 0, 1), WEIR_BAD, "C of 31 with a capacity is bad");
     refuses(weir_call(fresh(), size, 1, 100, 31, 5, 0, 0, -1), WEIR_BAD, "C of 31 with capacity -1 is bad");
     refuses(weir_return(fresh(), size, 17, 31, 13, 0, 0), WEIR_BAD, "R of thread 17 is bad");
@@ -212,7 +221,13 @@ static void bad_events(void)
     refuses(weir_return(fresh(), size, 1, 226, 14, 0, 0), WEIR_BAD, "R of 226 with a global is bad");
     refuses(weir_return(fresh(), size, 1, 33, 13, 0, 0), WEIR_BAD, "R of 33 with a local is bad");
     refuses(weir_return(fresh(), size, 1, 22, 14, 0, 0), WEIR_BAD, "R of 22 with a result is bad");
+    refuses(weir_return(fresh(), size, 1, 31, 18446744073709551614u, 0, 0), WEIR_BAD, "R of 31 with the highest global is bad");
+    refuses(weir_return(fresh(), size, 1, 21, 18446744073709551615u, 0, 0), WEIR_BAD, "R of 21 with the highest weak is bad");
+    refuses(weir_return(fresh(), size, 1, 226, 18446744073709551613u, 0, 0), WEIR_BAD, "R of 226 with the highest local is bad");
+    refuses(weir_return(fresh(), size, 1, 33, 18446744073709551615u, 0, 0), WEIR_BAD, "R of 33 with the highest weak is bad");
+    refuses(weir_return(fresh(), size, 1, 22, 4294967296u, 0, 0), WEIR_BAD, "R of 22 with the result 4294967296 is bad");
     refuses(weir_return(fresh(), size, 1, 19, 1, 0, 0), WEIR_BAD, "R of 19 with a result is bad");
+    refuses(weir_return(fresh(), size, 1, 19, 4294967296u, 0, 0), WEIR_BAD, "R of 19 with the result 4294967296 is bad");
     refuses(weir_return(fresh(), size, 1, 31, 13, -1, 0), WEIR_BAD, "R of 31 with a status is bad");
     refuses(weir_return(fresh(), size, 1, 31, 13, 0, 2), WEIR_BAD, "R with pending 2 is bad");
     refuses(weir_declare(fresh(), size, 0, 1), WEIR_BAD, "K of class 0 is bad");
@@ -226,8 +241,9 @@ static void bad_events(void)
     refuses(weir_state(fresh(), size, 1, 5, 4096), WEIR_BAD, "O of class 4096 is bad");
 }
 
-static const uint32_t highest[WEIR_HANDLES] = {4294967293u, 4294967289u, 4294967285u, 4294967281u,
-                                               4294967277u, 4294967273u, 4294967269u, 4294967265u};
+static const uint64_t highest[WEIR_HANDLES] = {18446744073709551613u, 18446744073709551609u, 18446744073709551605u,
+                                               18446744073709551601u, 18446744073709551597u, 18446744073709551593u,
+                                               18446744073709551589u, 18446744073709551585u};
 static const int32_t lowest = -2147483647 - 1;
 
 /* A call that writes `line`, tried with each room: short below the line's length, and the same line from there on. */
@@ -246,21 +262,23 @@ static const int32_t lowest = -2147483647 - 1;
 
 static void short_buffers(void)
 {
-    const uint32_t none[WEIR_HANDLES] = {0};
+    const uint64_t none[WEIR_HANDLES] = {0};
 
     SHORT("N\t1\t100\n", weir_enter(fresh(), room, 1, 100, 0, none));
-    SHORT("N\t16\t4294967295\t4294967293\t4294967289\t4294967285\t4294967281\t4294967277\t4294967273\t4294967269\t4294967265\n",
-          weir_enter(fresh(), room, 16, 4294967295u, 8, highest));
-    SHORT("X\t16\t4294967295\n", weir_leave(fresh(), room, 16, 4294967295u));
-    SHORT("C\t16\t4294967295\t64\t4294967295\t4294967295\t4294967295\t0\n",
-          weir_call(fresh(), room, 16, 4294967295u, 64, 4294967295u, 4294967295u, 4294967295u, 0));
-    SHORT("C\t16\t4294967295\t19\t0\t0\t0\t-2147483648\n",
-          weir_call(fresh(), room, 16, 4294967295u, 19, 0, 0, 0, lowest));
+    SHORT("N\t16\t18446744073709551615\t18446744073709551613\t18446744073709551609\t18446744073709551605\t18446744073709551601"
+          "\t18446744073709551597\t18446744073709551593\t18446744073709551589\t18446744073709551585\n",
+          weir_enter(fresh(), room, 16, 18446744073709551615u, 8, highest));
+    SHORT("X\t16\t18446744073709551615\n", weir_leave(fresh(), room, 16, 18446744073709551615u));
+    SHORT("C\t16\t18446744073709551615\t64\t18446744073709551615\t18446744073709551615\t18446744073709551615\t0\n",
+          weir_call(fresh(), room, 16, 18446744073709551615u, 64, 18446744073709551615u, 18446744073709551615u,
+                    18446744073709551615u, 0));
+    SHORT("C\t16\t18446744073709551615\t19\t0\t0\t0\t-2147483648\n",
+          weir_call(fresh(), room, 16, 18446744073709551615u, 19, 0, 0, 0, lowest));
     SHORT("C\t1\t1\t26\t0\t0\t0\t2147483647\n", weir_call(fresh(), room, 1, 1, 26, 0, 0, 0, 2147483647));
     SHORT("R\t16\t218\t-2147483648\t1\n", weir_return(fresh(), room, 16, 218, 0, lowest, 1));
-    SHORT("R\t16\t169\t4294967295\t1\n", weir_return(fresh(), room, 16, 169, 4294967295u, 0, 1));
+    SHORT("R\t16\t169\t18446744073709551615\t1\n", weir_return(fresh(), room, 16, 169, 18446744073709551615u, 0, 1));
     SHORT("K\t4095\t1\n", weir_declare(fresh(), room, 4095, 1));
-    SHORT("O\t16\t4294967295\t4095\n", weir_state(fresh(), room, 16, 4294967295u, 4095));
+    SHORT("O\t16\t18446744073709551615\t4095\n", weir_state(fresh(), room, 16, 18446744073709551615u, 4095));
     SHORT("Z\n", weir_end(fresh(), room));
     /* a bad event in no room at all is bad, not short */
     refuses(weir_leave(fresh(), 0, 17, 5), WEIR_BAD, "X of thread 17 in no room is bad");
@@ -273,24 +291,50 @@ static void short_buffers(void)
 static void handles_of_every_kind(void)
 {
     uint8_t d[WEIR_LINE];
-    uint32_t handle;
+    uint64_t handle;
 
-    for (handle = 0; handle < 8; handle++)
+    for (handle = 0; handle < 8; handle++) {
         expect(checked_state(d, 1, handle, 1) == 8, "the class of any handle is stated");
+        expect(checked_state(d, 1, 18446744073709551615u - handle, 1) == 27, "the class of any of the highest handles is stated");
+    }
+}
+
+/* Numbers that are equal in their lower 32 bits are written and read again whole: 4294967301 is not 5. */
+static void equal_in_32_bits(void)
+{
+    static const uint64_t locals[WEIR_HANDLES] = {5, 4294967301u, 9223372036854775813u, 18446744069414584325u};
+    /* in their lower 32 bits these are 0 */
+    static const uint64_t zeros[] = {4294967296u, 140097538228224u, 9223372036854775808u, 18446744069414584320u};
+    uint8_t d[WEIR_LINE];
+    size_t i;
+
+    for (i = 0; i < sizeof zeros / sizeof zeros[0]; i++) {
+        checked_enter(d, 1, zeros[i], 4, locals);
+        checked_leave(d, 1, zeros[i]);
+        checked_call(d, 1, zeros[i], 170, locals[i], zeros[i], 0, 0);
+        checked_call(d, 1, zeros[i], 104, locals[i], zeros[i], locals[i], 0);
+        checked_return(d, 1, 31, locals[i], 0, 0);
+        checked_return(d, 1, 21, zeros[i] + 6, 0, 0);
+        checked_return(d, 1, 226, zeros[i] + 7, 0, 0);
+        checked_return(d, 1, 33, zeros[i], 0, 0);
+        checked_return(d, 1, 169, zeros[i], 0, 0);
+        checked_state(d, 1, zeros[i], 1);
+    }
 }
 
 static void longest_lines(void)
 {
+    const uint64_t most = 18446744073709551615u;
     uint8_t d[WEIR_LINE];
 
-    expect(checked_enter(d, 16, 4294967295u, 8, highest) == 104, "the longest N has 104 bytes");
-    expect(checked_leave(d, 16, 4294967295u) == 16, "the longest X has 16 bytes");
-    expect(checked_call(d, 16, 4294967295u, 104, 4294967295u, 4294967295u, 4294967295u, 0) == 55, "the longest C has 55 bytes");
-    expect(checked_call(d, 16, 4294967295u, 26, 0, 0, 0, lowest) == 37, "the longest C with a capacity has 37 bytes");
-    expect(checked_return(d, 16, 218, 0, lowest, 1) == 23, "the longest R has 23 bytes");
-    expect(checked_return(d, 16, 169, 4294967295u, 0, 1) == 22, "the longest R with a result has 22 bytes");
+    expect(checked_enter(d, 16, most, 8, highest) == 194, "the longest N has 194 bytes");
+    expect(checked_leave(d, 16, most) == 26, "the longest X has 26 bytes");
+    expect(checked_call(d, 16, most, 104, most, most, most, 0) == 95, "the longest C has 95 bytes");
+    expect(checked_call(d, 16, most, 26, 0, 0, 0, lowest) == 47, "the longest C with a capacity has 47 bytes");
+    expect(checked_return(d, 16, 169, most, 0, 1) == 32, "the longest R has 32 bytes");
+    expect(checked_return(d, 16, 218, 0, lowest, 1) == 23, "the longest R with a status has 23 bytes");
     expect(checked_declare(d, 4095, 4095) == 12, "the longest K has 12 bytes");
-    expect(checked_state(d, 16, 4294967295u, 4095) == 21, "the longest O has 21 bytes");
+    expect(checked_state(d, 16, most, 4095) == 31, "the longest O has 31 bytes");
     expect(checked_end(d) == 2, "Z has 2 bytes");
 }
 
@@ -299,11 +343,12 @@ static void below_zero(void)
     static const char capacity[] = "C\t1\t100\t19\t0\t0\t0\t-2147483648\n";
     static const char status[] = "R\t1\t26\t-1\t1\n";
     static const char largest[] = "R\t1\t26\t2147483647\t0\n";
-    uint32_t numbers[WEIR_NUMBERS] = {0};
+    uint64_t numbers[WEIR_NUMBERS] = {0};
     uint32_t count = 0;
 
     expect(weir_read((const uint8_t *)capacity, strlen(capacity), numbers, &count) == 'C', "a C with a capacity is read");
     expect(count == 7 && weir_signed(numbers[6]) == lowest, "its capacity is -2147483648");
+    expect(numbers[6] == 18446744071562067968u, "it is told as its two's complement in 64 bits");
     expect(weir_read((const uint8_t *)status, strlen(status), numbers, &count) == 'R', "an R with a status is read");
     expect(count == 4 && weir_signed(numbers[2]) == -1, "its status is -1");
     expect(weir_read((const uint8_t *)largest, strlen(largest), numbers, &count) == 'R', "an R with the largest status is read");
@@ -313,8 +358,8 @@ static void below_zero(void)
 /* The reader returns `number` for these bytes, and leaves numbers and count as they were. */
 static void refuses_bytes(const uint8_t *bytes, size_t length, int32_t number, const char *what)
 {
-    uint32_t untouched[WEIR_NUMBERS];
-    uint32_t numbers[WEIR_NUMBERS];
+    uint64_t untouched[WEIR_NUMBERS];
+    uint64_t numbers[WEIR_NUMBERS];
     uint32_t count = FILL;
 
     memset(untouched, FILL, sizeof untouched);
@@ -331,7 +376,8 @@ static void refuses_line(const char *line, int32_t number)
 static void no_lines(void)
 {
     static const char line[] =
-        "N\t16\t4294967295\t4294967293\t4294967289\t4294967285\t4294967281\t4294967277\t4294967273\t4294967269\t4294967265\n";
+        "N\t16\t18446744073709551615\t18446744073709551613\t18446744073709551609\t18446744073709551605\t18446744073709551601"
+        "\t18446744073709551597\t18446744073709551593\t18446744073709551589\t18446744073709551585\n";
     uint8_t wide[WEIR_LINE + 1];
     size_t length;
 
@@ -341,14 +387,14 @@ static void no_lines(void)
     refuses_line("Z", WEIR_NO_LINE);
     refuses_line("Z\nZ", WEIR_NO_LINE);
     refuses_line("Z\n\r", WEIR_NO_LINE);
-    /* 128 bytes before the LF are read, 129 are no line */
+    /* 224 bytes before the LF are read, 225 are no line */
     memset(wide, '9', sizeof wide);
     memcpy(wide, "X\t1\t", 4);
     wide[WEIR_LINE - 1] = '\n';
-    refuses_bytes(wide, WEIR_LINE, WEIR_BAD, "X of 128 bytes has a number out of range");
+    refuses_bytes(wide, WEIR_LINE, WEIR_BAD, "X of 224 bytes has a number out of range");
     wide[WEIR_LINE - 1] = '9';
     wide[WEIR_LINE] = '\n';
-    refuses_bytes(wide, WEIR_LINE + 1, WEIR_NO_LINE, "129 bytes before the LF are no line");
+    refuses_bytes(wide, WEIR_LINE + 1, WEIR_NO_LINE, "225 bytes before the LF are no line");
 }
 
 static void wrong_forms(void)
@@ -368,7 +414,7 @@ static void wrong_forms(void)
         /* an LF inside */
         "Z\nZ\n", "Z\n\n", "\nZ\n", "X\t1\n\t5\n", "X\t1\n5\n", "X\t1\t5\n\n",
         /* a wrong form goes before a number out of range */
-        "X\t17\t01\n", "X\t01\t4294967296\n", "R\t17\t233\t13\n", "K\t0\t01\n", "O\t17\t5\t\n",
+        "X\t17\t01\n", "X\t01\t18446744073709551616\n", "R\t17\t233\t13\n", "K\t0\t01\n", "O\t17\t5\t\n",
         "N\t17\t0\t0\t0\t0\t0\t0\t0\t0\t0\t0\n"};
     const uint8_t nul[] = {'X', '\t', '1', '\t', '5', 0, '\n'};
     uint8_t letter[] = {0, '\n'};
@@ -387,24 +433,33 @@ static void wrong_forms(void)
 static void bad_numbers(void)
 {
     static const char *const lines[] = {
-        "N\t0\t100\n", "N\t17\t100\n", "N\t-1\t100\n", "N\t1\t0\n", "N\t1\t-1\n", "N\t1\t4294967296\n", "N\t1\t100\t0\n",
-        "N\t1\t100\t5\t6\n", "N\t1\t100\t4\n", "N\t1\t100\t4294967297\n", "N\t1\t100\t-3\n",
+        "N\t0\t100\n", "N\t17\t100\n", "N\t-1\t100\n", "N\t1\t0\n", "N\t1\t-1\n", "N\t1\t18446744073709551616\n",
+        "N\t1\t18446744073709551716\n", "N\t1\t123456789012345678901234567890\n", "N\t1\t100\t0\n", "N\t1\t100\t5\t6\n",
+        "N\t1\t100\t4\n", "N\t1\t100\t18446744073709551614\n", "N\t1\t100\t18446744073709551617\n", "N\t1\t100\t-3\n",
         "N\t1\t100\t1\t5\t9\t13\t17\t21\t25\t30\n",
-        "X\t0\t5\n", "X\t17\t5\n", "X\t4294967297\t5\n", "X\t1\t-1\n", "X\t1\t4294967296\n",
-        "X\t1\t18446744073709551621\n", "X\t1\t123456789012345678901234567890\n",
-        "X\t123456789012345678901234567890\t5\n", "X\t1\t-123456789012345678901234567890\n",
-        "C\t17\t100\t6\t0\t0\t0\t0\n", "C\t1\t0\t6\t0\t0\t0\t0\n", "C\t1\t100\t3\t0\t0\t0\t0\n",
-        "C\t1\t100\t233\t0\t0\t0\t0\n", "C\t1\t100\t-6\t0\t0\t0\t0\n", "C\t1\t100\t31\t-1\t0\t0\t0\n",
-        "C\t1\t100\t31\t4294967296\t0\t0\t0\n", "C\t1\t100\t31\t5\t9\t0\t0\n", "C\t1\t100\t31\t5\t0\t9\t0\n",
-        "C\t1\t100\t31\t5\t0\t0\t1\n", "C\t1\t100\t31\t5\t0\t0\t-1\n", "C\t1\t100\t19\t0\t0\t0\t2147483648\n",
-        "C\t1\t100\t26\t0\t0\t0\t-2147483649\n", "C\t1\t100\t19\t0\t0\t0\t123456789012345678901234567890\n",
+        "X\t0\t5\n", "X\t17\t5\n", "X\t4294967297\t5\n", "X\t18446744073709551617\t5\n", "X\t1\t-1\n",
+        "X\t1\t18446744073709551616\n", "X\t1\t18446744073709551621\n", "X\t1\t99999999999999999999\n",
+        "X\t1\t123456789012345678901234567890\n", "X\t123456789012345678901234567890\t5\n",
+        "X\t1\t-123456789012345678901234567890\n", "X\t1\t-18446744073709551611\n",
+        "C\t17\t100\t6\t0\t0\t0\t0\n", "C\t1\t0\t6\t0\t0\t0\t0\n", "C\t1\t18446744073709551616\t6\t0\t0\t0\t0\n",
+        "C\t1\t100\t3\t0\t0\t0\t0\n", "C\t1\t100\t233\t0\t0\t0\t0\n", "C\t1\t100\t-6\t0\t0\t0\t0\n",
+        "C\t1\t100\t4294967302\t0\t0\t0\t0\n", "C\t1\t100\t31\t-1\t0\t0\t0\n", "C\t1\t100\t31\t18446744073709551616\t0\t0\t0\n",
+        "C\t1\t100\t104\t5\t18446744073709551616\t5\t0\n", "C\t1\t100\t104\t5\t8\t123456789012345678901234567890\t0\n",
+        "C\t1\t100\t31\t5\t9\t0\t0\n", "C\t1\t100\t31\t5\t0\t9\t0\n", "C\t1\t100\t31\t5\t4294967296\t0\t0\n",
+        "C\t1\t100\t31\t5\t0\t0\t1\n", "C\t1\t100\t31\t5\t0\t0\t-1\n", "C\t1\t100\t31\t5\t0\t0\t4294967296\n",
+        "C\t1\t100\t19\t0\t0\t0\t2147483648\n", "C\t1\t100\t19\t0\t0\t0\t4294967304\n",
+        "C\t1\t100\t26\t0\t0\t0\t-2147483649\n", "C\t1\t100\t26\t0\t0\t0\t18446744073709551615\n",
+        "C\t1\t100\t19\t0\t0\t0\t123456789012345678901234567890\n",
         "R\t17\t31\t13\t0\n", "R\t1\t3\t0\t0\n", "R\t1\t233\t0\t0\n", "R\t1\t31\t14\t0\n", "R\t1\t31\t-1\t0\n",
-        "R\t1\t21\t13\t0\n", "R\t1\t226\t14\t0\n", "R\t1\t33\t13\t0\n", "R\t1\t22\t14\t0\n",
-        "R\t1\t169\t4294967296\t0\n", "R\t1\t169\t-1\t0\n", "R\t1\t19\t2147483648\t0\n", "R\t1\t218\t-2147483649\t0\n",
-        "R\t1\t31\t13\t2\n", "R\t1\t31\t13\t-1\n",
-        "K\t0\t1\n", "K\t4096\t1\n", "K\t-5\t1\n", "K\t4294967301\t1\n", "K\t5\t0\n", "K\t5\t4096\n", "K\t5\t-1\n",
-        "O\t0\t5\t3\n", "O\t17\t5\t3\n", "O\t-1\t5\t3\n", "O\t1\t4294967296\t3\n", "O\t1\t-5\t3\n", "O\t1\t5\t0\n",
-        "O\t1\t5\t4096\n", "O\t1\t5\t-3\n"};
+        "R\t1\t21\t13\t0\n", "R\t1\t226\t14\t0\n", "R\t1\t33\t13\t0\n", "R\t1\t22\t14\t0\n", "R\t1\t22\t4294967296\t0\n",
+        "R\t1\t31\t18446744073709551614\t0\n", "R\t1\t31\t18446744073709551617\t0\n",
+        "R\t1\t169\t18446744073709551616\t0\n", "R\t1\t169\t-1\t0\n", "R\t1\t19\t2147483648\t0\n", "R\t1\t19\t4294967296\t0\n",
+        "R\t1\t218\t-2147483649\t0\n", "R\t1\t26\t18446744073709551615\t1\n", "R\t1\t31\t13\t2\n", "R\t1\t31\t13\t-1\n",
+        "R\t1\t31\t13\t4294967297\n",
+        "K\t0\t1\n", "K\t4096\t1\n", "K\t-5\t1\n", "K\t4294967301\t1\n", "K\t18446744073709551621\t1\n", "K\t5\t0\n",
+        "K\t5\t4096\n", "K\t5\t-1\n",
+        "O\t0\t5\t3\n", "O\t17\t5\t3\n", "O\t-1\t5\t3\n", "O\t4294967297\t5\t3\n", "O\t1\t18446744073709551616\t3\n",
+        "O\t1\t-5\t3\n", "O\t1\t5\t0\n", "O\t1\t5\t4096\n", "O\t1\t5\t4294967299\n", "O\t1\t5\t-3\n"};
     size_t i;
 
     for (i = 0; i < sizeof lines / sizeof lines[0]; i++)
@@ -417,6 +472,7 @@ int main(void)
     bad_events();
     short_buffers();
     handles_of_every_kind();
+    equal_in_32_bits();
     longest_lines();
     below_zero();
     no_lines();

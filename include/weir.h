@@ -2,15 +2,16 @@
  *
  * Writers and reader are two libraries, `recorder` and `reader`; each can be linked without the other, and neither has
  * anything of the judge. They open no file, allocate nothing and keep nothing between calls, so threads may call them at the
- * same time, each with a buffer of its own. A call takes less than 300 bytes of stack (docs/BENCH.md).
+ * same time, each with a buffer of its own. A call of the reader takes less than 300 bytes of stack, one of a
+ * writer less than 400 (docs/BENCH.md).
  *
  * Numbers:
  *
  *   thread      1 to 16
- *   env         1 to 4294967295
+ *   env         1 to 18446744073709551615
  *   function    4 to 232, the function's place in the JNI function table
- *   handles     0 to 4294967295, 0 being null. In a handle the remainder by 4 is its kind: 1 local, 2 global, 3 weak.
- *               Method and field identities have remainder 0. Buffers may have each remainder.
+ *   handles     0 to 18446744073709551615, 0 being null. In a handle the remainder by 4 is its kind: 1 local, 2 global,
+ *               3 weak. Method and field identities have remainder 0. Buffers may have each remainder.
  *   classes     1 to 4095. 1 to 4 stand for object, class, string and throwable; a judge takes another once K declares it.
  *
  * Array releases in commit mode (JNI_COMMIT) are not recorded: they free nothing, and a judge would take them for releases.
@@ -31,8 +32,8 @@ extern "C" {
 #define WEIR_BAD (-3)
 #define WEIR_SHORT (-7)
 
-/* The most bytes of a line: 128 and its LF. */
-#define WEIR_LINE 129
+/* The most bytes of a line: 224 and its LF. */
+#define WEIR_LINE 225
 
 /* The slots for N's handles. */
 #define WEIR_HANDLES 8
@@ -64,14 +65,14 @@ extern "C" {
  *   handles  eight slots, always all eight, apart from d. The first `count` are the handles, of local kind (remainder 1);
  *            each slot past them is 0. They are only read.
  */
-int32_t weir_enter(uint8_t *d, size_t length, uint32_t thread, uint32_t env, uint32_t count,
-                   const uint32_t handles[WEIR_HANDLES]);
+int32_t weir_enter(uint8_t *d, size_t length, uint32_t thread, uint64_t env, uint32_t count,
+                   const uint64_t handles[WEIR_HANDLES]);
 
 /* X: native returns to Java.
  *
- *   result   0 to 4294967295, of any kind; 0 where no object is returned.
+ *   result   0 to 18446744073709551615, of any kind; 0 where no object is returned.
  */
-int32_t weir_leave(uint8_t *d, size_t length, uint32_t thread, uint32_t result);
+int32_t weir_leave(uint8_t *d, size_t length, uint32_t thread, uint64_t result);
 
 /* C: C calls a JNI function.
  *
@@ -79,8 +80,8 @@ int32_t weir_leave(uint8_t *d, size_t length, uint32_t thread, uint32_t result);
  *            A used place may be 0 (null) and of any kind: that is for the judge to condemn.
  *   n        the capacity that 19 (PushLocalFrame) and 26 (EnsureLocalCapacity) ask for, any signed 32-bit number; else 0.
  */
-int32_t weir_call(uint8_t *d, size_t length, uint32_t thread, uint32_t env, uint32_t function, uint32_t a, uint32_t b,
-                  uint32_t c, int32_t n);
+int32_t weir_call(uint8_t *d, size_t length, uint32_t thread, uint64_t env, uint32_t function, uint64_t a, uint64_t b,
+                  uint64_t c, int32_t n);
 
 /* R: the function returns.
  *
@@ -89,7 +90,7 @@ int32_t weir_call(uint8_t *d, size_t length, uint32_t thread, uint32_t env, uint
  *   status   what 19, 26, 217 (MonitorEnter) and 218 (MonitorExit) give, any signed 32-bit number; else 0.
  *   pending  1 where an exception is pending after the call, else 0.
  */
-int32_t weir_return(uint8_t *d, size_t length, uint32_t thread, uint32_t function, uint32_t result, int32_t status,
+int32_t weir_return(uint8_t *d, size_t length, uint32_t thread, uint32_t function, uint64_t result, int32_t status,
                     uint32_t pending);
 
 /* K: declares a class.
@@ -101,11 +102,11 @@ int32_t weir_declare(uint8_t *d, size_t length, uint32_t class_number, uint32_t 
 
 /* O: states the class of a handle.
  *
- *   handle        0 to 4294967295, of any kind. That it is alive for the thread, so no null and no identity, is for the judge
- *                 to look at.
+ *   handle        0 to 18446744073709551615, of any kind. That it is alive for the thread, so no null and no identity, is
+ *                 for the judge to look at.
  *   class_number  1 to 4095; that it is declared, or 1 to 4, is for the judge too.
  */
-int32_t weir_state(uint8_t *d, size_t length, uint32_t thread, uint32_t handle, uint32_t class_number);
+int32_t weir_state(uint8_t *d, size_t length, uint32_t thread, uint64_t handle, uint32_t class_number);
 
 /* Z: the end of the run. */
 int32_t weir_end(uint8_t *d, size_t length);
@@ -122,7 +123,7 @@ int32_t weir_end(uint8_t *d, size_t length);
  * Returns
  *
  *   above 0       the line's letter. Its numbers are numbers[0] to numbers[*count - 1]; the slots past them are 0.
- *   WEIR_NO_LINE  -1: it has over 128 bytes before its LF, or its last byte is no LF, or it has no byte at all.
+ *   WEIR_NO_LINE  -1: it has over 224 bytes before its LF, or its last byte is no LF, or it has no byte at all.
  *   WEIR_FORM     -2: its letter, the count of its fields or the form of a number is wrong; an LF inside is a wrong form.
  *   WEIR_BAD      -3: a number is out of its range, a handle of N is null or no local, or something is not what the
  *                 function's row in the table of JNI functions has.
@@ -143,12 +144,12 @@ int32_t weir_end(uint8_t *d, size_t length);
  *
  * What was written is read as the numbers that it was written of, and what is read is written again as the same bytes.
  */
-int32_t weir_read(const uint8_t *line, size_t length, uint32_t numbers[WEIR_NUMBERS], uint32_t *count);
+int32_t weir_read(const uint8_t *line, size_t length, uint64_t numbers[WEIR_NUMBERS], uint32_t *count);
 
-/* The capacity or the status that a line's number stands for: below zero it is its two's complement. */
-static inline int32_t weir_signed(uint32_t number)
+/* The capacity or the status that a line's number stands for: below zero it is its two's complement in 64 bits. */
+static inline int32_t weir_signed(uint64_t number)
 {
-    return number <= INT32_MAX ? (int32_t)number : -(int32_t)(UINT32_MAX - number) - 1;
+    return number <= INT32_MAX ? (int32_t)number : -(int32_t)((UINT64_MAX - number) & INT32_MAX) - 1;
 }
 
 #ifdef __cplusplus

@@ -15,7 +15,8 @@
  *   classes    WEIR_CLASSES numbers: that of class c, at classes[c - 1], is its super, 0 where no K declared it; those of the reserved classes 1 to 4
  *              stay 0. With fewer weir_step and, at a line, weir_piece give -8, and weir_judge 0; weir_leaks does not need it
  *
- * There is room for as many handles, and buffers, as the lesser of rows and marks, at most 65,536. `./judge` lends 2,048 rows and 256 pins.
+ * There is room for as many handles, and buffers, as the lesser of rows and marks, at most 65,536. `./judge` lends 1,024 rows and 256 pins.
+ * The numbers of rows, pins, findings and leaks are as wide as a handle, 64 bits, also where they are a thread, a line or a class.
  * Every length is in numbers (rows, pins, classes, found, far, leaks), words (marks, pin_marks, book) or bytes (line, piece, trace, out). A pointer may
  * be NULL only where its length is 0, and no two of the slices overlap.
  */
@@ -58,16 +59,16 @@ extern "C" {
 #define WEIR_SHORT_FAR (-101)
 
 /* Clears all rows, marks, book and class table. */
-void weir_start(uint32_t *rows, size_t rows_length, uint64_t *marks, size_t marks_length, uint32_t *pins, size_t pins_length,
+void weir_start(uint64_t *rows, size_t rows_length, uint64_t *marks, size_t marks_length, uint64_t *pins, size_t pins_length,
                 uint64_t *pin_marks, size_t pin_marks_length, uint64_t *book, size_t book_length, uint32_t *classes,
                 size_t classes_length);
 
 /* Judges one line, all its bytes with the LF. Returns how many findings it has, 0 to 6: they are left at the front of `found`, line, rule, place and
  * thing of each. Below 0 it is the refusal, -1 to -10 (docs/RULES.md), or WEIR_SHORT_FOUND, and nothing is changed.
  */
-int32_t weir_step(const uint8_t *line, size_t line_length, uint32_t *rows, size_t rows_length, uint64_t *marks, size_t marks_length,
-                  uint32_t *pins, size_t pins_length, uint64_t *pin_marks, size_t pin_marks_length, uint64_t *book, size_t book_length,
-                  uint32_t *classes, size_t classes_length, uint32_t *found, size_t found_length);
+int32_t weir_step(const uint8_t *line, size_t line_length, uint64_t *rows, size_t rows_length, uint64_t *marks, size_t marks_length,
+                  uint64_t *pins, size_t pins_length, uint64_t *pin_marks, size_t pin_marks_length, uint64_t *book, size_t book_length,
+                  uint32_t *classes, size_t classes_length, uint64_t *found, size_t found_length);
 
 /* Judges the lines of a piece of a trace, one after another, over tables as weir_start cleared them or as the calls before left them. `ended` is 0
  * where more of the trace may follow the piece, and any other number where the trace ends behind it. The piece may be cut anywhere: a line that
@@ -77,7 +78,7 @@ int32_t weir_step(const uint8_t *line, size_t line_length, uint32_t *rows, size_
  * piece were taken, how many bytes of findings were put, and how many findings these are. Each line that is accepted has its LF, so as many lines were
  * accepted as there are LFs among the bytes taken. Returns why it stopped:
  *
- *   WEIR_MORE   all whole lines of the piece are judged. The bytes that were not taken, at most 128, are handed in again, in front of what is read next
+ *   WEIR_MORE   all whole lines of the piece are judged. The bytes that were not taken, at most 224, are handed in again, in front of what is read next
  *   WEIR_FULL   fewer than WEIR_SHOWN bytes of `out` are left. Empty it, and call again with the rest of the piece. Where `out` has WEIR_SHOWN bytes
  *               or more, a line at least was taken
  *   WEIR_END    the trace is at its end
@@ -87,8 +88,8 @@ int32_t weir_step(const uint8_t *line, size_t line_length, uint32_t *rows, size_
  * Rows are found by words on the stack: a call takes some 330 KB of it, whatever the piece. Each call fills those words anew, so pieces are best of 64 KiB
  * or more, and `out` so long that it is seldom full. A piece shorter than 4,096 bytes is judged without them, no faster than by weir_step.
  */
-int32_t weir_piece(const uint8_t *piece, size_t piece_length, uint32_t ended, uint32_t *rows, size_t rows_length, uint64_t *marks,
-                   size_t marks_length, uint32_t *pins, size_t pins_length, uint64_t *pin_marks, size_t pin_marks_length, uint64_t *book,
+int32_t weir_piece(const uint8_t *piece, size_t piece_length, uint32_t ended, uint64_t *rows, size_t rows_length, uint64_t *marks,
+                   size_t marks_length, uint64_t *pins, size_t pins_length, uint64_t *pin_marks, size_t pin_marks_length, uint64_t *book,
                    size_t book_length, uint32_t *classes, size_t classes_length, uint8_t *out, size_t out_length, uint64_t *far,
                    size_t far_length);
 
@@ -96,16 +97,16 @@ int32_t weir_piece(const uint8_t *piece, size_t piece_length, uint32_t ended, ui
  * line of each, ordered by making line, then rule and row; what is behind them stays. Below 0 nothing is written: -8 the book is not fit, -4 there
  * was no Z yet, -7 there are more leaks than `leaks` holds. WEIR_LEAK numbers for each row that is lent are always enough.
  */
-int32_t weir_leaks(const uint32_t *rows, size_t rows_length, const uint64_t *marks, size_t marks_length, const uint32_t *pins,
+int32_t weir_leaks(const uint64_t *rows, size_t rows_length, const uint64_t *marks, size_t marks_length, const uint64_t *pins,
                    size_t pins_length, const uint64_t *pin_marks, size_t pin_marks_length, const uint64_t *book, size_t book_length,
-                   uint32_t *leaks, size_t leaks_length);
+                   uint64_t *leaks, size_t leaks_length);
 
 /* Judges a whole trace from a start of its own. Returns how many bytes its report has; it stands at the front of `out` where that is no shorter, else
  * nothing is written there. 0: the book or the class table is short, and nothing was touched. The tables are left as the run left them, so weir_leaks
  * may follow. A call takes some 335 KB of stack, for words by which rows are found.
  */
-size_t weir_judge(const uint8_t *trace, size_t trace_length, uint32_t *rows, size_t rows_length, uint64_t *marks, size_t marks_length,
-                  uint32_t *pins, size_t pins_length, uint64_t *pin_marks, size_t pin_marks_length, uint64_t *book, size_t book_length,
+size_t weir_judge(const uint8_t *trace, size_t trace_length, uint64_t *rows, size_t rows_length, uint64_t *marks, size_t marks_length,
+                  uint64_t *pins, size_t pins_length, uint64_t *pin_marks, size_t pin_marks_length, uint64_t *book, size_t book_length,
                   uint32_t *classes, size_t classes_length, uint8_t *out, size_t out_length);
 
 #ifdef __cplusplus
