@@ -11,7 +11,7 @@ use Rattle.words.specs.Lists.{any}
 use Rattle.facts.specs.Table.{fact-of}
 use Rattle.facts.specs.declared.Result.{Result}
 use Rattle.facts.specs.declared.Result.the-variants as Result
-use Rattle.lines.specs.Line.{K, O, Line, N, X, C, R, Z, states, if-N_then_else_, is-allowed, is-zero, above-zero, most-handles}
+use Rattle.lines.specs.Line.{K, O, Line, N, X, C, R, A, D, Z, states, if-N_then_else_, is-allowed, is-zero, above-zero, most-handles}
 use Rattle.lines.specs.Reading.{Read, says, refused}
 use Rattle.lines.specs.Writing.{written}
 use Rattle.lines.specs.declared.Event.{Event}
@@ -43,6 +43,8 @@ event-of (says (N t env hs)) = Event.Enter t env (length hs)
 event-of (says (X t r)) = Event.Leave t r
 event-of (says (C t env f a b c n)) = Event.Call t env f a b c n
 event-of (says (R t f r p)) = if gives-status f then Event.Return t f 0 r p else Event.Return t f (above-zero r) (pos 0) p
+event-of (says (A t env)) = Event.Attach t env
+event-of (says (D t)) = Event.Detach t
 event-of (says Z) = Event.End
 event-of (says (states (K c s))) = Event.Declare c s
 event-of (says (states (O t h c))) = Event.State t h c
@@ -74,6 +76,8 @@ meant (Event.Call t env f a b c n) hs = with-slots 0 hs (C t env f a b c n)
 meant (Event.Return t f r s p) hs =
     if gives-status f then (if eqb r 0 then with-slots 0 hs (R t f s p) else refused 3)
     else (if is-zero s then with-slots 0 hs (R t f (pos r) p) else refused 3)
+meant (Event.Attach t env) hs = with-slots 0 hs (A t env)
+meant (Event.Detach t) hs = with-slots 0 hs (D t)
 meant (Event.Declare c s) hs = with-slots 0 hs (states (K c s))
 meant (Event.State t h c) hs = with-slots 0 hs (states (O t h c))
 meant Event.End hs = with-slots 0 hs Z

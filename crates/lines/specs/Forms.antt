@@ -6,7 +6,7 @@ use lib.Dec.{eqb}
 use lib.IntN.{ℤ, pos}
 use lib.ListN.{getD, drop}
 use Rattle.words.specs.Choice.{if_then_else_}
-use Rattle.lines.specs.Line.{K, O, Line, N, X, C, R, Z, states, above-zero}
+use Rattle.lines.specs.Line.{K, O, Line, N, X, C, R, A, D, Z, states, above-zero}
 
 pub record Form : Type 0 where
   pub letter : ℕ
@@ -47,6 +47,12 @@ call-form = form (code "C") 7 7 6 (λ ns. C (size-at ns 0) (size-at ns 1) (size-
 abbrev pub return-form : Form
 return-form = form (code "R") 4 4 2 (λ ns. R (size-at ns 0) (size-at ns 1) (number-at ns 2) (size-at ns 3))
 
+abbrev pub attach-form : Form
+attach-form = form (code "A") 2 2 no-place (λ ns. A (size-at ns 0) (size-at ns 1))
+
+abbrev pub detach-form : Form
+detach-form = form (code "D") 1 1 no-place (λ ns. D (size-at ns 0))
+
 abbrev pub declare-form : Form
 declare-form = form (code "K") 2 2 no-place (λ ns. states (K (size-at ns 0) (size-at ns 1)))
 
@@ -57,7 +63,7 @@ abbrev pub end-form : Form
 end-form = form (code "Z") 0 0 no-place (λ ns. Z)
 
 abbrev pub forms : List Form
-forms = enter-form ∷ leave-form ∷ call-form ∷ return-form ∷ declare-form ∷ state-form ∷ end-form ∷ []
+forms = enter-form ∷ leave-form ∷ call-form ∷ return-form ∷ attach-form ∷ detach-form ∷ declare-form ∷ state-form ∷ end-form ∷ []
 
 -- of a letter that no line has, no count is right
 abbrev pub no-form : ℕ → Form
@@ -78,6 +84,8 @@ letter-of (N t env hs) = code "N"
 letter-of (X t r) = code "X"
 letter-of (C t env f a b c n) = code "C"
 letter-of (R t f r p) = code "R"
+letter-of (A t env) = code "A"
+letter-of (D t) = code "D"
 letter-of Z = code "Z"
 letter-of (states (K c s)) = code "K"
 letter-of (states (O t h c)) = code "O"
@@ -87,6 +95,8 @@ numbers-of (N t env hs) = pos t ∷ pos env ∷ map pos hs
 numbers-of (X t r) = pos t ∷ pos r ∷ []
 numbers-of (C t env f a b c n) = pos t ∷ pos env ∷ pos f ∷ pos a ∷ pos b ∷ pos c ∷ n ∷ []
 numbers-of (R t f r p) = pos t ∷ pos f ∷ r ∷ pos p ∷ []
+numbers-of (A t env) = pos t ∷ pos env ∷ []
+numbers-of (D t) = pos t ∷ []
 numbers-of Z = []
 numbers-of (states (K c s)) = pos c ∷ pos s ∷ []
 numbers-of (states (O t h c)) = pos t ∷ pos h ∷ pos c ∷ []

@@ -24,6 +24,8 @@ handed letter n ws =
     else if eqb letter (code "X") then Event.Leave (at 0) (at 1)
     else if eqb letter (code "C") then Event.Call (at 0) (at 1) (at 2) (at 3) (at 4) (at 5) (signed-of (at 6))
     else if eqb letter (code "R") then (if gives-status (at 1) then Event.Return (at 0) (at 1) 0 (signed-of (at 2)) (at 3) else Event.Return (at 0) (at 1) (at 2) (pos 0) (at 3))
+    else if eqb letter (code "A") then Event.Attach (at 0) (at 1)
+    else if eqb letter (code "D") then Event.Detach (at 0)
     else if eqb letter (code "K") then Event.Declare (at 0) (at 1)
     else if eqb letter (code "O") then Event.State (at 0) (at 1) (at 2)
     else Event.End

@@ -1,7 +1,7 @@
 -- A line of a trace, and which lines documents 01 and 02 allow by themselves. Assumes nothing.
 use Prim.Native.Nat.{ℕ, _%_}
 use mathlib.Core.Bool.{Bool, true, false, not, _&&_, _||_}
-use mathlib.Core.List.{List}
+use mathlib.Core.List.{List, []}
 use lib.Dec.{eqb, leb}
 use lib.IntN.{ℤ, pos, negsuc}
 use lib.ListN.{length}
@@ -31,6 +31,10 @@ pub data Line : Type 0 where
   C : ℕ → ℕ → ℕ → ℕ → ℕ → ℕ → ℤ → Line
   -- the function returns: thread function result pending
   R : ℕ → ℕ → ℤ → ℕ → Line
+  -- a thread attaches itself: thread env
+  A : ℕ → ℕ → Line
+  -- and detaches itself: thread
+  D : ℕ → Line
   -- end of the run
   Z : Line
   -- a statement
@@ -38,77 +42,127 @@ pub data Line : Type 0 where
 
 -- ---- by the kind of line: what `f` says of its fields, else `d`
 
-module _ {ℓ} {A : Type ℓ} where
+module _ {ℓ} {B : Type ℓ} where
   infixr 1 if-N_then_else_
-  abbrev pub if-N_then_else_ : Line → (ℕ → ℕ → List ℕ → A) → A → A
+  abbrev pub if-N_then_else_ : Line → (ℕ → ℕ → List ℕ → B) → B → B
   if-N N t env hs then f else d = f t env hs
   if-N X t r then f else d = d
   if-N C t env g a b c n then f else d = d
   if-N R t g r p then f else d = d
+  if-N A t env then f else d = d
+  if-N D t then f else d = d
   if-N Z then f else d = d
   if-N states s then f else d = d
 
   infixr 1 if-X_then_else_
-  abbrev pub if-X_then_else_ : Line → (ℕ → ℕ → A) → A → A
+  abbrev pub if-X_then_else_ : Line → (ℕ → ℕ → B) → B → B
   if-X N t env hs then f else d = d
   if-X X t r then f else d = f t r
   if-X C t env g a b c n then f else d = d
   if-X R t g r p then f else d = d
+  if-X A t env then f else d = d
+  if-X D t then f else d = d
   if-X Z then f else d = d
   if-X states s then f else d = d
 
   infixr 1 if-C_then_else_
-  abbrev pub if-C_then_else_ : Line → (ℕ → ℕ → ℕ → ℕ → ℕ → ℕ → ℤ → A) → A → A
+  abbrev pub if-C_then_else_ : Line → (ℕ → ℕ → ℕ → ℕ → ℕ → ℕ → ℤ → B) → B → B
   if-C N t env hs then f else d = d
   if-C X t r then f else d = d
   if-C C t env g a b c n then f else d = f t env g a b c n
   if-C R t g r p then f else d = d
+  if-C A t env then f else d = d
+  if-C D t then f else d = d
   if-C Z then f else d = d
   if-C states s then f else d = d
 
   infixr 1 if-R_then_else_
-  abbrev pub if-R_then_else_ : Line → (ℕ → ℕ → ℤ → ℕ → A) → A → A
+  abbrev pub if-R_then_else_ : Line → (ℕ → ℕ → ℤ → ℕ → B) → B → B
   if-R N t env hs then f else d = d
   if-R X t r then f else d = d
   if-R C t env g a b c n then f else d = d
   if-R R t g r p then f else d = f t g r p
+  if-R A t env then f else d = d
+  if-R D t then f else d = d
   if-R Z then f else d = d
   if-R states s then f else d = d
 
+  infixr 1 if-A_then_else_
+  abbrev pub if-A_then_else_ : Line → (ℕ → ℕ → B) → B → B
+  if-A N t env hs then f else d = d
+  if-A X t r then f else d = d
+  if-A C t env g a b c n then f else d = d
+  if-A R t g r p then f else d = d
+  if-A A t env then f else d = f t env
+  if-A D t then f else d = d
+  if-A Z then f else d = d
+  if-A states s then f else d = d
+
+  infixr 1 if-D_then_else_
+  abbrev pub if-D_then_else_ : Line → (ℕ → B) → B → B
+  if-D N t env hs then f else d = d
+  if-D X t r then f else d = d
+  if-D C t env g a b c n then f else d = d
+  if-D R t g r p then f else d = d
+  if-D A t env then f else d = d
+  if-D D t then f else d = f t
+  if-D Z then f else d = d
+  if-D states s then f else d = d
+
+  -- N, or A, which has no handles
+  infixr 1 if-opens_then_else_
+  abbrev pub if-opens_then_else_ : Line → (ℕ → ℕ → List ℕ → B) → B → B
+  if-opens N t env hs then f else d = f t env hs
+  if-opens X t r then f else d = d
+  if-opens C t env g a b c n then f else d = d
+  if-opens R t g r p then f else d = d
+  if-opens A t env then f else d = f t env []
+  if-opens D t then f else d = d
+  if-opens Z then f else d = d
+  if-opens states s then f else d = d
+
   infixr 1 if-Z_then_else_
-  abbrev pub if-Z_then_else_ : Line → A → A → A
+  abbrev pub if-Z_then_else_ : Line → B → B → B
   if-Z N t env hs then f else d = d
   if-Z X t r then f else d = d
   if-Z C t env g a b c n then f else d = d
   if-Z R t g r p then f else d = d
+  if-Z A t env then f else d = d
+  if-Z D t then f else d = d
   if-Z Z then f else d = f
   if-Z states s then f else d = d
 
   infixr 1 if-states_then_else_
-  abbrev pub if-states_then_else_ : Line → A → A → A
+  abbrev pub if-states_then_else_ : Line → B → B → B
   if-states N t env hs then f else d = d
   if-states X t r then f else d = d
   if-states C t env g a b c n then f else d = d
   if-states R t g r p then f else d = d
+  if-states A t env then f else d = d
+  if-states D t then f else d = d
   if-states Z then f else d = d
   if-states states s then f else d = f
 
   infixr 1 if-K_then_else_
-  abbrev pub if-K_then_else_ : Line → (ℕ → ℕ → A) → A → A
+  abbrev pub if-K_then_else_ : Line → (ℕ → ℕ → B) → B → B
   if-K N t env hs then f else d = d
   if-K X t r then f else d = d
   if-K C t env g a b c n then f else d = d
   if-K R t g r p then f else d = d
+  if-K A t env then f else d = d
+  if-K D t then f else d = d
   if-K Z then f else d = d
   if-K states (K c s) then f else d = f c s
   if-K states (O t h c) then f else d = d
 
   infixr 1 if-O_then_else_
-  abbrev pub if-O_then_else_ : Line → (ℕ → ℕ → ℕ → A) → A → A
+  abbrev pub if-O_then_else_ : Line → (ℕ → ℕ → ℕ → B) → B → B
   if-O N t env hs then f else d = d
   if-O X t r then f else d = d
   if-O C t env g a b c n then f else d = d
   if-O R t g r p then f else d = d
+  if-O A t env then f else d = d
+  if-O D t then f else d = d
   if-O Z then f else d = d
   if-O states (K c s) then f else d = d
   if-O states (O t h c) then f else d = f t h c
@@ -209,6 +263,8 @@ is-allowed (C t env f a b c n) =
     && place-allows (fact-of f .c) c
     && capacity-allows f n
 is-allowed (R t f r p) = is-thread t && is-function f && result-allows (fact-of f .result) r && leb p 1
+is-allowed (A t env) = is-thread t && is-env env
+is-allowed (D t) = is-thread t
 is-allowed Z = true
 is-allowed (states (K c s)) = is-class c && is-class s
 is-allowed (states (O t h c)) = is-thread t && is-value h && is-class c
