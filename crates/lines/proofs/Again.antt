@@ -11,7 +11,7 @@ use borrow.Author.Tests.{leb-true, lt-leb}
 use Rattle.words.specs.Choice.{if_then_else_}
 use Rattle.facts.specs.Table.{fact-of, is-function}
 use Rattle.numbers.specs.Signed.{largest-i32, is-i32}
-use Rattle.lines.specs.Line.{K, O, Line, N, X, C, R, Z, states, is-allowed, is-thread, above-zero, result-allows, largest, most-handles}
+use Rattle.lines.specs.Line.{K, O, Line, N, X, C, R, A, D, Z, states, is-allowed, is-thread, above-zero, result-allows, largest, most-handles}
 use Rattle.lines.specs.Forms.{letter-of, numbers-of}
 use Rattle.lines.specs.Reading.{says}
 use Rattle.lines.specs.Events.{gives-status, event-of, slots-of, meant}
@@ -62,6 +62,8 @@ told-again (R t f r p) h = (go (gives-status f) refl, refl)
         ≡ (if s then Event.Return t f 0 r p else Event.Return t f (above-zero r) (pos 0) p)
     go true e = ap (λ (z : ℤ). Event.Return t f 0 z p) (signed-back r (status-i32 (fact-of f .result) r e allowed))
     go false e = ap (λ (n : ℕ). Event.Return t f n (pos 0) p) (plain-result-told r (plain-result (fact-of f .result) r e allowed))
+told-again (A t env) h = (refl, refl)
+told-again (D t) h = (refl, refl)
 told-again Z h = (refl, refl)
 told-again (states (K c s)) h = (refl, refl)
 told-again (states (O t v c)) h = (refl, refl)

@@ -19,7 +19,7 @@ use Rattle.facts.specs.declared.Place.{Place}
 use Rattle.facts.specs.declared.Place.the-variants as Place
 use Rattle.facts.specs.declared.Result.{Result}
 use Rattle.facts.specs.declared.Result.the-variants as Result
-use Rattle.lines.specs.Line.{K, O, Line, N, X, C, R, Z, states, is-allowed, is-thread, is-env, is-value, is-class, is-argument, is-made, is-zero, kind, threads, classes, largest, longest, most-handles, place-allows, capacity-allows, value-allows, result-allows}
+use Rattle.lines.specs.Line.{K, O, Line, N, X, C, R, A, D, Z, states, is-allowed, is-thread, is-env, is-value, is-class, is-argument, is-made, is-zero, kind, threads, classes, largest, longest, most-handles, place-allows, capacity-allows, value-allows, result-allows}
 use Rattle.lines.specs.Forms.{most-fields, form-of, letter-of, numbers-of}
 use Rattle.lines.specs.Reading.{line-of}
 use Rattle.lines.specs.Writing.{tabbed, written}
@@ -126,6 +126,8 @@ allowed-fits (R t f r p) h =
     let k = all4 (is-thread t) (is-function f) (result-allows (fact-of f .result) r) (leb p 1) h in
     let q = leb-true p 1 (k .3) in
     (thread-fits t (k .0), (function-fits f (k .1), (result-fits (fact-of f .result) r (k .2), (omega arith, tt))))
+allowed-fits (A t env) h = let k = both (is-thread t) (is-env env) h in (thread-fits t (k .0), (within-high 1 largest env (k .1), tt))
+allowed-fits (D t) h = (thread-fits t h, tt)
 allowed-fits Z h = tt
 allowed-fits (states (K c s)) h = let k = both (is-class c) (is-class s) h in (class-fits c (k .0), (class-fits s (k .1), tt))
 allowed-fits (states (O t v c)) h =

@@ -14,7 +14,7 @@ use Rattle.words.specs.Choice.{within}
 use Rattle.words.specs.Lists.{any}
 use Rattle.facts.specs.Table.{fact-of, is-function, first-function, last-function}
 use Rattle.numbers.specs.Signed.{signed, is-i32}
-use Rattle.lines.specs.Line.{K, O, Line, N, X, C, R, Z, states, is-allowed, is-thread, is-env, is-value, is-class, is-argument, place-allows, capacity-allows, result-allows, threads, classes, most-handles}
+use Rattle.lines.specs.Line.{K, O, Line, N, X, C, R, A, D, Z, states, is-allowed, is-thread, is-env, is-value, is-class, is-argument, place-allows, capacity-allows, result-allows, threads, classes, most-handles}
 use Rattle.lines.specs.Forms.{most-fields, no-place, of-letter}
 use Rattle.lines.specs.Reading.{says, refused, if-allowed, line-of}
 use Rattle.lines.specs.Events.{gives-status, event-of}
@@ -43,6 +43,8 @@ Narrow (N t env hs) = t ≤ threads
 Narrow (X t r) = t ≤ threads
 Narrow (C t env f a b c n) = t ≤ threads
 Narrow (R t f r p) = (t ≤ threads) × (p ≤ 1)
+Narrow (A t env) = t ≤ threads
+Narrow (D t) = t ≤ threads
 Narrow Z = Unit
 Narrow (states (K c s)) = (c ≤ classes) × (s ≤ classes)
 Narrow (states (O t h c)) = (t ≤ threads) × (c ≤ classes)
@@ -56,6 +58,8 @@ narrow (C t env f a b c n) h =
 narrow (R t f r p) h =
     let k = all4 (is-thread t) (is-function f) (result-allows (fact-of f .result) r) (leb p 1) h in
     (within-high 1 threads t (k .0), leb-true p 1 (k .3))
+narrow (A t env) h = within-high 1 threads t (both (is-thread t) (is-env env) h .0)
+narrow (D t) h = within-high 1 threads t h
 narrow Z h = tt
 narrow (states (K c s)) h = let k = both (is-class c) (is-class s) h in (within-high 1 classes c (k .0), within-high 1 classes s (k .1))
 narrow (states (O t v c)) h =
@@ -129,6 +133,12 @@ call-line minus vs = C (getD vs 0 0) (getD vs 1 0) (getD vs 2 0) (getD vs 3 0) (
 abbrev pub return-line : Bool → List ℕ → Line
 return-line minus vs = R (getD vs 0 0) (getD vs 1 0) (signed minus (getD vs 2 0)) (getD vs 3 0)
 
+abbrev pub attach-line : Bool → List ℕ → Line
+attach-line minus vs = A (getD vs 0 0) (getD vs 1 0)
+
+abbrev pub detach-line : Bool → List ℕ → Line
+detach-line minus vs = D (getD vs 0 0)
+
 abbrev pub declare-line : Bool → List ℕ → Line
 declare-line minus vs = states (K (getD vs 0 0) (getD vs 1 0))
 
@@ -168,6 +178,16 @@ return-front : (minus : Bool) (vs : List ℕ) → length vs ≡ most-fields → 
 unfolding line-of of-letter signed-at
 return-front true = of-length 10 (λ vs. Front (code "R") 4 true vs (return-line true vs)) (λ _ _ _ _ _ _ _ _ _ _. refl)
 return-front false = of-length 10 (λ vs. Front (code "R") 4 false vs (return-line false vs)) (λ _ _ _ _ _ _ _ _ _ _. refl)
+
+attach-front : (minus : Bool) (vs : List ℕ) → length vs ≡ most-fields → Front (code "A") 2 minus vs (attach-line minus vs)
+unfolding line-of of-letter signed-at
+attach-front true = of-length 10 (λ vs. Front (code "A") 2 true vs (attach-line true vs)) (λ _ _ _ _ _ _ _ _ _ _. refl)
+attach-front false = of-length 10 (λ vs. Front (code "A") 2 false vs (attach-line false vs)) (λ _ _ _ _ _ _ _ _ _ _. refl)
+
+detach-front : (minus : Bool) (vs : List ℕ) → length vs ≡ most-fields → Front (code "D") 1 minus vs (detach-line minus vs)
+unfolding line-of of-letter signed-at
+detach-front true = of-length 10 (λ vs. Front (code "D") 1 true vs (detach-line true vs)) (λ _ _ _ _ _ _ _ _ _ _. refl)
+detach-front false = of-length 10 (λ vs. Front (code "D") 1 false vs (detach-line false vs)) (λ _ _ _ _ _ _ _ _ _ _. refl)
 
 declare-front : (minus : Bool) (vs : List ℕ) → length vs ≡ most-fields → Front (code "K") 2 minus vs (declare-line minus vs)
 unfolding line-of of-letter signed-at
@@ -217,6 +237,14 @@ module _ (b n : ℕ) (minus : Bool) (vs : List ℕ) (ten : length vs ≡ most-fi
   unfolding of-letter
   return-in e = one-count (code "R") 4 (return-line minus vs) e (within-one 4 n (right-at e)) (return-front minus vs ten)
 
+  pub attach-in : b ≡ code "A" → if-allowed (attach-line minus vs) ≡ line-in b n minus vs
+  unfolding of-letter
+  attach-in e = one-count (code "A") 2 (attach-line minus vs) e (within-one 2 n (right-at e)) (attach-front minus vs ten)
+
+  pub detach-in : b ≡ code "D" → if-allowed (detach-line minus vs) ≡ line-in b n minus vs
+  unfolding of-letter
+  detach-in e = one-count (code "D") 1 (detach-line minus vs) e (within-one 1 n (right-at e)) (detach-front minus vs ten)
+
   pub declare-in : b ≡ code "K" → if-allowed (declare-line minus vs) ≡ line-in b n minus vs
   unfolding of-letter
   declare-in e = one-count (code "K") 2 (declare-line minus vs) e (within-one 2 n (right-at e)) (declare-front minus vs ten)
@@ -226,10 +254,10 @@ module _ (b n : ℕ) (minus : Bool) (vs : List ℕ) (ten : length vs ≡ most-fi
   state-in e = one-count (code "O") 3 (state-line minus vs) e (within-one 3 n (right-at e)) (state-front minus vs ten)
 
   -- no other letter has a count
-  pub end-in : b ≢ code "N" → b ≢ code "X" → b ≢ code "C" → b ≢ code "R" → b ≢ code "K" → b ≢ code "O" → says Z ≡ line-in b n minus vs
+  pub end-in : b ≢ code "N" → b ≢ code "X" → b ≢ code "C" → b ≢ code "R" → b ≢ code "A" → b ≢ code "D" → b ≢ code "K" → b ≢ code "O" → says Z ≡ line-in b n minus vs
   unfolding of-letter
-  end-in hn hx hc hr hk ho = go (eqb b (code "Z")) refl
+  end-in hn hx hc hr ha hd hk ho = go (eqb b (code "Z")) refl
     where
       go : (t : Bool) → eqb b (code "Z") ≡ t → says Z ≡ line-in b n minus vs
       go true e = let p = eqb-true b (code "Z") e in one-count (code "Z") 0 Z p (within-one 0 n (right-at p)) (end-front minus vs)
-      go false e = absurd (true≢false (sym right ∙ rw (ne-eqb b 78 hn, ne-eqb b 88 hx, ne-eqb b 67 hc, ne-eqb b 82 hr, ne-eqb b 75 hk, ne-eqb b 79 ho, e) (no-count n)))
+      go false e = absurd (true≢false (sym right ∙ rw (ne-eqb b 78 hn, ne-eqb b 88 hx, ne-eqb b 67 hc, ne-eqb b 82 hr, ne-eqb b 65 ha, ne-eqb b 68 hd, ne-eqb b 75 hk, ne-eqb b 79 ho, e) (no-count n)))

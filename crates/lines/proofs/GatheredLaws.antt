@@ -14,7 +14,7 @@ use borrow.Author.Tests.{le-leb, lt-leb}
 use Rattle.words.specs.Choice.{if_then_else_}
 use Rattle.words.specs.Lists.{any}
 use Rattle.numbers.specs.Signed.{is-negative}
-use Rattle.lines.specs.Line.{K, O, Line, N, X, C, R, Z, states, above-zero}
+use Rattle.lines.specs.Line.{K, O, Line, N, X, C, R, A, D, Z, states, above-zero}
 use Rattle.lines.specs.Forms.{most-fields, form-of, numbers-of}
 use Rattle.lines.specs.Reading.{Read, says, refused, numbers, line-of, if-numbers}
 use Rattle.lines.specs.Writing.{lettered, written}
@@ -163,6 +163,8 @@ slots-said n vs (says (N t env hs)) h = ap padded (sym (h t env hs refl))
 slots-said n vs (says (X t r)) h = refl
 slots-said n vs (says (C t env f a b c k)) h = refl
 slots-said n vs (says (R t f r p)) h = return-slots n vs t f r p
+slots-said n vs (says (A t env)) h = refl
+slots-said n vs (says (D t)) h = refl
 slots-said n vs (says Z) h = refl
 slots-said n vs (says (states (K c s))) h = refl
 slots-said n vs (says (states (O t k c))) h = refl

@@ -14,7 +14,7 @@ use Rattle.words.specs.Lists.{any}
 use Rattle.facts.specs.Table.{fact-of, is-function}
 use Rattle.facts.specs.declared.Result.{Result}
 use Rattle.facts.specs.declared.Result.the-variants as Result
-use Rattle.lines.specs.Line.{K, O, Line, N, X, C, R, Z, states, is-allowed, is-thread, is-env, is-argument, is-zero, is-made, result-allows, value-allows, above-zero, most-handles}
+use Rattle.lines.specs.Line.{K, O, Line, N, X, C, R, A, D, Z, states, is-allowed, is-thread, is-env, is-argument, is-zero, is-made, result-allows, value-allows, above-zero, most-handles}
 use Rattle.lines.specs.Reading.{says, refused}
 use Rattle.lines.specs.Events.{is-status, gives-status, event-of, padded, slots-of, not-zero, with-slots, meant}
 use Rattle.lines.specs.declared.Event.{Event}
@@ -93,6 +93,8 @@ meant-read (N t env hs) h =
 meant-read (X t r) h = rw h
 meant-read (C t env f a b c n) h = rw h
 meant-read (R t f r p) h = return-meant t f r p h
+meant-read (A t env) h = rw h
+meant-read (D t) h = rw h
 meant-read Z h = refl
 meant-read (states (K c s)) h = rw h
 meant-read (states (O t v c)) h = rw h
@@ -143,6 +145,14 @@ read-meant (Event.Call t env f a b c n) hs e l h =
     subst (Same (Event.Call t env f a b c n) hs) (k .3)
     (refl, no-handles hs l (k .1), k .2)
 read-meant (Event.Return t f r s p) hs e l h = return-same t f r s p hs e l h
+read-meant (Event.Attach t env) hs e l h =
+    let k = with-slots-said 0 hs (A t env) e h in
+    subst (Same (Event.Attach t env) hs) (k .3)
+    (refl, no-handles hs l (k .1), k .2)
+read-meant (Event.Detach t) hs e l h =
+    let k = with-slots-said 0 hs (D t) e h in
+    subst (Same (Event.Detach t) hs) (k .3)
+    (refl, no-handles hs l (k .1), k .2)
 read-meant (Event.Declare c s) hs e l h =
     let k = with-slots-said 0 hs (states (K c s)) e h in
     subst (Same (Event.Declare c s) hs) (k .3)

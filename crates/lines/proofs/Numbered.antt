@@ -13,8 +13,8 @@ use borrow.Author.Tests.{leb-true}
 use Rattle.words.specs.Choice.{if_then_else_, within}
 use Rattle.words.specs.Lists.{any}
 use Rattle.numbers.specs.Signed.{is-negative}
-use Rattle.lines.specs.Line.{K, O, Line, N, X, C, R, Z, states, is-allowed, is-thread, is-env, is-argument, above-zero, most-handles}
-use Rattle.lines.specs.Forms.{Form, most-fields, enter-form, leave-form, call-form, return-form, declare-form, state-form, end-form, forms, of-letter, form-of, letter-of, numbers-of}
+use Rattle.lines.specs.Line.{K, O, Line, N, X, C, R, A, D, Z, states, is-allowed, is-thread, is-env, is-argument, above-zero, most-handles}
+use Rattle.lines.specs.Forms.{Form, most-fields, enter-form, leave-form, call-form, return-form, attach-form, detach-form, declare-form, state-form, end-form, forms, of-letter, form-of, letter-of, numbers-of}
 use Rattle.lines.specs.Reading.{says, refused, if-allowed, without, in-form, line-of}
 use Rattle.lines.proofs.Tests.{neither, all4}
 use Rattle.lines.proofs.Listed.{of-length}
@@ -98,6 +98,8 @@ line-says (N t env hs) h =
 line-says (X t r) h = rw h
 line-says (C t env f a b c n) h = rw h
 line-says (R t f r p) h = rw h
+line-says (A t env) h = rw h
+line-says (D t) h = rw h
 line-says Z h = refl
 line-says (states (K c s)) h = rw h
 line-says (states (O t v c)) h = rw h
@@ -126,6 +128,12 @@ return-apart t f r p h =
     let q : pos (above-zero t) ∷ pos (above-zero f) ∷ pos (above-zero p) ∷ [] ≡ t ∷ f ∷ p ∷ [] = plain (t ∷ f ∷ p ∷ []) h in
     (refl, cc)
 
+attach-apart : (t env : ℤ) → Apart attach-form (t ∷ env ∷ [])
+attach-apart t env h = (refl, plain (t ∷ env ∷ []) h)
+
+detach-apart : (t : ℤ) → Apart detach-form (t ∷ [])
+detach-apart t h = (refl, plain (t ∷ []) h)
+
 declare-apart : (c s : ℤ) → Apart declare-form (c ∷ s ∷ [])
 declare-apart c s h = (refl, plain (c ∷ s ∷ []) h)
 
@@ -143,12 +151,18 @@ apart =
           (
             λ ns l. of-length 4 (Apart return-form) return-apart ns (within-one 4 (length ns) l),
             (
-              λ ns l. of-length 2 (Apart declare-form) declare-apart ns (within-one 2 (length ns) l),
+              λ ns l. of-length 2 (Apart attach-form) attach-apart ns (within-one 2 (length ns) l),
               (
-                λ ns l. of-length 3 (Apart state-form) state-apart ns (within-one 3 (length ns) l),
+                λ ns l. of-length 1 (Apart detach-form) detach-apart ns (within-one 1 (length ns) l),
                 (
-                  λ ns l. of-length 0 (Apart end-form) (λ h. (refl, refl)) ns (within-one 0 (length ns) l),
-                  tt,
+                  λ ns l. of-length 2 (Apart declare-form) declare-apart ns (within-one 2 (length ns) l),
+                  (
+                    λ ns l. of-length 3 (Apart state-form) state-apart ns (within-one 3 (length ns) l),
+                    (
+                      λ ns l. of-length 0 (Apart end-form) (λ h. (refl, refl)) ns (within-one 0 (length ns) l),
+                      tt,
+                    ),
+                  ),
                 ),
               ),
             ),

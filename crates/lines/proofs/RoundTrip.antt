@@ -17,7 +17,7 @@ use Rattle.words.specs.Text.{tab, line-feed}
 use Rattle.numbers.specs.Decimal.{number, shown}
 use Rattle.numbers.proofs.Back.{written-is-read, read-was-written}
 use Rattle.numbers.proofs.Bytes.{Parts, not-in-shown}
-use Rattle.lines.specs.Line.{K, O, Line, N, X, C, R, Z, states, is-allowed, longest}
+use Rattle.lines.specs.Line.{K, O, Line, N, X, C, R, A, D, Z, states, is-allowed, longest}
 use Rattle.lines.specs.Forms.{letter-of, numbers-of}
 use Rattle.lines.specs.Reading.{says, refused, fields, and-number, numbers, if-numbers, of-fields, read}
 use Rattle.lines.specs.Writing.{tabbed, written}
@@ -64,6 +64,8 @@ letter-plain (N t env hs) = (refl, refl)
 letter-plain (X t r) = (refl, refl)
 letter-plain (C t env f a b c n) = (refl, refl)
 letter-plain (R t f r p) = (refl, refl)
+letter-plain (A t env) = (refl, refl)
+letter-plain (D t) = (refl, refl)
 letter-plain Z = (refl, refl)
 letter-plain (states (K c s)) = (refl, refl)
 letter-plain (states (O t h c)) = (refl, refl)

@@ -10,7 +10,8 @@ ghost use mathlib.Core.Bool.{true};
 ghost use lib.ListN.{getD};
 ghost use Rattle.words.specs.Choice.{within};
 ghost use Rattle.numbers.specs.Signed.{signed};
-ghost use Rattle.lines.specs.Line.{K, O, N, X, C, R, states};
+// `A` is taken in a contract.
+ghost use Rattle.lines.specs.Line.{K, O, N, X, C, R, A as attached, D, states};
 ghost use Rattle.lines.specs.Forms.{form-of};
 ghost use Rattle.lines.specs.Reading.{if-allowed};
 ghost use Rattle.lines.specs.Events.{event-of};
@@ -49,6 +50,16 @@ pub fn counts_of(letter: u8) -> Counts
             least: 4,
             most: 4,
             signed: 2,
+        },
+        b'A' => Counts {
+            least: 2,
+            most: 2,
+            signed: NO_PLACE,
+        },
+        b'D' => Counts {
+            least: 1,
+            most: 1,
+            signed: NO_PLACE,
         },
         b'K' => Counts {
             least: 2,
@@ -166,6 +177,29 @@ fn returns(thread: Handle, function: Handle, minus: bool, result: Handle, pendin
     }
 }
 
+fn attach(thread: Handle, env: Handle) -> Event
+    ensures { λ r. ⌜ r ≡ event-of (if-allowed (attached thread env)) ⌝ }
+{
+    if !ranges::attach_allows(thread, env) {
+        return Event::Refused(RANGE);
+    }
+    Event::Attach {
+        thread: thread as u32,
+        env: env,
+    }
+}
+
+fn detach(thread: Handle) -> Event
+    ensures { λ r. ⌜ r ≡ event-of (if-allowed (D thread)) ⌝ }
+{
+    if !ranges::detach_allows(thread) {
+        return Event::Refused(RANGE);
+    }
+    Event::Detach {
+        thread: thread as u32,
+    }
+}
+
 fn declare(class: Handle, superclass: Handle) -> Event
     ensures { λ r. ⌜ r ≡ event-of (if-allowed (states (K class superclass))) ⌝ }
 {
@@ -203,6 +237,8 @@ pub fn event_of(letter: u8, n: usize, minus: bool, v: [Handle; 10]) -> Event
         b'X' => leave(v[0], v[1]),
         b'C' => call(v[0], v[1], v[2], v[3], v[4], v[5], minus, v[6]),
         b'R' => returns(v[0], v[1], minus, v[2], v[3]),
+        b'A' => attach(v[0], v[1]),
+        b'D' => detach(v[0]),
         b'K' => declare(v[0], v[1]),
         b'O' => state(v[0], v[1], v[2]),
         _ => Event::End,

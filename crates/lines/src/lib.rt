@@ -55,6 +55,13 @@ pub enum Event {
         status: i32,
         pending: u32,
     },
+    Attach {
+        thread: u32,
+        env: Handle,
+    },
+    Detach {
+        thread: u32,
+    },
     Declare {
         class: u32,
         superclass: u32,

@@ -18,7 +18,8 @@ ghost use lib.IntN.{pos};
 ghost use Rattle.words.specs.Lists.{any};
 ghost use Rattle.numbers.specs.Signed.{signed, is-i32};
 ghost use Rattle.facts.specs.Table.{fact-of, is-function};
-ghost use Rattle.lines.specs.Line.{K, O, N, X, C, R, states, is-allowed, is-thread, is-env, is-class, is-argument, is-made, value-allows, place-allows, capacity-allows, result-allows};
+// `A` is taken in a contract.
+ghost use Rattle.lines.specs.Line.{K, O, N, X, C, R, A as attached, D, states, is-allowed, is-thread, is-env, is-class, is-argument, is-made, value-allows, place-allows, capacity-allows, result-allows};
 ghost use Rattle.lines.specs.Events.{is-status, gives-status};
 ghost use Rattle.lines.specs.Sizes.{named};
 
@@ -170,11 +171,23 @@ fn are_arguments(v: [Handle; 10], n: usize) -> bool
     ok
 }
 
+pub(crate) fn attach_allows(thread: Handle, env: Handle) -> bool
+    ensures { λ r. ⌜ r ≡ is-allowed (attached thread env) ⌝ }
+{
+    is_thread(thread) & is_env(env)
+}
+
+pub(crate) fn detach_allows(thread: Handle) -> bool
+    ensures { λ r. ⌜ r ≡ is-allowed (D thread) ⌝ }
+{
+    is_thread(thread)
+}
+
 pub(crate) fn enter_allows(thread: Handle, env: Handle, v: [Handle; 10], n: usize) -> bool
     requires { ⌜ n ≤ 10 ⌝ }
     ensures { λ r. ⌜ r ≡ is-allowed (N thread env (named n v)) ⌝ }
 {
-    is_thread(thread) & is_env(env) & are_arguments(v, n)
+    attach_allows(thread, env) & are_arguments(v, n)
 }
 
 pub(crate) fn leave_allows(thread: Handle, result: Handle) -> bool
@@ -200,8 +213,7 @@ pub(crate) fn call_allows(
     let pa = at.a;
     let pb = at.b;
     let pc = at.c;
-    is_thread(thread)
-        & is_env(env)
+    attach_allows(thread, env)
         & place_allows(pa, a)
         & place_allows(pb, b)
         & place_allows(pc, c)

@@ -18,17 +18,15 @@ call-allows-spec =
     (λ c κs. search needs)
     (λ c κs. search needs)
     (λ c κs. search needs)
-    (λ c κs. search needs)
     (λ c.
     let at-place-c = c .before in
     let at-place-b = at-place-c .before in
     let at-place-a = at-place-b .before in
-    let at-env = at-place-a .before in
-    let at-thread = at-env .before in
-    let at-places = at-thread .before in
+    let at-attach = at-place-a .before in
+    let at-places = at-attach .before in
     let a = at-places .before .args in
     rw (at-places .before .pre, and-true (is-thread (a .thread) && is-env (a .env)))
-    (ap₂ _&&_ (ap₂ _&&_ (ap₂ _&&_ (ap₂ _&&_ (ap₂ _&&_ (at-thread .is-thread .ensures) (at-env .is-env .ensures))
+    (ap₂ _&&_ (ap₂ _&&_ (ap₂ _&&_ (ap₂ _&&_ (at-attach .attach-allows .ensures)
     (at-place-a .place-allows .ensures ∙ ap (λ (x : Places). place-allows (x .a) (a .a)) (at-places .places-of .ensures)))
     (at-place-b .place-allows2 .ensures ∙ ap (λ (x : Places). place-allows (x .b) (a .b)) (at-places .places-of .ensures)))
     (at-place-c .place-allows3 .ensures ∙ ap (λ (x : Places). place-allows (x .c) (a .c)) (at-places .places-of .ensures)))

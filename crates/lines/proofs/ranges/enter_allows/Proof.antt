@@ -18,7 +18,6 @@ enter-allows-spec =
     (tie.spec
     (λ c κs. search needs)
     (λ c κs. search needs)
-    (λ c κs. search needs)
-    (λ c. let a = c .before .before .before .args in
+    (λ c. let a = c .before .before .args in
     let few : leb (length (named (a .n) (a .v))) most-handles ≡ true = le-leb (length (named (a .n) (a .v))) most-handles (named-few (a .n) (a .v) (search needs)) in
-    rw few (ap₂ _&&_ (ap₂ _&&_ (c .before .before .is-thread .ensures) (c .before .is-env .ensures) ∙ sym (and-true (is-thread (a .thread) && is-env (a .env)))) (c .are-arguments .ensures))))
+    rw few (ap₂ _&&_ (c .before .attach-allows .ensures ∙ sym (and-true (is-thread (a .thread) && is-env (a .env)))) (c .are-arguments .ensures))))
