@@ -9,7 +9,7 @@ use lib.ListN.{length, replicate}
 use Rattle.words.specs.Text.{bytes, with-tabs}
 use Rattle.numbers.specs.Decimal.{read-on, digits, digits-in}
 use Rattle.facts.specs.Table.{table, fact-of}
-use Rattle.lines.specs.Line.{K, O, N, X, C, R, Z, states}
+use Rattle.lines.specs.Line.{K, O, N, X, C, R, A, D, Z, states}
 use Rattle.lines.specs.Forms.{of-letter}
 use Rattle.lines.specs.Reading.{Read, says, refused, fields, numbers, line-of, of-fields, read}
 use Rattle.lines.specs.Writing.{tabbed, written}
@@ -87,6 +87,23 @@ worked =
     ∷ "R 1 4 1 0\n" reads refused 3
     ∷ "R 1 169 18446744073709551615 0\n" reads says (R 1 169 (pos 18446744073709551615) 0)
     ∷ "R 1 169 18446744073709551616 0\n" reads refused 3
+    -- a thread and its env
+    ∷ "A 1 100\n" reads says (A 1 100)
+    ∷ "A 1 1\n" reads says (A 1 1)
+    ∷ "A 16 18446744073709551615\n" reads says (A 16 18446744073709551615)
+    ∷ "A 0 100\n" reads refused 3
+    ∷ "A 17 100\n" reads refused 3
+    ∷ "A 4294967297 100\n" reads refused 3
+    ∷ "A -1 100\n" reads refused 3
+    ∷ "A 1 0\n" reads refused 3
+    ∷ "A 1 18446744073709551616\n" reads refused 3
+    ∷ "A 1 -100\n" reads refused 3
+    ∷ "D 1\n" reads says (D 1)
+    ∷ "D 16\n" reads says (D 16)
+    ∷ "D 0\n" reads refused 3
+    ∷ "D 17\n" reads refused 3
+    ∷ "D 4294967297\n" reads refused 3
+    ∷ "D -1\n" reads refused 3
     -- classes
     ∷ "K 5 1\n" reads says (states (K 5 1))
     ∷ "K 1 4095\n" reads says (states (K 1 4095))
@@ -121,6 +138,13 @@ worked =
     ∷ "X 1\n" reads refused 2
     ∷ "X 1 5 5\n" reads refused 2
     ∷ "N 1 100 1 5 9 13 17 21 25 29 33\n" reads refused 2
+    ∷ "A\n" reads refused 2
+    ∷ "A 1\n" reads refused 2
+    ∷ "A 1 100 5\n" reads refused 2
+    ∷ "A 0 01\n" reads refused 2
+    ∷ "D\n" reads refused 2
+    ∷ "D 1 100\n" reads refused 2
+    ∷ "D 01\n" reads refused 2
     ∷ "K 5\n" reads refused 2
     ∷ "K 5 1 1\n" reads refused 2
     ∷ "K 0 01\n" reads refused 2
@@ -160,11 +184,13 @@ pub written-lines : (written (N 1 100 (5 ∷ [])) ≡ with-tabs (bytes "N 1 100 
     × (written (C 1 100 19 0 0 0 (negsuc 4)) ≡ with-tabs (bytes "C 1 100 19 0 0 0 -5\n"))
     × (written (R 1 19 (negsuc 2147483647) 0) ≡ with-tabs (bytes "R 1 19 -2147483648 0\n"))
     × (written (X 16 18446744073709551615) ≡ with-tabs (bytes "X 16 18446744073709551615\n"))
+    × (written (A 16 18446744073709551615) ≡ with-tabs (bytes "A 16 18446744073709551615\n"))
+    × (written (D 16) ≡ with-tabs (bytes "D 16\n"))
     × (written (states (K 4095 1)) ≡ with-tabs (bytes "K 4095 1\n"))
     × (written (states (O 16 18446744073709551615 4095)) ≡ with-tabs (bytes "O 16 18446744073709551615 4095\n"))
     × (written Z ≡ with-tabs (bytes "Z\n"))
 unfolding written tabbed digits digits-in
-written-lines = (refl, refl, refl, refl, refl, refl, refl)
+written-lines = (refl, refl, refl, refl, refl, refl, refl, refl, refl)
 
 -- ---- lines as they are told to C
 
@@ -187,6 +213,8 @@ told =
     ∷ "R 1 26 -1 1\n" tells Line (code "R") 4 and (1 ∷ 26 ∷ 18446744073709551615 ∷ 1 ∷ 0 ∷ 0 ∷ 0 ∷ 0 ∷ 0 ∷ 0 ∷ [])
     ∷ "R 1 19 -2147483648 0\n" tells Line (code "R") 4 and (1 ∷ 19 ∷ 18446744071562067968 ∷ 0 ∷ 0 ∷ 0 ∷ 0 ∷ 0 ∷ 0 ∷ 0 ∷ [])
     ∷ "R 1 169 18446744073709551615 0\n" tells Line (code "R") 4 and (1 ∷ 169 ∷ 18446744073709551615 ∷ 0 ∷ 0 ∷ 0 ∷ 0 ∷ 0 ∷ 0 ∷ 0 ∷ [])
+    ∷ "A 16 18446744073709551615\n" tells Line (code "A") 2 and (16 ∷ 18446744073709551615 ∷ 0 ∷ 0 ∷ 0 ∷ 0 ∷ 0 ∷ 0 ∷ 0 ∷ 0 ∷ [])
+    ∷ "D 16\n" tells Line (code "D") 1 and (16 ∷ 0 ∷ 0 ∷ 0 ∷ 0 ∷ 0 ∷ 0 ∷ 0 ∷ 0 ∷ 0 ∷ [])
     ∷ "K 5 1\n" tells Line (code "K") 2 and (5 ∷ 1 ∷ 0 ∷ 0 ∷ 0 ∷ 0 ∷ 0 ∷ 0 ∷ 0 ∷ 0 ∷ [])
     ∷ "O 16 18446744073709551615 4095\n" tells Line (code "O") 3 and (16 ∷ 18446744073709551615 ∷ 4095 ∷ 0 ∷ 0 ∷ 0 ∷ 0 ∷ 0 ∷ 0 ∷ 0 ∷ [])
     ∷ "Z\n" tells Line (code "Z") 0 and replicate 10 0
