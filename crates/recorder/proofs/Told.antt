@@ -14,7 +14,7 @@ use borrow.Author.Needs.{sfits-of}
 use Rattle.numbers.proofs.Minus.{minus-is, minus-fits}
 use Rattle.words.specs.Choice.{if_then_else_}
 use Rattle.words.specs.Lists.{any}
-use Rattle.lines.specs.Line.{K, O, Line, N, X, C, R, Z, states, longest, most-handles, is-allowed, is-zero}
+use Rattle.lines.specs.Line.{K, O, Line, N, X, C, R, A, D, Z, states, longest, most-handles, is-allowed, is-zero}
 use Rattle.lines.specs.Reading.{Read, says, refused}
 use Rattle.lines.specs.Writing.{written}
 use Rattle.lines.specs.Events.{gives-status, not-zero, with-slots, meant, wrote}
@@ -69,6 +69,8 @@ meant-short d (Event.Return t f r s p) hs = go (gives-status f) (eqb r 0) (is-ze
     go true false z = refused-short d 3
     go false y true = slots-short d 0 hs (R t f (pos r) p)
     go false y false = refused-short d 3
+meant-short d (Event.Attach t env) hs = slots-short d 0 hs (A t env)
+meant-short d (Event.Detach t) hs = slots-short d 0 hs (D t)
 meant-short d (Event.Declare c s) hs = slots-short d 0 hs (states (K c s))
 meant-short d (Event.State t h c) hs = slots-short d 0 hs (states (O t h c))
 meant-short d Event.End hs = slots-short d 0 hs Z

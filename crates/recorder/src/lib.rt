@@ -3,7 +3,7 @@ use lines::Event;
 use lines::Wrote;
 use words::Handle;
 ghost use mathlib.Core.Path.{_≡_};
-ghost use Rattle.lines.specs.declared.Event.the-variants.{Enter, Leave, Call, Return, Declare, State, End};
+ghost use Rattle.lines.specs.declared.Event.the-variants.{Enter, Leave, Call, Return, Attach, Detach, Declare, State, End};
 ghost use Rattle.lines.specs.Events.{meant, wrote, left};
 ghost use Rattle.recorder.specs.Told.{told, no-handles};
 
@@ -111,6 +111,31 @@ pub extern "C" fn weir_return(
         },
         &[0; 8],
     )
+}
+
+// A: a thread that starts in C attaches itself.
+#[no_mangle]
+pub extern "C" fn weir_attach(d: &mut [u8], thread: u32, env: Handle) -> i32
+    ensures { λ r. ⌜ r ≡ told (wrote (meant (Attach thread env) no-handles) (now (d .entry))) ⌝ }
+    ensures { λ _. ⌜ now (d .exit) ≡ left (meant (Attach thread env) no-handles) (now (d .entry)) ⌝ }
+{
+    tell(
+        d,
+        Event::Attach {
+            thread: thread,
+            env: env,
+        },
+        &[0; 8],
+    )
+}
+
+// D: it detaches itself.
+#[no_mangle]
+pub extern "C" fn weir_detach(d: &mut [u8], thread: u32) -> i32
+    ensures { λ r. ⌜ r ≡ told (wrote (meant (Detach thread) no-handles) (now (d .entry))) ⌝ }
+    ensures { λ _. ⌜ now (d .exit) ≡ left (meant (Detach thread) no-handles) (now (d .entry)) ⌝ }
+{
+    tell(d, Event::Detach { thread: thread }, &[0; 8])
 }
 
 // K: declares a class.

@@ -114,6 +114,26 @@ pub(crate) fn take_apart(e: Event, h: [Handle; 8]) -> Taken
             status,
             pending,
         } => take_return(thread, function, result, status, pending, are_empty(h, 0)),
+        Event::Attach { thread, env } => {
+            let t = thread as Handle;
+            Taken {
+                letter: b'A',
+                count: 2,
+                minus: false,
+                values: [t, env, 0, 0, 0, 0, 0, 0, 0, 0],
+                good: are_empty(h, 0),
+            }
+        }
+        Event::Detach { thread } => {
+            let t = thread as Handle;
+            Taken {
+                letter: b'D',
+                count: 1,
+                minus: false,
+                values: [t, 0, 0, 0, 0, 0, 0, 0, 0, 0],
+                good: are_empty(h, 0),
+            }
+        }
         Event::Declare { class, superclass } => {
             let k = class as Handle;
             let s = superclass as Handle;

@@ -46,6 +46,12 @@ take-apart-spec =
     (λ c κs. search needs)
     (λ c. search needs)
     (λ c. search needs)
+    (λ c κs. search needs)
+    (λ c. search needs)
+    (λ c. search needs)
+    (λ c κs. search needs)
+    (λ c. search needs)
+    (λ c. search needs)
     (λ c. search needs)
     (λ c κs. search needs)
     (λ c. search needs)
@@ -80,14 +86,22 @@ take-apart-spec =
     ∙ sym (ap (λ (x : Event). apart x (a .t2)) (e .given .1)))
     (λ c. let a = c .before .before .before .before .args in
     let e = c .before .before .e5 in
-    ap (λ (b : Bool). taken 75 2 false (e .given .0 .0 ∷ e .given .0 .1 .0 ∷ 0 ∷ 0 ∷ 0 ∷ 0 ∷ 0 ∷ 0 ∷ 0 ∷ 0 ∷ []) b) (c .are-empty5 .ensures)
+    ap (λ (b : Bool). taken 65 2 false (e .given .0 .0 ∷ e .given .0 .1 .0 ∷ 0 ∷ 0 ∷ 0 ∷ 0 ∷ 0 ∷ 0 ∷ 0 ∷ 0 ∷ []) b) (c .are-empty5 .ensures)
     ∙ sym (ap (λ (x : Event). apart x (a .t2)) (e .given .1)))
     (λ c. let a = c .before .before .before .before .args in
     let e = c .before .before .e6 in
-    ap (λ (b : Bool). taken 79 3 false (e .given .0 .0 ∷ e .given .0 .1 .0 ∷ e .given .0 .1 .1 .0 ∷ 0 ∷ 0 ∷ 0 ∷ 0 ∷ 0 ∷ 0 ∷ 0 ∷ []) b) (c .are-empty6 .ensures)
+    ap (λ (b : Bool). taken 68 1 false (e .given .0 .0 ∷ 0 ∷ 0 ∷ 0 ∷ 0 ∷ 0 ∷ 0 ∷ 0 ∷ 0 ∷ 0 ∷ []) b) (c .are-empty6 .ensures)
+    ∙ sym (ap (λ (x : Event). apart x (a .t2)) (e .given .1)))
+    (λ c. let a = c .before .before .before .before .args in
+    let e = c .before .before .e7 in
+    ap (λ (b : Bool). taken 75 2 false (e .given .0 .0 ∷ e .given .0 .1 .0 ∷ 0 ∷ 0 ∷ 0 ∷ 0 ∷ 0 ∷ 0 ∷ 0 ∷ 0 ∷ []) b) (c .are-empty7 .ensures)
+    ∙ sym (ap (λ (x : Event). apart x (a .t2)) (e .given .1)))
+    (λ c. let a = c .before .before .before .before .args in
+    let e = c .before .before .e8 in
+    ap (λ (b : Bool). taken 79 3 false (e .given .0 .0 ∷ e .given .0 .1 .0 ∷ e .given .0 .1 .1 .0 ∷ 0 ∷ 0 ∷ 0 ∷ 0 ∷ 0 ∷ 0 ∷ 0 ∷ []) b) (c .are-empty8 .ensures)
     ∙ sym (ap (λ (x : Event). apart x (a .t2)) (e .given .1)))
     (λ c. let a = c .before .before .before .args in
-    ap (λ (b : Bool). taken 90 0 false (0 ∷ 0 ∷ 0 ∷ 0 ∷ 0 ∷ 0 ∷ 0 ∷ 0 ∷ 0 ∷ 0 ∷ []) b) (c .are-empty7 .ensures)
+    ap (λ (b : Bool). taken 90 0 false (0 ∷ 0 ∷ 0 ∷ 0 ∷ 0 ∷ 0 ∷ 0 ∷ 0 ∷ 0 ∷ 0 ∷ []) b) (c .are-empty9 .ensures)
     ∙ sym (ap (λ (x : Event). apart x (a .t2)) (c .before .enum-told .given .1)))
     (λ c. let a = c .before .before .args in
     sym (ap (λ (x : Event). apart x (a .t2)) (c .enum-told2 .given .1))))
