@@ -76,6 +76,24 @@ static int32_t checked_return(uint8_t d[WEIR_LINE], uint32_t thread, uint32_t fu
     return r;
 }
 
+static int32_t checked_attach(uint8_t d[WEIR_LINE], uint32_t thread, uint64_t env)
+{
+    const int32_t r = weir_attach(d, WEIR_LINE, thread, env);
+    const uint64_t numbers[WEIR_NUMBERS] = {thread, env};
+
+    check(d, r, 'A', 2, numbers);
+    return r;
+}
+
+static int32_t checked_detach(uint8_t d[WEIR_LINE], uint32_t thread)
+{
+    const int32_t r = weir_detach(d, WEIR_LINE, thread);
+    const uint64_t numbers[WEIR_NUMBERS] = {thread};
+
+    check(d, r, 'D', 1, numbers);
+    return r;
+}
+
 static int32_t checked_declare(uint8_t d[WEIR_LINE], uint32_t class_number, uint32_t super_number)
 {
     const int32_t r = weir_declare(d, WEIR_LINE, class_number, super_number);
@@ -230,6 +248,11 @@ static void bad_events(void)
     refuses(weir_return(fresh(), size, 1, 19, 4294967296u, 0, 0), WEIR_BAD, "R of 19 with the result 4294967296 is bad");
     refuses(weir_return(fresh(), size, 1, 31, 13, -1, 0), WEIR_BAD, "R of 31 with a status is bad");
     refuses(weir_return(fresh(), size, 1, 31, 13, 0, 2), WEIR_BAD, "R with pending 2 is bad");
+    refuses(weir_attach(fresh(), size, 0, 100), WEIR_BAD, "A of thread 0 is bad");
+    refuses(weir_attach(fresh(), size, 17, 100), WEIR_BAD, "A of thread 17 is bad");
+    refuses(weir_attach(fresh(), size, 1, 0), WEIR_BAD, "A of env 0 is bad");
+    refuses(weir_detach(fresh(), size, 0), WEIR_BAD, "D of thread 0 is bad");
+    refuses(weir_detach(fresh(), size, 17), WEIR_BAD, "D of thread 17 is bad");
     refuses(weir_declare(fresh(), size, 0, 1), WEIR_BAD, "K of class 0 is bad");
     refuses(weir_declare(fresh(), size, 4096, 1), WEIR_BAD, "K of class 4096 is bad");
     refuses(weir_declare(fresh(), size, 4294967295u, 1), WEIR_BAD, "K of class 4294967295 is bad");
@@ -277,6 +300,8 @@ static void short_buffers(void)
     SHORT("C\t1\t1\t26\t0\t0\t0\t2147483647\n", weir_call(fresh(), room, 1, 1, 26, 0, 0, 0, 2147483647));
     SHORT("R\t16\t218\t-2147483648\t1\n", weir_return(fresh(), room, 16, 218, 0, lowest, 1));
     SHORT("R\t16\t169\t18446744073709551615\t1\n", weir_return(fresh(), room, 16, 169, 18446744073709551615u, 0, 1));
+    SHORT("A\t16\t18446744073709551615\n", weir_attach(fresh(), room, 16, 18446744073709551615u));
+    SHORT("D\t16\n", weir_detach(fresh(), room, 16));
     SHORT("K\t4095\t1\n", weir_declare(fresh(), room, 4095, 1));
     SHORT("O\t16\t18446744073709551615\t4095\n", weir_state(fresh(), room, 16, 18446744073709551615u, 4095));
     SHORT("Z\n", weir_end(fresh(), room));
@@ -318,6 +343,7 @@ static void equal_in_32_bits(void)
         checked_return(d, 1, 226, zeros[i] + 7, 0, 0);
         checked_return(d, 1, 33, zeros[i], 0, 0);
         checked_return(d, 1, 169, zeros[i], 0, 0);
+        checked_attach(d, 1, zeros[i]);
         checked_state(d, 1, zeros[i], 1);
     }
 }
@@ -333,6 +359,8 @@ static void longest_lines(void)
     expect(checked_call(d, 16, most, 26, 0, 0, 0, lowest) == 47, "the longest C with a capacity has 47 bytes");
     expect(checked_return(d, 16, 169, most, 0, 1) == 32, "the longest R has 32 bytes");
     expect(checked_return(d, 16, 218, 0, lowest, 1) == 23, "the longest R with a status has 23 bytes");
+    expect(checked_attach(d, 16, most) == 26, "the longest A has 26 bytes");
+    expect(checked_detach(d, 16) == 5, "the longest D has 5 bytes");
     expect(checked_declare(d, 4095, 4095) == 12, "the longest K has 12 bytes");
     expect(checked_state(d, 16, most, 4095) == 31, "the longest O has 31 bytes");
     expect(checked_end(d) == 2, "Z has 2 bytes");
@@ -401,11 +429,12 @@ static void wrong_forms(void)
 {
     static const char *const lines[] = {
         /* letters */
-        "\n", "A\t1\t5\n", "x\t1\t5\n", "k\t5\t1\n", "o\t1\t5\t3\n", "\tX\t1\t5\n", " Z\n", "XX\t1\t5\n", "1\t1\t5\n",
+        "\n", "B\t1\t5\n", "x\t1\t5\n", "a\t1\t5\n", "d\t1\n", "k\t5\t1\n", "o\t1\t5\t3\n", "\tX\t1\t5\n", " Z\n",
+        "XX\t1\t5\n", "1\t1\t5\n",
         /* fields */
         "N\n", "N\t1\n", "N\t1\t100\t1\t5\t9\t13\t17\t21\t25\t29\t33\n", "X\n", "X\t1\n", "X\t1\t5\t5\n",
         "C\t1\t100\t31\t5\t0\t0\n", "C\t1\t100\t31\t5\t0\t0\t0\t0\n", "R\t1\t31\t13\n", "R\t1\t31\t13\t0\t0\n", "Z\t1\n",
-        "K\t5\n", "K\t5\t1\t1\n", "O\t1\t5\n", "O\t1\t5\t3\t3\n",
+        "A\n", "A\t1\n", "A\t1\t100\t5\n", "D\n", "D\t1\t100\n", "K\t5\n", "K\t5\t1\t1\n", "O\t1\t5\n", "O\t1\t5\t3\t3\n",
         "X\t1\t5\t\n", "X\t1\t\t5\n", "X\t1\t\n", "Z\t\n", "X 1 5\n", "X1\t5\n", "X\t1\t5\r\n", "Z\r\n", "Z \n",
         /* numbers */
         "X\t01\t5\n", "X\t1\t00\n", "X\t1\t-0\n", "X\t1\t-01\n", "X\t1\t-\n", "X\t1\t--1\n", "X\t1\t1-\n", "X\t1\t+5\n",
@@ -414,8 +443,8 @@ static void wrong_forms(void)
         /* an LF inside */
         "Z\nZ\n", "Z\n\n", "\nZ\n", "X\t1\n\t5\n", "X\t1\n5\n", "X\t1\t5\n\n",
         /* a wrong form goes before a number out of range */
-        "X\t17\t01\n", "X\t01\t18446744073709551616\n", "R\t17\t233\t13\n", "K\t0\t01\n", "O\t17\t5\t\n",
-        "N\t17\t0\t0\t0\t0\t0\t0\t0\t0\t0\t0\n"};
+        "X\t17\t01\n", "X\t01\t18446744073709551616\n", "R\t17\t233\t13\n", "A\t17\n", "A\t0\t01\n", "D\t17\t0\n",
+        "K\t0\t01\n", "O\t17\t5\t\n", "N\t17\t0\t0\t0\t0\t0\t0\t0\t0\t0\t0\n"};
     const uint8_t nul[] = {'X', '\t', '1', '\t', '5', 0, '\n'};
     uint8_t letter[] = {0, '\n'};
     size_t i;
@@ -456,6 +485,9 @@ static void bad_numbers(void)
         "R\t1\t169\t18446744073709551616\t0\n", "R\t1\t169\t-1\t0\n", "R\t1\t19\t2147483648\t0\n", "R\t1\t19\t4294967296\t0\n",
         "R\t1\t218\t-2147483649\t0\n", "R\t1\t26\t18446744073709551615\t1\n", "R\t1\t31\t13\t2\n", "R\t1\t31\t13\t-1\n",
         "R\t1\t31\t13\t4294967297\n",
+        "A\t0\t100\n", "A\t17\t100\n", "A\t-1\t100\n", "A\t4294967297\t100\n", "A\t1\t0\n", "A\t1\t-1\n",
+        "A\t1\t18446744073709551616\n", "A\t1\t18446744073709551716\n", "A\t1\t123456789012345678901234567890\n",
+        "D\t0\n", "D\t17\n", "D\t-1\n", "D\t4294967297\n", "D\t123456789012345678901234567890\n",
         "K\t0\t1\n", "K\t4096\t1\n", "K\t-5\t1\n", "K\t4294967301\t1\n", "K\t18446744073709551621\t1\n", "K\t5\t0\n",
         "K\t5\t4096\n", "K\t5\t-1\n",
         "O\t0\t5\t3\n", "O\t17\t5\t3\n", "O\t-1\t5\t3\n", "O\t4294967297\t5\t3\n", "O\t1\t18446744073709551616\t3\n",

@@ -93,6 +93,14 @@ int32_t weir_call(uint8_t *d, size_t length, uint32_t thread, uint64_t env, uint
 int32_t weir_return(uint8_t *d, size_t length, uint32_t thread, uint32_t function, uint64_t result, int32_t status,
                     uint32_t pending);
 
+/* A: a thread that starts in C attaches itself. That nothing is open on it, and that it has had no other env, is for the
+ * judge to look at.
+ */
+int32_t weir_attach(uint8_t *d, size_t length, uint32_t thread, uint64_t env);
+
+/* D: it detaches itself. That it is attached, and no call of its is open, is for the judge to look at. */
+int32_t weir_detach(uint8_t *d, size_t length, uint32_t thread);
+
 /* K: declares a class.
  *
  *   class_number  1 to 4095. That it is not declared yet, nor 1 to 4, is for the judge to look at.
@@ -135,6 +143,8 @@ int32_t weir_end(uint8_t *d, size_t length);
  *   'X'     2        thread, result
  *   'C'     7        thread, env, function, a, b, c, n
  *   'R'     4        thread, function, result or status, pending
+ *   'A'     2        thread, env
+ *   'D'     1        thread
  *   'K'     2        class, super
  *   'O'     3        thread, handle, class
  *   'Z'     0

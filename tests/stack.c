@@ -24,15 +24,18 @@
 
 #include "weir.h"
 
-enum { ENTER, LEAVE, CALL, RETURN, DECLARE, STATE, END, READ, FUNCTIONS, PROBE = FUNCTIONS, PROBE_OF_NINE, CALLEES };
+enum {
+    ENTER, LEAVE, CALL, RETURN, ATTACH, DETACH, DECLARE, STATE, END, READ, FUNCTIONS,
+    PROBE = FUNCTIONS, PROBE_OF_NINE, CALLEES
+};
 
 /* The bounds: the deepest byte, rounded up to a multiple of 16, and 16 more. */
 static const struct {
     const char *name;
     size_t bound;
 } functions[FUNCTIONS] = {
-    {"weir_enter", 272}, {"weir_leave", 336}, {"weir_call", 384}, {"weir_return", 384},
-    {"weir_declare", 336}, {"weir_state", 352}, {"weir_end", 336}, {"weir_read", 272},
+    {"weir_enter", 272}, {"weir_leave", 336}, {"weir_call", 384}, {"weir_return", 384}, {"weir_attach", 336},
+    {"weir_detach", 336}, {"weir_declare", 336}, {"weir_state", 352}, {"weir_end", 336}, {"weir_read", 272},
 };
 
 /* ---- what went wrong, said once the threads have ended */
@@ -110,14 +113,16 @@ static volatile struct {
     int32_t (*leave)(uint8_t *, size_t, uint32_t, uint64_t);
     int32_t (*call)(uint8_t *, size_t, uint32_t, uint64_t, uint32_t, uint64_t, uint64_t, uint64_t, int32_t);
     int32_t (*give)(uint8_t *, size_t, uint32_t, uint32_t, uint64_t, int32_t, uint32_t);
+    int32_t (*attach)(uint8_t *, size_t, uint32_t, uint64_t);
+    int32_t (*detach)(uint8_t *, size_t, uint32_t);
     int32_t (*declare)(uint8_t *, size_t, uint32_t, uint32_t);
     int32_t (*state)(uint8_t *, size_t, uint32_t, uint64_t, uint32_t);
     int32_t (*end)(uint8_t *, size_t);
     int32_t (*read)(const uint8_t *, size_t, uint64_t *, uint32_t *);
     int32_t (*probe)(void);
     int32_t (*probe_of_nine)(int, int, int, int, int, int, int, int, int);
-} weir = {weir_enter, weir_leave, weir_call, weir_return, weir_declare, weir_state, weir_end, weir_read, weir_probe,
-          weir_probe_of_nine};
+} weir = {weir_enter, weir_leave, weir_call, weir_return, weir_attach, weir_detach, weir_declare, weir_state, weir_end,
+          weir_read, weir_probe, weir_probe_of_nine};
 
 /* The deepest byte that the call of `now` leaves unlike the paint. Nothing else is called from here. */
 __attribute__((noinline)) static size_t depth(void)
@@ -137,6 +142,8 @@ __attribute__((noinline)) static size_t depth(void)
     case LEAVE: reply = weir.leave(d, now.length, now.thread, now.result); break;
     case CALL: reply = weir.call(d, now.length, now.thread, now.env, now.function, now.a, now.b, now.c, now.n); break;
     case RETURN: reply = weir.give(d, now.length, now.thread, now.function, now.result, now.status, now.pending); break;
+    case ATTACH: reply = weir.attach(d, now.length, now.thread, now.env); break;
+    case DETACH: reply = weir.detach(d, now.length, now.thread); break;
     case DECLARE: reply = weir.declare(d, now.length, now.class_number, now.super_number); break;
     case STATE: reply = weir.state(d, now.length, now.thread, now.handle, now.class_number); break;
     case END: reply = weir.end(d, now.length); break;
@@ -264,6 +271,23 @@ static int32_t measure_return(size_t length, uint32_t thread, uint32_t function,
     return measure();
 }
 
+static int32_t measure_attach(size_t length, uint32_t thread, uint64_t env)
+{
+    now.callee = ATTACH;
+    now.length = length;
+    now.thread = thread;
+    now.env = env;
+    return measure();
+}
+
+static int32_t measure_detach(size_t length, uint32_t thread)
+{
+    now.callee = DETACH;
+    now.length = length;
+    now.thread = thread;
+    return measure();
+}
+
 static int32_t measure_declare(size_t length, uint32_t class_number, uint32_t super_number)
 {
     now.callee = DECLARE;
@@ -315,6 +339,8 @@ static void inputs_of_every_length(void)
                "R with the highest buffer is written where it has room");
         expect((measure_return(length, 16, 218, 0, LOWEST, 1) > 0) == (length >= 23),
                "R with the lowest status is written where it has room");
+        expect((measure_attach(length, 16, HIGHEST) > 0) == (length >= 26), "the longest A is written where it has room");
+        expect((measure_detach(length, 16) > 0) == (length >= 5), "the longest D is written where it has room");
         expect((measure_declare(length, 4095, 4095) > 0) == (length >= 12), "the longest K is written where it has room");
         expect((measure_state(length, 16, HIGHEST, 4095) > 0) == (length >= 31), "the longest O is written where it has room");
         expect((measure_end(length) > 0) == (length >= 2), "Z is written where it has room");
@@ -326,6 +352,7 @@ static void inputs_of_every_length(void)
         measure_enter(WEIR_LINE, 1, x, 0, handles);
         measure_call(WEIR_LINE, 1, x, 104, x, x, x, 0);
         measure_return(WEIR_LINE, 1, 169, x, 0, 0);
+        measure_attach(WEIR_LINE, 1, x);
         measure_state(WEIR_LINE, 1, x, 1);
     }
     for (i = 0, x = 1; i < 10; i++, x *= 10) {
@@ -350,6 +377,8 @@ static void bad_inputs(size_t length)
         expect(measure_leave(length, bad_threads[i], HIGHEST) == WEIR_BAD, "X of a bad thread is bad");
         expect(measure_call(length, bad_threads[i], HIGHEST, 6, 0, 0, 0, 0) == WEIR_BAD, "C of a bad thread is bad");
         expect(measure_return(length, bad_threads[i], 6, 0, 0, 0) == WEIR_BAD, "R of a bad thread is bad");
+        expect(measure_attach(length, bad_threads[i], HIGHEST) == WEIR_BAD, "A of a bad thread is bad");
+        expect(measure_detach(length, bad_threads[i]) == WEIR_BAD, "D of a bad thread is bad");
         expect(measure_state(length, bad_threads[i], HIGHEST, 4095) == WEIR_BAD, "O of a bad thread is bad");
     }
     for (i = 0; i < COUNT(bad_classes); i++) {
@@ -359,6 +388,7 @@ static void bad_inputs(size_t length)
     }
     expect(measure_enter(length, 16, 0, 8, highest) == WEIR_BAD, "N of env 0 is bad");
     expect(measure_call(length, 16, 0, 6, 0, 0, 0, 0) == WEIR_BAD, "C of env 0 is bad");
+    expect(measure_attach(length, 16, 0) == WEIR_BAD, "A of env 0 is bad");
     expect(measure_enter(length, 16, HIGHEST, 9, highest) == WEIR_BAD, "N of nine handles is bad");
     expect(measure_enter(length, 16, HIGHEST, 4294967295u, highest) == WEIR_BAD, "N of the most handles is bad");
     for (count = 0; count < WEIR_HANDLES; count++)
@@ -403,7 +433,7 @@ static void inputs_of_every_function(void)
 
 /* ---- inputs of the reader */
 
-static const char *const letters[] = {"N", "X", "C", "R", "K", "O", "Z"};
+static const char *const letters[] = {"N", "X", "C", "R", "A", "D", "K", "O", "Z"};
 
 /* each kind of line at its longest */
 static const char *const longest[] = {
@@ -416,6 +446,8 @@ static const char *const longest[] = {
     "R\t16\t169\t18446744073709551615\t1\n",
     "R\t16\t218\t-2147483648\t1\n",
     "R\t16\t218\t2147483647\t1\n",
+    "A\t16\t18446744073709551615\n",
+    "D\t16\n",
     "K\t4095\t4095\n",
     "O\t16\t18446744073709551615\t4095\n",
     "Z\n"};
@@ -506,7 +538,7 @@ static void longest_and_like_them(void)
  * length up to two over the most */
 static void fillings(void)
 {
-    static const char *const starts[] = {"", "N\t", "X\t", "C\t", "R\t", "K\t", "O\t", "Z\t"};
+    static const char *const starts[] = {"", "N\t", "X\t", "C\t", "R\t", "A\t", "D\t", "K\t", "O\t", "Z\t"};
     static const char *const patterns[] = {"\t", "-", "0", "9", "1234567890", "\t0", "\t9", "\t-", "\t-1", "\t18446744073709551615"};
     size_t i, k, length;
     int byte;
@@ -542,6 +574,8 @@ static void fields(void)
         {"C", "16", "18446744073709551615", "26", "0", "0", "0", "-5"},
         {"R", "16", "31", "13", "0"},
         {"R", "16", "26", "-1", "1"},
+        {"A", "16", "18446744073709551615"},
+        {"D", "16"},
         {"K", "4095", "4095"},
         {"O", "16", "18446744073709551615", "4095"},
         {"Z"}};
@@ -712,7 +746,7 @@ static void print_input(const struct input *input)
     printf("length %lu", (unsigned long)input->length);
     if (input->callee != DECLARE && input->callee != END)
         printf(", thread %u", input->thread);
-    if (input->callee == ENTER || input->callee == CALL)
+    if (input->callee == ENTER || input->callee == CALL || input->callee == ATTACH)
         printf(", env %" PRIu64, input->env);
     if (input->callee == CALL || input->callee == RETURN)
         printf(", function %u", input->function);

@@ -79,6 +79,8 @@ fn put_event(e: Event, h: &[Handle; 8]) {
             put_signed(status);
             put_number(pending as Handle);
         }
+        Event::Attach { thread, env } => put_numbers(b" A", &[thread as Handle, env]),
+        Event::Detach { thread } => put_numbers(b" D", &[thread as Handle]),
         Event::Declare { class, superclass } => put_numbers(
             b" K",
             &[class as Handle, superclass as Handle],

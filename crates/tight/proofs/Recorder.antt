@@ -15,6 +15,12 @@ weir-call-tight κs args = (tt, by-reply-and-slice)
 pub weir-return-tight : Tight recorder.weir_return.ended recorder.weir_return.Reads.Asked recorder.weir_return.Reads.Learnt
 weir-return-tight κs args = (tt, by-reply-and-slice)
 
+pub weir-attach-tight : Tight recorder.weir_attach.ended recorder.weir_attach.Reads.Asked recorder.weir_attach.Reads.Learnt
+weir-attach-tight κs args = (tt, by-reply-and-slice)
+
+pub weir-detach-tight : Tight recorder.weir_detach.ended recorder.weir_detach.Reads.Asked recorder.weir_detach.Reads.Learnt
+weir-detach-tight κs args = (tt, by-reply-and-slice)
+
 pub weir-declare-tight : Tight recorder.weir_declare.ended recorder.weir_declare.Reads.Asked recorder.weir_declare.Reads.Learnt
 weir-declare-tight κs args = (tt, by-reply-and-slice)
 
