@@ -5,13 +5,16 @@ use lib.Dec.{eqb}
 use Rattle.words.specs.Choice.{if_then_else_}
 use Rattle.facts.specs.Named.{PopLocalFrame}
 use Rattle.book.specs.Moves.{native-left, frame-popped, line-counted}
-use Rattle.tables.specs.Acting.{native-entered}
+use Rattle.tables.specs.Acting.{native-entered, detached}
 
 unfoldable pub entered-book : List ℕ → ℕ → ℕ → List ℕ → List ℕ
 entered-book b t env hs = line-counted (native-entered b t env hs)
 
 unfoldable pub left-book : List ℕ → ℕ → List ℕ
 left-book b t = line-counted (native-left b t)
+
+unfoldable pub detached-book : List ℕ → ℕ → List ℕ
+detached-book b t = line-counted (detached b t)
 
 -- C of 20 ends the top frame, if it was pushed
 unfoldable pub popped : List ℕ → ℕ → ℕ → List ℕ

@@ -1,6 +1,7 @@
 // What an accepted line does to the lent tables, all but the open items.
 pub mod call;
 pub mod declare;
+pub mod detach;
 pub mod end;
 pub mod enter;
 pub mod leave;

@@ -3,14 +3,13 @@ use Prim.Native.Nat.{ℕ, _-_, _≤_}
 use mathlib.Core.Bool.{Bool, false}
 use mathlib.Core.List.{List, [], _∷_}
 use mathlib.Core.Path.{_≡_}
-use lib.Dec.{eqb}
 use lib.ListN.{length, drop}
 use Rattle.history.specs.Items.{Item}
 use Rattle.history.specs.Frames.{Frame}
 use Rattle.history.specs.Capacities.{raised}
 use Rattle.history.specs.Acceptance.{deepest}
 use Rattle.book.specs.Layout.{frames-at, items-at, cell}
-use Rattle.book.specs.Threads.{Row, Thread, thread-in, no-function, item-is, items-in, lines-in, closed-in}
+use Rattle.book.specs.Threads.{Row, Thread, thread-in, marked-function, item-is, items-in, lines-in, closed-in}
 use Rattle.book.specs.Unfit.{overdone-in}
 
 -- ---- a thread after each move
@@ -50,9 +49,9 @@ unfoldable pub with-env : ℕ → Thread → Thread
 with-env v x =
     record { frames = x .frames; capacities = x .capacities; pending = x .pending; monitors = x .monitors; env = v }
 
--- an item more: a native where there is no function
+-- an item more, by its function
 unfoldable pub pushed-item : ℕ → ℕ → Item
-pushed-item f n = item-is (eqb f no-function) f n
+pushed-item f n = item-is (marked-function f) f n
 
 -- nothing changes here
 abbrev pub stay {ℓ} : {A : Type ℓ} → A → A

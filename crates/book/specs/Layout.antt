@@ -43,7 +43,7 @@ pushed-at i = 70 + i
 abbrev pub items-at : ℕ
 items-at = 134
 
--- a mark for each that is a native, the lowest item's the lowest bit; of each item, lowest first, its function, and what was asked of it
+-- a mark for each that is a native or attached, the lowest item's the lowest bit; of each item, lowest first, its function, and what was asked of it
 abbrev pub natives-at : ℕ
 natives-at = 135
 

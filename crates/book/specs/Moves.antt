@@ -12,7 +12,7 @@ use Rattle.history.specs.Acceptance.{deepest}
 use Rattle.history.specs.Replies.{most-lines}
 use Rattle.rows.specs.Marks.{word}
 use Rattle.book.specs.Layout.{lines-at, closed-at, env-at, pending-at, monitors-at, frames-at, capacity-at, pushed-at, items-at, natives-at, function-at, asked-at, cell, Write, into, wrote}
-use Rattle.book.specs.Threads.{Thread, thread-in, top-capacity, no-function, items-in, lines-in}
+use Rattle.book.specs.Threads.{Thread, thread-in, top-capacity, marked-function, items-in, lines-in}
 
 -- ---- frames
 
@@ -33,6 +33,10 @@ leave-native x = into frames-at (length (without-native (x .frames))) ∷ []
 
 unfoldable pub native-left : List ℕ → ℕ → List ℕ
 native-left b t = wrote b t (leave-native (thread-in b t))
+
+-- D: without any frame
+unfoldable pub frames-ended : List ℕ → ℕ → List ℕ
+frames-ended b t = wrote b t (into frames-at 0 ∷ [])
 
 -- C of 20: without the top frame, if it was pushed
 unfoldable pub pop-frame : Thread → List Write
@@ -61,7 +65,7 @@ unfoldable pub push-item : List Item → ℕ → ℕ → ℕ → List Write
 push-item is w f n =
     if ltb (length is) deepest then
     into (function-at (length is)) f
-    ∷ into (asked-at (length is)) n ∷ into items-at (length is + 1) ∷ into natives-at (with-mark w (length is) (eqb f no-function)) ∷ []
+    ∷ into (asked-at (length is)) n ∷ into items-at (length is + 1) ∷ into natives-at (with-mark w (length is) (marked-function f)) ∷ []
     else []
 
 unfoldable pub item-pushed : List ℕ → ℕ → ℕ → ℕ → List ℕ
@@ -89,6 +93,10 @@ monitor-added b t = wrote b t (into monitors-at (min (thread-in b t .monitors) m
 -- one fewer, if there is any
 unfoldable pub monitor-taken : List ℕ → ℕ → List ℕ
 monitor-taken b t = wrote b t (into monitors-at (pred (thread-in b t .monitors)) ∷ [])
+
+-- D: none
+unfoldable pub monitors-dropped : List ℕ → ℕ → List ℕ
+monitors-dropped b t = wrote b t (into monitors-at 0 ∷ [])
 
 -- ---- the trace
 

@@ -1,12 +1,12 @@
 -- What the book stands for: each thread and its open items, and the trace's own numbers. Assumes nothing.
 use Prim.Native.Nat.{ℕ, zero, suc, _%_, min}
-use mathlib.Core.Bool.{Bool, true, false, not, _&&_}
+use mathlib.Core.Bool.{Bool, true, false, not, _&&_, _||_}
 use mathlib.Core.List.{List, [], _∷_}
 use mathlib.Core.Option.{Option, none, some}
 use lib.Dec.{eqb}
 use Rattle.words.specs.Choice.{if_then_else_}
 use Rattle.words.specs.Lists.{any, count, sum}
-use Rattle.history.specs.Items.{Item, in-native, in-call, is-native}
+use Rattle.history.specs.Items.{Item, in-native, in-call, attached, native-or-attached}
 use Rattle.history.specs.Frames.{Frame, entered, pushed}
 use Rattle.history.specs.Acceptance.{deepest}
 use Rattle.history.specs.Replies.{most-lines}
@@ -71,16 +71,26 @@ top-capacity (k ∷ ks) = k
 unfoldable pub opened : Row → ℕ
 opened c = min (c items-at) deepest
 
--- the function of a native, to push one
+-- the function of a native, and of an attached item, to push one: no JNI function has these numbers
 abbrev pub no-function : ℕ
 no-function = 0
+
+abbrev pub attached-function : ℕ
+attached-function = 1
+
+-- an item of such a function is marked
+abbrev pub marked-function : ℕ → Bool
+marked-function f = eqb f no-function || eqb f attached-function
 
 -- a call's two numbers are read as unsigned 32-bit ones
 abbrev pub item-bound : ℕ
 item-bound = 4294967296
 
+-- of the items that are marked that of function 1 is attached, any other a native
 unfoldable pub item-is : Bool → ℕ → ℕ → Item
-item-is native f n = if native then in-native else in-call (f % item-bound) (n % item-bound)
+item-is marked f n =
+    if marked then (if eqb f attached-function then attached else in-native)
+    else in-call (f % item-bound) (n % item-bound)
 
 unfoldable pub items-of : Row → List Item
 items-of c = stack (λ i. item-is (bit (c natives-at) i) (c (function-at i)) (c (asked-at i))) (opened c)
@@ -89,14 +99,15 @@ items-of c = stack (λ i. item-is (bit (c natives-at) i) (c (function-at i)) (c 
 unfoldable pub items-in : List ℕ → ℕ → List Item
 items-in b t = items-of (cell b t)
 
--- how many of them are natives
+-- how many of them are natives, attached items counted as such
 abbrev pub natives : List Item → ℕ
-natives is = count (λ (i : Item). is-native (some i)) is
+natives is = count (λ (i : Item). native-or-attached (some i)) is
 
 -- the top item as the code has it
 unfoldable pub top-is : Top → Option Item
 top-is Top.Nothing = none
 top-is Top.Native = some in-native
+top-is Top.Attached = some attached
 top-is (Top.Call f n) = some (in-call f n)
 
 -- ---- the trace

@@ -14,8 +14,8 @@ ghost use Rattle.history.specs.Acceptance.{deepest};
 ghost use Rattle.rows.specs.Scan.{how-many};
 ghost use Rattle.rows.specs.Marks.{bit};
 ghost use Rattle.book.specs.Layout.{width, whole, natives-at, cell, put};
-ghost use Rattle.book.specs.Threads.{thread-in, is-pushed, top-capacity, item-is, items-in, top-is, lines-in, closed-in, env-elsewhere, all-monitors};
-ghost use Rattle.book.specs.Moves.{frame-pushed, native-left, frame-popped, capacity-raised, with-mark, item-pushed, item-popped, env-set, pending-set, monitor-added, monitor-taken, line-counted, closed-set, cleared};
+ghost use Rattle.book.specs.Threads.{thread-in, is-pushed, top-capacity, marked-function, item-is, items-in, top-is, lines-in, closed-in, env-elsewhere, all-monitors};
+ghost use Rattle.book.specs.Moves.{frame-pushed, native-left, frames-ended, frame-popped, capacity-raised, with-mark, item-pushed, item-popped, env-set, pending-set, monitor-added, monitor-taken, monitors-dropped, line-counted, closed-set, cleared};
 ghost use Rattle.book.specs.Turns.{By-turns};
 ghost use Rattle.book.specs.Unfit.{overdone, overdone-in, unfit};
 
@@ -23,6 +23,7 @@ ghost use Rattle.book.specs.Unfit.{overdone, overdone-in, unfit};
 pub enum Top {
     Nothing,
     Native,
+    Attached,
     Call(u32, u32),
 }
 
@@ -68,8 +69,10 @@ const ITEM_BOUND: u64 = 4294967296;
 // The marks of every second item: lines open natives and calls by turns, and these are the calls' places.
 const AT_CALLS: u64 = 12297829382473034410;
 
-// The function of a native, to push one.
+// The function of a native, and of an attached item, to push one.
 pub const NO_FUNCTION: u32 = 0;
+
+pub const ATTACHED_FUNCTION: u32 = 1;
 
 // ---- numbers
 
@@ -195,6 +198,13 @@ pub fn take_monitor(book: &mut [u64], t: u32)
     store(book, t, MONITORS, m);
 }
 
+// D: none is left.
+pub fn drop_monitors(book: &mut [u64], t: u32)
+    ensures { λ _. ⌜ now (book .exit) ≡ monitors-dropped (now (book .entry)) t ⌝ }
+{
+    store(book, t, MONITORS, 0);
+}
+
 // ---- its frames
 
 pub fn frames_of(book: &[u64], t: u32) -> u32
@@ -268,6 +278,13 @@ pub fn leave_native(book: &mut [u64], t: u32)
     store(book, t, FRAMES, d as u64);
 }
 
+// D: all frames end.
+pub fn end_frames(book: &mut [u64], t: u32)
+    ensures { λ _. ⌜ now (book .exit) ≡ frames-ended (now (book .entry)) t ⌝ }
+{
+    store(book, t, FRAMES, 0);
+}
+
 // C of 20: the top frame ends, if it was pushed.
 pub fn pop_frame(book: &mut [u64], t: u32)
     ensures { λ _. ⌜ now (book .exit) ≡ frame-popped (now (book .entry)) t ⌝ }
@@ -297,7 +314,7 @@ pub fn items_of(book: &[u64], t: u32) -> u32
     lesser(number(book, t, ITEMS), DEEPEST) as u32
 }
 
-// Item i is a native.
+// Item i is a native, or attached.
 fn is_marked(marks: u64, i: u32) -> bool
     requires { ⌜ i < deepest ⌝ }
     ensures { λ r. ⌜ r ≡ bit marks i ⌝ }
@@ -305,10 +322,13 @@ fn is_marked(marks: u64, i: u32) -> bool
     (marks >> i) % 2 == 1
 }
 
-fn item_is(native: bool, f: u64, n: u64) -> Top
-    ensures { λ r. ⌜ top-is r ≡ some (item-is native f n) ⌝ }
+fn item_is(marked: bool, f: u64, n: u64) -> Top
+    ensures { λ r. ⌜ top-is r ≡ some (item-is marked f n) ⌝ }
 {
-    if native {
+    if marked {
+        if f == ATTACHED_FUNCTION as u64 {
+            return Top::Attached;
+        }
         return Top::Native;
     }
     Top::Call((f % ITEM_BOUND) as u32, (n % ITEM_BOUND) as u32)
@@ -326,6 +346,13 @@ pub fn top_item(book: &[u64], t: u32) -> Top
         number(book, t, FUNCTIONS + (d - 1) as usize),
         number(book, t, ASKED + (d - 1) as usize),
     )
+}
+
+// An item of this function is marked.
+fn marked_function(f: u32) -> bool
+    ensures { λ r. ⌜ r ≡ marked-function f ⌝ }
+{
+    (f == NO_FUNCTION) | (f == ATTACHED_FUNCTION)
 }
 
 // The marks with item i's set, or cleared.
@@ -347,7 +374,7 @@ pub fn push_item(book: &mut [u64], t: u32, f: u32, n: u32)
     if DEEPEST as u32 <= d {
         return;
     }
-    let marks = with_mark(number(book, t, NATIVES), d, f == NO_FUNCTION);
+    let marks = with_mark(number(book, t, NATIVES), d, marked_function(f));
     store(book, t, FUNCTIONS + d as usize, f as u64);
     store(book, t, ASKED + d as usize, n as u64);
     store(book, t, ITEMS, d as u64 + 1);

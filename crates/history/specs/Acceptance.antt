@@ -7,9 +7,9 @@ use lib.Dec.{eqb, leb, ltb}
 use lib.ListN.{length}
 use Rattle.words.specs.Choice.{if_then_else_}
 use Rattle.words.specs.Lists.{any}
-use Rattle.lines.specs.Line.{Line, if-N_then_else_, if-X_then_else_, if-C_then_else_, if-R_then_else_, if-K_then_else_, if-O_then_else_}
+use Rattle.lines.specs.Line.{Line, if-opens_then_else_, if-N_then_else_, if-X_then_else_, if-C_then_else_, if-R_then_else_, if-A_then_else_, if-D_then_else_, if-K_then_else_, if-O_then_else_}
 use Rattle.history.specs.Past.{History, thread-of, closed}
-use Rattle.history.specs.Items.{Item, items, top-of, is-empty, is-native, is-call, is-call-of}
+use Rattle.history.specs.Items.{Item, items, top-of, is-empty, is-native, is-attached, native-or-attached, is-call, is-call-of}
 use Rattle.history.specs.Handles.{Alive, makes, same-handle}
 use Rattle.history.specs.Thread.{all-threads}
 use Rattle.history.specs.Classes.{is-known}
@@ -17,23 +17,26 @@ use Rattle.history.specs.Seen.{Seen, seen, is-alive, handle-alive}
 
 -- ---- 4: out of step
 
--- N is allowed when the stack is empty or its top is an open call; C and X when the top is a native; R when the top is an open call of the same function.
--- Statements are in step anywhere. Nothing is allowed after Z.
+-- N is allowed when the stack is empty or its top is an open call; X when the top is a native, C also when it is an attached item; R when the top is
+-- an open call of the same function; A when the stack is empty, D when the top is an attached item. Statements are in step anywhere. Nothing is
+-- allowed after Z.
 unfoldable pub in-step : Line → Option Item → Bool → Bool
 in-step e top over =
     not over
     && (if-N e then (λ t env hs. is-empty top || is-call top)
     else if-X e then (λ t r. is-native top)
-    else if-C e then (λ t env f a b c n. is-native top)
+    else if-C e then (λ t env f a b c n. native-or-attached top)
     else if-R e then (λ t f r p. is-call-of f top)
+    else if-A e then (λ t env. is-empty top)
+    else if-D e then (λ t. is-attached top)
     else true)
 
--- ---- 5: N's env breaks the env rule
+-- ---- 5: the env of N or A breaks the env rule
 
--- a thread's env is that of its first N; no two threads share one
+-- a thread's env is that of its first N or A; no two threads share one
 unfoldable pub env-right : Line → Seen → Bool
 env-right e v =
-    if-N e then
+    if-opens e then
     (λ t env hs.
     (eqb (v .env t) 0 || eqb (v .env t) env) && not (any (λ (s : ℕ). not (eqb s t) && eqb (v .env s) env) all-threads))
     else true
@@ -84,10 +87,10 @@ has-room room t after =
     && leb (after .buffers everything) (room .pins)
     && leb (length (after .frames t)) deepest
 
--- only N and C open an item; before the line `n` are open
+-- only N, A and C open an item; before the line `n` are open
 abbrev pub has-item-room : Line → ℕ → Bool
 has-item-room e n =
-    if-N e then (λ t env hs. ltb n deepest)
+    if-opens e then (λ t env hs. ltb n deepest)
     else if-C e then (λ t env f a b c m. ltb n deepest)
     else true
 

@@ -12,7 +12,7 @@ use Rattle.facts.specs.Results.{is-local-result, is-handle-place, is-buffer-pla
 use Rattle.facts.specs.Classes.{no-class, class-a, class-b}
 use Rattle.facts.specs.declared.Place.{Place}
 use Rattle.facts.specs.declared.Place.the-variants as Place
-use Rattle.lines.specs.Line.{Line, if-X_then_else_, if-C_then_else_, if-R_then_else_, if-Z_then_else_, kind, above-zero}
+use Rattle.lines.specs.Line.{Line, if-X_then_else_, if-C_then_else_, if-R_then_else_, if-D_then_else_, if-Z_then_else_, kind, above-zero}
 use Rattle.history.specs.Past.{thread-of}
 use Rattle.history.specs.Frames.{top-pushed}
 use Rattle.history.specs.Handles.{in-frame, global-or-weak}
@@ -135,12 +135,20 @@ end-rule v rule =
     else if eqb rule 10 then some-of (v .handles global-or-weak)
     else none
 
+-- on D: 3 as on X; 9 with monitors of the thread
+unfoldable pub detach-rule : ℕ → Seen → ℕ → Option ℕ
+detach-rule t v rule =
+    if eqb rule 3 then when (in-critical t v) 0
+    else if eqb rule 9 then some-of (v .monitors t)
+    else none
+
 -- On X: 3 with a critical buffer of that thread outstanding. On R: 11 for overflow
 unfoldable pub line-rule : Line → Seen → ℕ → Option ℕ
 line-rule e v rule =
     if-C e then (λ t env f a b c n. call-rule t env f v rule)
     else if-X e then (λ t r. when (eqb rule 3 && in-critical t v) 0)
     else if-R e then (λ t f r p. when (eqb rule 11 && overflows t f (above-zero r) v) (above-zero r))
+    else if-D e then (λ t. detach-rule t v rule)
     else if-Z e then end-rule v rule
     else none
 

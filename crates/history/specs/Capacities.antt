@@ -6,13 +6,13 @@ use lib.Dec.{eqb}
 use lib.ListN.{length, drop}
 use Rattle.words.specs.Choice.{if_then_else_}
 use Rattle.facts.specs.Named.{PushLocalFrame, EnsureLocalCapacity}
-use Rattle.lines.specs.Line.{Line, if-N_then_else_, if-R_then_else_, is-zero}
+use Rattle.lines.specs.Line.{Line, if-opens_then_else_, if-R_then_else_, is-zero}
 use Rattle.history.specs.Past.{History, is-of}
 use Rattle.history.specs.Items.{items, top-of, asked}
 use Rattle.history.specs.Frames.{depth}
 use Rattle.history.specs.Handles.{alive-in}
 
--- N opens a frame of capacity 16 plus the number of its handles
+-- N opens a frame of capacity 16 plus the number of its handles; A, which has none, one of 16
 abbrev pub native-capacity : List ℕ → ℕ
 native-capacity hs = 16 + length hs
 
@@ -31,7 +31,7 @@ pub record Finds : Type 0 where
 -- A frame that goes takes its capacity with it.
 abbrev pub capacities-after : Line → Finds → List ℕ → List ℕ
 capacities-after e x cs =
-    if-N e then (λ t env hs. native-capacity hs ∷ cs)
+    if-opens e then (λ t env hs. native-capacity hs ∷ cs)
     else if-R e then
     (λ t f r p.
     if not (is-zero r) then cs

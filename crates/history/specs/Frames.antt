@@ -1,4 +1,4 @@
--- The frames of a thread: one for each open native, and those pushed in it. Assumes nothing.
+-- The frames of a thread: one for each open native or attached item, and those pushed in it. Assumes nothing.
 use Prim.Native.Nat.{ℕ}
 use mathlib.Core.Bool.{Bool, true, false, _&&_}
 use mathlib.Core.List.{List, [], _∷_}
@@ -6,7 +6,7 @@ use lib.Dec.{eqb}
 use lib.ListN.{length}
 use Rattle.words.specs.Choice.{if_then_else_}
 use Rattle.facts.specs.Named.{PushLocalFrame, PopLocalFrame}
-use Rattle.lines.specs.Line.{Line, if-N_then_else_, if-X_then_else_, if-C_then_else_, if-R_then_else_, is-zero}
+use Rattle.lines.specs.Line.{Line, if-opens_then_else_, if-X_then_else_, if-C_then_else_, if-R_then_else_, if-D_then_else_, is-zero}
 use Rattle.history.specs.Past.{History, through}
 
 pub data Frame : Type 0 where
@@ -24,13 +24,14 @@ without-pushed [] = []
 without-pushed (entered ∷ fs) = entered ∷ fs
 without-pushed (pushed ∷ fs) = fs
 
--- N opens a frame; with status 0, 19 pushes one
+-- N and A open a frame; with status 0, 19 pushes one; D ends the thread's frames
 abbrev pub frames-after : Line → List Frame → List Frame
 frames-after e fs =
-    if-N e then (λ t env hs. entered ∷ fs)
+    if-opens e then (λ t env hs. entered ∷ fs)
     else if-X e then (λ t r. without-native fs)
     else if-C e then (λ t env f a b c n. if eqb f PopLocalFrame then without-pushed fs else fs)
     else if-R e then (λ t f r p. if eqb f PushLocalFrame && is-zero r then pushed ∷ fs else fs)
+    else if-D e then (λ t. [])
     else fs
 
 -- top first

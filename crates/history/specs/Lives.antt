@@ -8,7 +8,7 @@ use lib.ListN.{length}
 use Rattle.facts.specs.Table.{fact-of}
 use Rattle.facts.specs.Named.{PopLocalFrame, DeleteGlobalRef, DeleteLocalRef, DeleteWeakGlobalRef}
 use Rattle.facts.specs.declared.Result.the-variants as Result
-use Rattle.lines.specs.Line.{Line, N, X, C, R, kind}
+use Rattle.lines.specs.Line.{Line, N, X, C, R, D, kind}
 use Rattle.history.specs.Past.{History}
 use Rattle.history.specs.Frames.{Frame, pushed, frames, depth, without-native}
 use Rattle.history.specs.Handles.{Alive, local, shared}
@@ -37,6 +37,8 @@ pub data Ends (past : History) : Line → Alive → Type 0 where
       → Ends past (C t env PopLocalFrame a b c n) (local t (suc (length below)) h)
   -- X ends all locals of that native, those in pushed frames included
   leaves : (t r d h : ℕ) → length (without-native (frames t past)) < d → Ends past (X t r) (local t d h)
+  -- D ends the thread's locals
+  detaches : (t d h : ℕ) → Ends past (D t) (local t d h)
 
 -- no line of `newer`, which came after `older`, ended it
 pub data Spared (x : Alive) (older : History) : History → Type 0 where

@@ -13,7 +13,7 @@ use Rattle.facts.specs.Classes.{no-class, class-a, class-b}
 use Rattle.facts.specs.declared.Place.{Place}
 use Rattle.facts.specs.declared.Place.the-variants as Place
 use Rattle.facts.specs.declared.Result.the-variants as Result
-use Rattle.lines.specs.Line.{Line, X, C, R, Z, kind}
+use Rattle.lines.specs.Line.{Line, X, C, R, D, Z, kind}
 use Rattle.history.specs.Past.{History}
 use Rattle.history.specs.Frames.{frames, depth, top-pushed}
 use Rattle.history.specs.Handles.{Alive, living, alive-in, global-or-weak, shared}
@@ -108,6 +108,10 @@ pub data Broken (past : History) : Line → ℕ → ℕ → ℕ → Type 0 where
   not-pushed : (t env a b c : ℕ) (n : ℤ) → top-pushed (frames t past) ≡ false → Broken past (C t env PopLocalFrame a b c n) 11 0 0
   -- on X: 3 with a critical buffer of that thread outstanding
   left-in-critical : (t v : ℕ) → In-critical t past → Broken past (X t v) 3 0 0
+  -- on D: 3 as on X
+  detached-in-critical : (t : ℕ) → In-critical t past → Broken past (D t) 3 0 0
+  -- and 9, thing the count, if the thread has monitors
+  detached-with-monitors : (t k : ℕ) → k ≡ monitors t past → 0 < k → Broken past (D t) 9 0 k
   -- on R: 11 when the local made leaves more alive in its frame than the capacity; thing is the handle. Judged after the line
   overflow : (t f h p capacity : ℕ) (lower : List ℕ) → fact-of f .result ≡ Result.Local → h ≢ 0
       → capacities t (R t f (pos h) p ∷ past) ≡ capacity ∷ lower

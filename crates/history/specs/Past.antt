@@ -4,7 +4,7 @@ use mathlib.Core.Bool.{Bool, true, false}
 use mathlib.Core.List.{List, [], _∷_}
 use lib.Dec.{eqb}
 use Rattle.words.specs.Choice.{if_then_else_}
-use Rattle.lines.specs.Line.{Line, if-N_then_else_, if-X_then_else_, if-C_then_else_, if-R_then_else_, if-Z_then_else_, if-states_then_else_}
+use Rattle.lines.specs.Line.{Line, if-opens_then_else_, if-X_then_else_, if-C_then_else_, if-R_then_else_, if-D_then_else_, if-Z_then_else_, if-states_then_else_}
 
 abbrev pub History : Type 0
 History = List Line
@@ -12,10 +12,11 @@ History = List Line
 -- the thread whose open items a line is of; Z and statements are of none
 abbrev pub thread-of : Line → ℕ
 thread-of e =
-    if-N e then (λ t env hs. t)
+    if-opens e then (λ t env hs. t)
     else if-X e then (λ t r. t)
     else if-C e then (λ t env f a b c n. t)
     else if-R e then (λ t f r p. t)
+    else if-D e then (λ t. t)
     else 0
 
 abbrev pub is-of : ℕ → Line → Bool

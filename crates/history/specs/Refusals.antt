@@ -5,9 +5,9 @@ use mathlib.Core.Logic.{_≢_}
 use mathlib.Core.List.{List, [], _∷_, List·Memᴰ}
 use lib.IntN.{ℤ}
 use lib.ListN.{length}
-use Rattle.lines.specs.Line.{Line, Statement, N, X, C, R, Z, states, K, O}
+use Rattle.lines.specs.Line.{Line, Statement, N, X, C, R, A, D, Z, states, K, O}
 use Rattle.history.specs.Past.{History}
-use Rattle.history.specs.Items.{Item, in-native, in-call, items}
+use Rattle.history.specs.Items.{Item, in-native, in-call, attached, items}
 use Rattle.history.specs.Frames.{depth}
 use Rattle.history.specs.Handles.{Alive, local, shared, living}
 use Rattle.history.specs.Buffers.{outstanding}
@@ -28,6 +28,11 @@ pub data In-turn (past : History) : Line → Type 0 where
   native-calls : (t env f a b c : ℕ) (n : ℤ) (below : List Item) → items t past ≡ in-native ∷ below → In-turn past (C t env f a b c n)
   -- R when the top is an open call of the same function
   call-returns : (t f n p : ℕ) (r : ℤ) (below : List Item) → items t past ≡ in-call f n ∷ below → In-turn past (R t f r p)
+  -- A when it is empty, D when the attached item is on top
+  thread-attaches : (t env : ℕ) → items t past ≡ [] → In-turn past (A t env)
+  thread-detaches : (t : ℕ) (below : List Item) → items t past ≡ attached ∷ below → In-turn past (D t)
+  -- C is allowed over an attached item as over a native
+  attached-calls : (t env f a b c : ℕ) (n : ℤ) (below : List Item) → items t past ≡ attached ∷ below → In-turn past (C t env f a b c n)
   -- Z may come with items open
   run-ends : In-turn past Z
   -- K and O are in step anywhere before Z
@@ -38,13 +43,18 @@ pub record In-step (past : History) (e : Line) : Type 0 where
   pub before-Z : ¬ List·Memᴰ Z past
   pub turn : In-turn past e
 
--- ---- N's env breaks the env rule
+-- ---- the env of N or A breaks the env rule
+
+-- the line brings the thread an env
+pub data Brings (t env : ℕ) : Line → Type 0 where
+  by-N : (hs : List ℕ) → Brings t env (N t env hs)
+  by-A : Brings t env (A t env)
 
 pub data Wrong-env (past : History) : Line → Type 0 where
-  -- a thread's env is that of its first N
-  another-env : (t env : ℕ) (hs : List ℕ) → env-of t past ≢ 0 → env-of t past ≢ env → Wrong-env past (N t env hs)
+  -- a thread's env is that of its first N or A
+  another-env : (e : Line) (t env : ℕ) → Brings t env e → env-of t past ≢ 0 → env-of t past ≢ env → Wrong-env past e
   -- no two threads share one
-  shared-env : (t env s : ℕ) (hs : List ℕ) → List·Memᴰ s all-threads → s ≢ t → env-of s past ≡ env → Wrong-env past (N t env hs)
+  shared-env : (e : Line) (t env s : ℕ) → Brings t env e → List·Memᴰ s all-threads → s ≢ t → env-of s past ≡ env → Wrong-env past e
 
 -- ---- it makes a handle already alive, or N names one twice
 
@@ -84,7 +94,7 @@ pub data Exceeds (room : Room) (past : History) : Type 0 where
 pub data Given (room : Room) (past : History) (e : Line) : ℕ → Type 0 where
   -- out of step
   four : ¬ In-step past e → Given room past e 4
-  -- N's env breaks the env rule
+  -- the env of N or A breaks the env rule
   five : In-step past e → Wrong-env past e → Given room past e 5
   -- it makes a handle already alive (a local: in that thread), or N names one twice
   six : In-step past e → ¬ Wrong-env past e → Made-again past e → Given room past e 6

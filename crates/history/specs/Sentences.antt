@@ -14,10 +14,10 @@ use Rattle.facts.specs.Table.{_/_, fact-of, is-function, families, family, is-c
 use Rattle.facts.specs.Classes.{object, class, string, throwable, no-class}
 use Rattle.facts.specs.Named.{PushLocalFrame, PopLocalFrame, DeleteGlobalRef, DeleteLocalRef, EnsureLocalCapacity, GetObjectClass, MonitorEnter, MonitorExit, DeleteWeakGlobalRef}
 use Rattle.facts.specs.Results.{is-buffer-result, is-buffer-place}
-use Rattle.lines.specs.Line.{Line, Statement, N, X, C, R, Z, states, K, O, kind, is-zero, above-zero}
+use Rattle.lines.specs.Line.{Line, Statement, N, X, C, R, A, D, Z, states, K, O, kind, is-zero, above-zero}
 use Rattle.lines.specs.Reading.{Read, says, refused, read}
 use Rattle.history.specs.Past.{History, is-of, closed}
-use Rattle.history.specs.Items.{in-native, in-call, items}
+use Rattle.history.specs.Items.{Item, in-native, in-call, attached, items}
 use Rattle.history.specs.Frames.{Frame, entered, pushed, frames, depth}
 use Rattle.history.specs.Handles.{Alive, local, shared, is-local, is-shared, same-handle, global-or-weak, living, alive-in}
 use Rattle.history.specs.Capacities.{capacities}
@@ -41,7 +41,7 @@ use Rattle.history.specs.Order.{Breached, Ordered, most-findings}
 use Rattle.history.specs.Accepted.{Accepted}
 use Rattle.history.specs.Whole.{Whole}
 use Rattle.history.specs.Changes.{Changes-items, Changes-frames, Changes-capacities, Changes-pending, Changes-monitors}
-use Rattle.history.specs.Refusals.{Exceeds, Given}
+use Rattle.history.specs.Refusals.{Brings, Exceeds, Given}
 use Rattle.history.specs.Times.{Gets, Releases, got, released}
 use Rattle.history.specs.Same.{Same-for}
 use Rattle.history.specs.Verdicts.{Weighs}
@@ -118,6 +118,16 @@ pub record On-lines : Type 0 where
   pub enter-alive : (t env : ℕ) (hs : List ℕ) (past : History) → alive-in t (depth t (N t env hs ∷ past)) (N t env hs ∷ past) ≡ length hs
   -- pending becomes 0
   pub enter-pending : (t env : ℕ) (hs : List ℕ) (past : History) → pending t (N t env hs ∷ past) ≡ 0
+  -- A opens an attached item with a frame of capacity 16, and pending becomes 0
+  pub attach-items : (t env : ℕ) (past : History) → items t (A t env ∷ past) ≡ attached ∷ items t past
+  pub attach-frames : (t env : ℕ) (past : History) → frames t (A t env ∷ past) ≡ entered ∷ frames t past
+  pub attach-capacities : (t env : ℕ) (past : History) → capacities t (A t env ∷ past) ≡ 16 ∷ capacities t past
+  pub attach-pending : (t env : ℕ) (past : History) → pending t (A t env ∷ past) ≡ 0
+  -- D ends the thread's locals and frames and closes it; monitors then become 0
+  pub detach-items : (t : ℕ) (past : History) → items t (D t ∷ past) ≡ tail (items t past)
+  pub detach-frames : (t : ℕ) (past : History) → (frames t (D t ∷ past) ≡ []) × (capacities t (D t ∷ past) ≡ [])
+  pub detach-locals : (t d h : ℕ) (past : History) → ¬ Lives (local t d h) (D t ∷ past)
+  pub detach-monitors : (t : ℕ) (past : History) → monitors t (D t ∷ past) ≡ 0
   -- C of 20 ends the top frame, if that frame was pushed
   pub pop-frames : (t env a b c : ℕ) (n : ℤ) (past : History) (below : List Frame) → frames t past ≡ pushed ∷ below
       → frames t (C t env PopLocalFrame a b c n ∷ past) ≡ below
@@ -163,13 +173,21 @@ pub record On-lines : Type 0 where
       → capacities t (X t r ∷ (inside ++ (N t env hs ∷ past))) ≡ capacities t past
   pub nothing-of-it-lives : (t r env d h : ℕ) (hs : List ℕ) (inside past : History) → Whole t inside → 1 ≤ d
       → Lives (local t d h) (X t r ∷ (inside ++ (N t env hs ∷ past))) → Lives (local t d h) past
+  -- what A opens D closes, however much was between: the thread has what it had before, which is no open item and no frame
+  pub attached-closes : (room : Room) (t env : ℕ) (inside past : History) → Whole t inside → Accepted room (A t env ∷ past)
+      → let after : History = D t ∷ (inside ++ (A t env ∷ past)) in
+      (items t after ≡ items t past) × (frames t after ≡ frames t past) × (capacities t after ≡ capacities t past) × (items t past ≡ []) × (frames t past ≡ [])
+  -- an attached item has nothing below it
+  pub attached-lowest : (room : Room) (past : History) → Accepted room past → (t : ℕ) (above below : List Item) → items t past ≡ above ++ (attached ∷ below)
+      → below ≡ []
   -- the lines of other threads, and K and O, change nothing of a thread
   pub other-threads : (t : ℕ) (e : Line) (past : History) → is-of t e ≡ false → Same-for t past (e ∷ past)
-  -- a thread's env is that of its first N
-  pub env-of-first : (t env : ℕ) (hs : List ℕ) (newer older : History) → env ≢ 0 → ((v : ℕ) (gs : List ℕ) → ¬ List·Memᴰ (N t v gs) older)
-      → env-of t (newer ++ (N t env hs ∷ older)) ≡ env
+  -- a thread's env is that of its first N or A, for ever
+  pub env-of-first : (t env : ℕ) (first : Line) (newer older : History) → env ≢ 0 → Brings t env first
+      → ((v : ℕ) (e : Line) → Brings t v e → ¬ List·Memᴰ e older)
+      → env-of t (newer ++ (first ∷ older)) ≡ env
   -- before it there is none
-  pub no-env : (t : ℕ) (past : History) → ((env : ℕ) (hs : List ℕ) → ¬ List·Memᴰ (N t env hs) past) → env-of t past ≡ 0
+  pub no-env : (t : ℕ) (past : History) → ((env : ℕ) (e : Line) → Brings t env e → ¬ List·Memᴰ e past) → env-of t past ≡ 0
   -- no two threads share one
   pub envs-apart : (room : Room) (past : History) → Accepted room past → (s t : ℕ) → s ≢ t → env-of s past ≢ 0 → env-of s past ≢ env-of t past
 
@@ -266,6 +284,8 @@ pub record Shut-out : Type 0 where
   pub not-one-reply : (room : Room) → reply room (heard room (line "Z" ∷ [])) (line "Z") ≡ not-accepted 4
   -- a line of each letter is accepted
   pub each-letter : (room : Room) → Accepted room (Z ∷ X 1 0 ∷ R 1 6 (pos 0) 0 ∷ C 1 100 6 0 0 0 (pos 0) ∷ N 1 100 [] ∷ [])
+  -- A and D too
+  pub attached-accepted : (room : Room) → Accepted room (D 1 ∷ R 1 6 (pos 0) 0 ∷ C 1 100 6 0 0 0 (pos 0) ∷ A 1 100 ∷ [])
   -- K and O too, where there is a row
   pub statements-accepted : Accepted program-room (states (O 1 5 5) ∷ N 1 100 (5 ∷ []) ∷ states (K 5 1) ∷ [])
   -- one that works on the first line only: after the same first line the reply to the same later bytes differs

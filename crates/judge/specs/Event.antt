@@ -2,7 +2,7 @@
 use Prim.Native.Nat.{ℕ}
 use mathlib.Core.List.{List}
 use lib.ListN.{take}
-use Rattle.lines.specs.Line.{N, X, C, R, Z, K, O, states}
+use Rattle.lines.specs.Line.{N, X, C, R, A, D, Z, K, O, states}
 use Rattle.lines.specs.Reading.{Read, says, refused}
 use Rattle.lines.specs.Events.{result-in-line}
 use Rattle.lines.specs.declared.Event.{Event}
@@ -14,6 +14,8 @@ read-as (Event.Enter t env n) hs = says (N t env (take n hs))
 read-as (Event.Leave t r) hs = says (X t r)
 read-as (Event.Call t env f a b c n) hs = says (C t env f a b c n)
 read-as (Event.Return t f h s p) hs = says (R t f (result-in-line f h s) p)
+read-as (Event.Attach t env) hs = says (A t env)
+read-as (Event.Detach t) hs = says (D t)
 read-as (Event.Declare c s) hs = says (states (K c s))
 read-as (Event.State t h c) hs = says (states (O t h c))
 read-as Event.End hs = says Z
@@ -25,6 +27,8 @@ thread-named (Event.Enter t env n) = t
 thread-named (Event.Leave t r) = t
 thread-named (Event.Call t env f a b c n) = t
 thread-named (Event.Return t f h s p) = t
+thread-named (Event.Attach t env) = t
+thread-named (Event.Detach t) = t
 thread-named (Event.Declare c s) = 0
 thread-named (Event.State t h c) = 0
 thread-named Event.End = 0
@@ -36,6 +40,8 @@ slots-named (Event.Enter t env n) = n
 slots-named (Event.Leave t r) = 0
 slots-named (Event.Call t env f a b c n) = 0
 slots-named (Event.Return t f h s p) = 0
+slots-named (Event.Attach t env) = 0
+slots-named (Event.Detach t) = 0
 slots-named (Event.Declare c s) = 0
 slots-named (Event.State t h c) = 0
 slots-named Event.End = 0

@@ -1,4 +1,5 @@
 // The open items of a line's thread: whose they are, and how an accepted line moves them.
+use book::ATTACHED_FUNCTION;
 use book::NO_FUNCTION;
 use lines::Event;
 ghost use mathlib.Core.Path.{_≡_};
@@ -16,6 +17,8 @@ pub fn thread_of(event: Event) -> u32
         Event::Leave { thread, .. } => thread,
         Event::Call { thread, .. } => thread,
         Event::Return { thread, .. } => thread,
+        Event::Attach { thread, .. } => thread,
+        Event::Detach { thread } => thread,
         Event::Declare { .. } => 0,
         Event::State { .. } => 0,
         Event::End => 0,
@@ -30,7 +33,7 @@ fn above_zero(n: i32) -> u32
     if n < 0 { 0 } else { n as u32 }
 }
 
-// N opens a native and C a call; X and R close what is on top.
+// N opens a native, C a call and A an attached item; X, R and D close what is on top.
 pub fn move_item(book: &mut [u64], event: Event)
     ensures { λ _. ⌜ ((hs : List ℕ) → now (book .exit) ≡ items-after (read-as event hs) (now (book .entry))) ⌝ }
 {
@@ -44,6 +47,8 @@ pub fn move_item(book: &mut [u64], event: Event)
             ..
         } => book::push_item(book, thread, function, above_zero(n)),
         Event::Return { thread, .. } => book::pop_item(book, thread),
+        Event::Attach { thread, .. } => book::push_item(book, thread, ATTACHED_FUNCTION, 0),
+        Event::Detach { thread } => book::pop_item(book, thread),
         Event::Declare { .. } => {}
         Event::State { .. } => {}
         Event::End => {}

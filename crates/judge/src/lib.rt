@@ -142,6 +142,12 @@ fn on_event(
             status,
             pending,
         ),
+        Event::Attach { thread, env } => {
+            events::attach::attach(rows, marks, book, top, many, line, thread, env)
+        }
+        Event::Detach { thread } => {
+            events::detach::detach(rows, marks, pins, pinmarks, book, top, line, thread)
+        }
         Event::Declare { class, superclass } => {
             events::declare::declare(book, classes, class, superclass)
         }

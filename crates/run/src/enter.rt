@@ -51,7 +51,7 @@ fn take_all(
     }
 }
 
-fn act_on(
+pub(crate) fn act_on(
     rows: &mut [Number],
     marks: &mut [u64],
     guide: &mut [u64],

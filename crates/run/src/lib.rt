@@ -1,6 +1,8 @@
 // The loop that holds the lent tables: the lines of a piece of the input, handed to the step one after another.
+mod attach;
 mod bits;
 mod call;
+mod detach;
 mod enter;
 mod fit;
 mod kept;

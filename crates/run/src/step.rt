@@ -1,5 +1,7 @@
 // One line of the trace over tables that have guides.
+use crate::attach;
 use crate::call;
+use crate::detach;
 use crate::enter;
 use crate::fit;
 use crate::leave;
@@ -128,6 +130,21 @@ fn on_event(
             result,
             status,
             pending,
+        ),
+        Event::Attach { thread, env } => {
+            attach::attach(rows, marks, guide, book, top, many, line, thread, env)
+        }
+        Event::Detach { thread } => detach::detach(
+            rows,
+            marks,
+            guide,
+            pins,
+            pinmarks,
+            pinguide,
+            book,
+            top,
+            line,
+            thread,
         ),
         Event::Declare { class, superclass } => {
             events::declare::declare(book, classes, class, superclass)

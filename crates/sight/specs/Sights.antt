@@ -20,6 +20,7 @@ use Rattle.tables.specs.Tables.{Tables, handles-in, seen-in}
 use Rattle.sight.specs.declared.call.CallSight.{CallSight}
 use Rattle.sight.specs.declared.leave.LeaveSight.{LeaveSight}
 use Rattle.sight.specs.declared.enter.EnterSight.{EnterSight}
+use Rattle.sight.specs.declared.detach.DetachSight.{DetachSight}
 use Rattle.sight.specs.declared.end.EndSight.{EndSight}
 use Rattle.sight.specs.declared.declare.DeclareSight.{DeclareSight}
 use Rattle.sight.specs.declared.state.StateSight.{StateSight}
@@ -50,7 +51,7 @@ leave-sight T t r = record { critical = in-critical t (seen-in T); result = hand
 unfoldable pub some-alive : Table → ℕ → List ℕ → Bool
 some-alive R t hs = any (λ (h : ℕ). ltb 0 (handles-in R (is-local t h))) hs
 
--- N by thread t
+-- N by thread t, and A, with no handles
 unfoldable pub enter-sight : Tables → ℕ → ℕ → List ℕ → EnterSight
 enter-sight T t env hs =
     record {
@@ -60,6 +61,10 @@ enter-sight T t env hs =
       free = room references (T .references) - alive references (T .references);
       frames = length (seen-in T .frames t);
     }
+
+-- D by thread t
+unfoldable pub detach-sight : Tables → ℕ → DetachSight
+detach-sight T t = record { critical = in-critical t (seen-in T); monitors = seen-in T .monitors t }
 
 -- Z
 unfoldable pub end-sight : Tables → EndSight

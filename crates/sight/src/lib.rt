@@ -1,6 +1,7 @@
 // What a line is told of the lent tables: looked up once, handed on by value.
 pub mod call;
 pub mod declare;
+pub mod detach;
 pub mod end;
 pub mod enter;
 pub mod leave;

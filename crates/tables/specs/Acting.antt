@@ -8,7 +8,7 @@ use Rattle.words.specs.Choice.{if_then_else_}
 use Rattle.facts.specs.Table.{fact-of, family, is-critical}
 use Rattle.facts.specs.Named.{PushLocalFrame, PopLocalFrame, DeleteGlobalRef, DeleteLocalRef, EnsureLocalCapacity, MonitorEnter, MonitorExit, DeleteWeakGlobalRef}
 use Rattle.facts.specs.Results.{is-buffer-place}
-use Rattle.lines.specs.Line.{Line, if-N_then_else_, if-X_then_else_, if-C_then_else_, if-R_then_else_, if-Z_then_else_, if-K_then_else_, if-O_then_else_, kind, is-zero, above-zero}
+use Rattle.lines.specs.Line.{Line, if-opens_then_else_, if-N_then_else_, if-X_then_else_, if-C_then_else_, if-R_then_else_, if-A_then_else_, if-D_then_else_, if-Z_then_else_, if-K_then_else_, if-O_then_else_, kind, is-zero, above-zero}
 use Rattle.rows.specs.Table.{Layout, Table, found, taken, changed, ended, ended-all}
 use Rattle.rows.specs.References.{references, with-class, is-handle, from-frame}
 use Rattle.rows.specs.Pins.{pins, is-buffer}
@@ -20,8 +20,8 @@ use Rattle.history.specs.Statements.{class-by}
 use Rattle.history.specs.Acceptance.{made-by}
 use Rattle.classes.specs.Supers.{with-super}
 use Rattle.book.specs.Threads.{thread-in}
-use Rattle.book.specs.Moves.{frame-pushed, native-left, frame-popped, capacity-raised, item-pushed, item-popped, env-set, pending-set, monitor-added, monitor-taken, line-counted, closed-set}
-use Rattle.book.specs.Threads.{no-function}
+use Rattle.book.specs.Moves.{frame-pushed, native-left, frames-ended, frame-popped, capacity-raised, item-pushed, item-popped, env-set, pending-set, monitor-added, monitor-taken, monitors-dropped, line-counted, closed-set}
+use Rattle.book.specs.Threads.{no-function, attached-function}
 use Rattle.tables.specs.Tables.{Tables, seen-in, reference-of, pin-row-of, handles-in}
 
 -- ---- rows
@@ -53,7 +53,7 @@ pin-owner f t = if is-critical (family f) then t else 0
 abbrev pub owner-of : ℕ → ℕ → ℕ
 owner-of t h = if eqb (kind h) 1 then t else 0
 
--- X ends the rows of its native's frames; 20 those of the top frame, if it was pushed; what line number `line` makes carries that number,
+-- X ends the rows of its native's frames, D all rows of its thread; 20 those of the top frame, if it was pushed; what line number `line` makes carries that number,
 -- and the class that the line gives it; O writes its class into the lowest matching row
 unfoldable pub references-after : ℕ → Line → Tables → Table
 references-after line e T =
@@ -64,6 +64,7 @@ references-after line e T =
     else if eqb f PopLocalFrame && top-pushed (thread-in (T .book) t .frames) then
     ended-all references (from-frame t (length (thread-in (T .book) t .frames))) (T .references)
     else T .references)
+    else if-D e then (λ t. ended-all references (from-frame t 0) (T .references))
     else if-O e then (λ t h c. changed references (T .references) (found references (is-handle (owner-of t h) h) (T .references)) (with-class c))
     else all-taken references (T .references) (map (reference-of line (class-by e)) (made-by e (seen-in T)))
 
@@ -87,9 +88,13 @@ classes-after e T = if-K e then (λ c s. with-super (T .classes) c s) else T .cl
 abbrev pub env-kept : List ℕ → ℕ → ℕ → List ℕ
 env-kept b t env = if eqb (thread-in b t .env) 0 then env-set b t env else b
 
--- N opens a frame, keeps the env and clears pending
+-- N, and A, which has no handles, opens a frame, keeps the env and clears pending
 abbrev pub native-entered : List ℕ → ℕ → ℕ → List ℕ → List ℕ
 native-entered b t env hs = pending-set (env-kept (frame-pushed b t (native-capacity hs) false) t env) t 0
+
+-- D ends the thread's frames, and drops its monitors
+abbrev pub detached : List ℕ → ℕ → List ℕ
+detached b t = monitors-dropped (frames-ended b t) t
 
 -- what a status of 0 does: `held` locals are alive in the top frame, and `n` was asked of the open call
 abbrev pub status-acted : List ℕ → ℕ → ℕ → ℕ → ℕ → List ℕ
@@ -102,7 +107,7 @@ status-acted b t f held n =
 
 unfoldable pub book-after : Line → ℕ → Tables → List ℕ
 book-after e n T =
-    if-N e then (λ t env hs. native-entered (T .book) t env hs)
+    if-opens e then (λ t env hs. native-entered (T .book) t env hs)
     else if-X e then (λ t r. native-left (T .book) t)
     else if-C e then (λ t env f a b c m. if eqb f PopLocalFrame then frame-popped (T .book) t else T .book)
     else if-R e then
@@ -113,6 +118,7 @@ book-after e n T =
     else T .book)
     t
     p)
+    else if-D e then (λ t. detached (T .book) t)
     else if-Z e then closed-set (T .book)
     else T .book
 
@@ -134,4 +140,6 @@ items-moved e b =
     else if-X e then (λ t r. item-popped b t)
     else if-C e then (λ t env f a b' c n. item-pushed b t f (above-zero n))
     else if-R e then (λ t f r p. item-popped b t)
+    else if-A e then (λ t env. item-pushed b t attached-function 0)
+    else if-D e then (λ t. item-popped b t)
     else b

@@ -6,7 +6,7 @@ use lib.Dec.{eqb, leb}
 use Rattle.words.specs.Choice.{if_then_else_}
 use Rattle.facts.specs.Table.{is-allowed-pending, is-allowed-critical}
 use Rattle.facts.specs.Named.{PopLocalFrame, MonitorExit}
-use Rattle.history.specs.Items.{Item, is-native}
+use Rattle.history.specs.Items.{Item, native-or-attached}
 use Rattle.history.specs.Acceptance.{deepest}
 use Rattle.history.specs.Breaches.{place-rule}
 use Rattle.answers.specs.declared.Judged.{Judged}
@@ -15,7 +15,7 @@ use Rattle.sight.specs.declared.call.CallSight.{CallSight}
 
 -- 0, 4 or 7
 unfoldable pub call-refusal : Bool → Option Item → ℕ → ℕ
-call-refusal closed top many = if not closed && is-native top then (if leb deepest many then 7 else 0) else 4
+call-refusal closed top many = if not closed && native-or-attached top then (if leb deepest many then 7 else 0) else 4
 
 -- what is judged of line number `line`
 unfoldable pub judged-call : ℕ → ℕ → ℕ → ℕ → ℕ → ℕ → CallSight → Judged

@@ -19,7 +19,7 @@ ghost use Rattle.weigh.specs.Call.{call-refusal, judged-call};
 pub fn refusal(closed: bool, top: Top, many: u32) -> u8
     ensures { λ r. ⌜ r ≡ call-refusal closed (top-is top) many ⌝ }
 {
-    if closed | !crate::steps::is_native(top) {
+    if closed | !crate::steps::may_call(top) {
         return 4;
     }
     if crate::steps::DEEPEST <= many {
