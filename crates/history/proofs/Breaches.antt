@@ -19,7 +19,7 @@ use Rattle.facts.specs.declared.Place.the-variants as Place
 use Rattle.facts.specs.declared.Result.{Result}
 use Rattle.facts.specs.Results.{is-local-result}
 use Rattle.facts.specs.declared.Result.the-variants as Result
-use Rattle.lines.specs.Line.{Line, N, X, C, R, Z, states, above-zero}
+use Rattle.lines.specs.Line.{Line, N, X, C, R, A, D, Z, states, above-zero}
 use Rattle.history.specs.Past.{History}
 use Rattle.history.specs.Frames.{frames, top-pushed, depth}
 use Rattle.history.specs.Handles.{living, global-or-weak, alive-in}
@@ -29,8 +29,8 @@ use Rattle.history.specs.Thread.{pending, monitors, env-of, all-threads}
 use Rattle.history.specs.Seen.{seen}
 use Rattle.history.specs.Acceptance.{Room, everything}
 use Rattle.history.specs.Accepted.{Accepted}
-use Rattle.history.specs.Breaches.{when, place-rule, is-there, rule-here, value-at, rule-at, in-critical, exceeds, overflows, call-rule, some-of, end-rule, line-rule, is-rule, breach}
-use Rattle.history.specs.Paper.{Outstanding, In-critical, Broken, at-a, at-b, at-c, at-result, other-env, not-allowed, called-in-critical, no-monitor, not-pushed, left-in-critical, overflow, buffers-left, monitors-left, handles-left}
+use Rattle.history.specs.Breaches.{when, place-rule, is-there, rule-here, value-at, rule-at, in-critical, exceeds, overflows, call-rule, some-of, end-rule, detach-rule, line-rule, is-rule, breach}
+use Rattle.history.specs.Paper.{Outstanding, In-critical, Broken, at-a, at-b, at-c, at-result, other-env, not-allowed, called-in-critical, no-monitor, not-pushed, left-in-critical, detached-in-critical, detached-with-monitors, overflow, buffers-left, monitors-left, handles-left}
 use Rattle.history.proofs.Tests.{and-left, and-right, all-three, true-not-false, eqb-self}
 use Rattle.history.proofs.Counts.{member-counts, some-member, count-all}
 use Rattle.history.proofs.Acts.{other-status-capacities}
@@ -170,6 +170,13 @@ module _ (room : Room) (past : History) (so-far : Accepted room past) where
       when-right (R t f (negsuc h) p) rule 0 (eqb rule 11 && overflows t f 0 (seen past)) 0 (λ k.
       true-not-false (overflows t f 0 (seen past)) (and-right (eqb rule 11) (overflows t f 0 (seen past)) k) (null-fits t f))
 
+  detach-right : (t rule : ℕ) → Right (D t) rule 0 (detach-rule t (seen past) rule)
+  unfolding detach-rule seen
+  detach-right t rule =
+      let held : ℕ = monitors t past in
+      if-right (D t) rule 3 _ _ (λ is. rw is (when-right (D t) 3 0 (in-critical t (seen past)) 0 (λ h. detached-in-critical t (critical-out t .0 h))))
+      (if-right (D t) rule 9 _ _ (λ is. rw is (when-right (D t) 9 0 (ltb 0 held) held (λ h. detached-with-monitors t held refl (ltb-true 0 held h)))) tt)
+
   line-right : (e : Line) (rule : ℕ) → Right e rule 0 (line-rule e (seen past) rule)
   unfolding line-rule
   line-right (N t env hs) rule = tt
@@ -178,6 +185,8 @@ module _ (room : Room) (past : History) (so-far : Accepted room past) where
       rw (eqb-true rule 3 (and-left (eqb rule 3) (in-critical t (seen past)) h)) (left-in-critical t r (critical-out t .0 (and-right (eqb rule 3) (in-critical t (seen past)) h))))
   line-right (C t env f a b c n) rule = call-right t env f a b c rule n
   line-right (R t f r p) rule = return-right t f p rule r
+  line-right (A t env) rule = tt
+  line-right (D t) rule = detach-right t rule
   line-right Z rule = end-right rule
   line-right (states s) rule = tt
 
@@ -201,6 +210,8 @@ module _ (room : Room) (past : History) (so-far : Accepted room past) where
       go false e false ey true ez k = rw (eqb-true place 3 ez) (at-c t env f a b c rule n (place-is room past so-far t f no-class (fact-of f .c) c rule .0 k))
       go false e false ey false ez k = absurd (Option·none-ne-some rule k)
   place-right (R t f r p) rule place h = absurd (Option·none-ne-some rule h)
+  place-right (A t env) rule place h = absurd (Option·none-ne-some rule h)
+  place-right (D t) rule place h = absurd (Option·none-ne-some rule h)
   place-right Z rule place h = absurd (Option·none-ne-some rule h)
   place-right (states s) rule place h = absurd (Option·none-ne-some rule h)
 
@@ -228,7 +239,7 @@ module _ (room : Room) (past : History) (so-far : Accepted room past) where
   counted x k e l = rw (sym e, lt-ltb 0 k l)
 
   computed : (e : Line) (rule place v : ℕ) → Broken past e rule place v → breach e (seen past) rule place ≡ some v
-  unfolding breach line-rule call-rule end-rule rule-at seen
+  unfolding breach line-rule call-rule detach-rule end-rule rule-at seen
   computed _ _ _ _ (at-a t env f a b c rule n w) = at-place rule a (rule-here (class-a f) (fact-of f .a) t f a (seen past)) (place-is room past so-far t f (class-a f) (fact-of f .a) a rule .1 w)
   computed _ _ _ _ (at-b t env f a b c rule n w) = at-place rule b (rule-here (class-b f) (fact-of f .b) t f b (seen past)) (place-is room past so-far t f (class-b f) (fact-of f .b) b rule .1 w)
   computed _ _ _ _ (at-c t env f a b c rule n w) = at-place rule c (rule-here no-class (fact-of f .c) t f c (seen past)) (place-is room past so-far t f no-class (fact-of f .c) c rule .1 w)
@@ -239,6 +250,8 @@ module _ (room : Room) (past : History) (so-far : Accepted room past) where
   computed _ _ _ _ (no-monitor t env a b c n h) = rw h
   computed _ _ _ _ (not-pushed t env a b c n h) = rw h
   computed _ _ _ _ (left-in-critical t v h) = rw (critical-out t .1 h)
+  computed _ _ _ _ (detached-in-critical t h) = rw (critical-out t .1 h)
+  computed _ _ _ _ (detached-with-monitors t k e l) = counted (monitors t past) k e l
   computed _ _ _ _ (overflow t f h p capacity lower is nz cs above) = rw (overflow-computed t f h p capacity lower is nz cs above)
   computed _ _ _ _ (buffers-left k e l) = counted (count everything (outstanding past)) k (e ∙ sym left-buffers) l
   computed _ _ _ _ (monitors-left k e l) = counted (sum (λ t. monitors t past) all-threads) k (e ∙ sym left-monitors) l

@@ -16,7 +16,7 @@ use Rattle.facts.specs.declared.Place.the-variants as Place
 use Rattle.facts.specs.declared.Result.{Result}
 use Rattle.facts.specs.Results.{is-buffer-result, is-buffer-place}
 use Rattle.facts.specs.declared.Result.the-variants as Result
-use Rattle.lines.specs.Line.{Line, N, X, C, R, Z, states}
+use Rattle.lines.specs.Line.{Line, N, X, C, R, A, D, Z, states}
 use Rattle.history.specs.Past.{History}
 use Rattle.history.specs.Buffers.{Pin, ordinary, critical, pin, same-pin, gets, releases, outstanding}
 use Rattle.history.specs.Seen.{seen, is-outstanding}
@@ -106,6 +106,8 @@ releasing-one (C t env f a b c n) x h =
     let that = and-right (is-buffer-place (fact-of f .b)) (same-pin (pin t f b) x) h in
     rw (same-pin-is (pin t f b) x that) (at-call t env f a b c n (buffer-place (fact-of f .b) is))
 releasing-one (R t f r p) x h = absurd (false≢true h)
+releasing-one (A t env) x h = absurd (false≢true h)
+releasing-one (D t) x h = absurd (false≢true h)
 releasing-one Z x h = absurd (false≢true h)
 releasing-one (states s) x h = absurd (false≢true h)
 
@@ -128,6 +130,8 @@ releases-one (C t env f a b c n) x y h k =
     same-pin-is (pin t f b) y (and-right (is-buffer-place (fact-of f .b)) (same-pin (pin t f b) y) k)
     ∙ sym (same-pin-is (pin t f b) x (and-right (is-buffer-place (fact-of f .b)) (same-pin (pin t f b) x) h))
 releases-one (R t f r p) x y h k = absurd (false≢true h)
+releases-one (A t env) x y h k = absurd (false≢true h)
+releases-one (D t) x y h k = absurd (false≢true h)
 releases-one Z x y h k = absurd (false≢true h)
 releases-one (states s) x y h k = absurd (false≢true h)
 

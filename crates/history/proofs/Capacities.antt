@@ -9,7 +9,7 @@ use lib.Dec.{eqb}
 use lib.ListN.{length, drop, length-drop}
 use Rattle.words.specs.Choice.{if_then_else_}
 use Rattle.facts.specs.Named.{PushLocalFrame, PopLocalFrame, EnsureLocalCapacity}
-use Rattle.lines.specs.Line.{Line, N, X, C, R, Z, states, is-zero}
+use Rattle.lines.specs.Line.{Line, N, X, C, R, A, D, Z, states, is-zero}
 use Rattle.history.specs.Past.{History, is-of, through}
 use Rattle.history.specs.Items.{items, top-of, asked}
 use Rattle.history.specs.Frames.{Frame, entered, pushed, frames, frames-after, depth, without-native, without-pushed}
@@ -65,6 +65,8 @@ fit-line (R s f r p) held n fs cs h = go (is-zero r) (eqb f PushLocalFrame) (eqb
     go true true u = ap suc h
     go true false true = raised-length (held + n) cs ∙ h
     go true false false = h
+fit-line (A s env) held n fs cs h = ap suc h
+fit-line (D s) held n fs cs h = dropped (length fs) 0 cs h (omega arith)
 fit-line Z held n fs cs h = dropped (length fs) (length fs) cs h (omega arith)
 fit-line (states s) held n fs cs h = dropped (length fs) (length fs) cs h (omega arith)
 

@@ -9,13 +9,13 @@ use lib.IntN.{ℤ, pos, negsuc}
 use lib.ListN.{length, drop}
 use borrow.Author.Tests.{eqb-true}
 use Rattle.facts.specs.Named.{PushLocalFrame, PopLocalFrame, EnsureLocalCapacity, MonitorEnter, MonitorExit}
-use Rattle.lines.specs.Line.{Line, N, X, C, R, Z, states, is-zero}
+use Rattle.lines.specs.Line.{Line, N, X, C, R, A, D, Z, states, is-zero}
 use Rattle.history.specs.Past.{History, thread-of, is-of, through}
 use Rattle.history.specs.Items.{Item, items, items-after}
 use Rattle.history.specs.Frames.{Frame, entered, pushed, frames, frames-after, without-pushed, depth}
 use Rattle.history.specs.Capacities.{capacities}
 use Rattle.history.specs.Thread.{pending, pending-after, monitors, monitors-after}
-use Rattle.history.specs.Changes.{Changes-items, opens-native, opens-call, closes-native, closes-call, Changes-frames, opens-frame, ends-frames, pops-frame, pushes-frame, Changes-capacities, with-frames, raises-capacity, Changes-pending, clears-pending, sets-pending, Changes-monitors, adds-monitor, takes-monitor}
+use Rattle.history.specs.Changes.{Changes-items, opens-native, opens-call, closes-native, closes-call, attaches, detaches, Changes-frames, opens-frame, opens-attached, ends-frames, ends-all-frames, pops-frame, pushes-frame, Changes-capacities, with-frames, raises-capacity, Changes-pending, clears-pending, clears-attached, sets-pending, Changes-monitors, adds-monitor, takes-monitor, drops-monitors}
 use Rattle.history.proofs.Tests.{never-true, whether}
 use Rattle.history.proofs.Threads.{own-items, other-items, own-frames, other-frames, own-capacities, other-capacities, own-pending, other-pending, own-monitors, other-monitors, thread-is}
 use Rattle.history.proofs.Capacities.{nothing-dropped}
@@ -40,6 +40,8 @@ items-line (N t env hs) is k = absurd (k (opens-native env hs))
 items-line (X t r) is k = absurd (k (closes-native r))
 items-line (C t env f a b c n) is k = absurd (k (opens-call env f a b c n))
 items-line (R t f r p) is k = absurd (k (closes-call f p r))
+items-line (A t env) is k = absurd (k (attaches env))
+items-line (D t) is k = absurd (k detaches)
 items-line Z is k = refl
 items-line (states s) is k = refl
 
@@ -65,6 +67,8 @@ frames-line (R t f r p) past k =
     whether (is-zero r)
     (λ z. simp (another-function (Changes-frames t past) t f PushLocalFrame p r k (pushes-frame p) z))
     (λ z. simp (z, and-false))
+frames-line (A t env) past k = absurd (k (opens-attached env))
+frames-line (D t) past k = absurd (k ends-all-frames)
 frames-line Z past k = refl
 frames-line (states s) past k = refl
 
@@ -94,6 +98,8 @@ capacities-line (R t f r p) past o k =
       another-function (Changes-capacities t past) t f EnsureLocalCapacity p r k (raises-capacity p) z,
     ))
     (λ z. simp z)
+capacities-line (A t env) past o k = absurd (k (with-frames (A t env) (opens-attached env)))
+capacities-line (D t) past o k = absurd (k (with-frames (D t) ends-all-frames))
 capacities-line Z past o k = absurd (false≢true o)
 capacities-line (states s) past o k = absurd (false≢true o)
 
@@ -110,6 +116,8 @@ pending-line (N t env hs) p k = absurd (k (clears-pending env hs))
 pending-line (X t r) p k = refl
 pending-line (C t env f a b c n) p k = refl
 pending-line (R t f r q) p k = absurd (k (sets-pending f q r))
+pending-line (A t env) p k = absurd (k (clears-attached env))
+pending-line (D t) p k = refl
 pending-line Z p k = refl
 pending-line (states s) p k = refl
 
@@ -131,6 +139,8 @@ monitors-line (R t f r p) m k =
       another-function (Changes-monitors t) t f MonitorExit p r k (takes-monitor p) z,
     ))
     (λ z. simp z)
+monitors-line (A t env) m k = refl
+monitors-line (D t) m k = absurd (k drops-monitors)
 monitors-line Z m k = refl
 monitors-line (states s) m k = refl
 

@@ -11,7 +11,7 @@ use borrow.Author.Tests.{eqb-true, eqb-false, ne-eqb, eq-eqb, leb-true, leb-fals
 use Rattle.words.specs.Choice.{if_then_else_, one}
 use Rattle.words.specs.Lists.{count}
 use Rattle.facts.specs.Classes.{object, class, string, throwable, is-reserved, no-class}
-use Rattle.lines.specs.Line.{Line, N, X, C, R, Z, states, K, O, if-K_then_else_, classes, is-class, is-allowed}
+use Rattle.lines.specs.Line.{Line, N, X, C, R, A, D, Z, states, K, O, if-K_then_else_, classes, is-class, is-allowed}
 use Rattle.history.specs.Past.{History}
 use Rattle.history.specs.Seen.{seen}
 use Rattle.history.specs.Classes.{super-of, is-known, super, leads, most-looks}
@@ -48,6 +48,8 @@ declaring (N t env hs) = another (N t env hs) (λ past c. refl) (no-K (N t env h
 declaring (X t r) = another (X t r) (λ past c. refl) (no-K (X t r) refl)
 declaring (C t env f a b c n) = another (C t env f a b c n) (λ past d. refl) (no-K (C t env f a b c n) refl)
 declaring (R t f r p) = another (R t f r p) (λ past c. refl) (no-K (R t f r p) refl)
+declaring (A t env) = another (A t env) (λ past c. refl) (no-K (A t env) refl)
+declaring (D t) = another (D t) (λ past c. refl) (no-K (D t) refl)
 declaring Z = another Z (λ past c. refl) (no-K Z refl)
 declaring (states (K c s)) = declares c s
 declaring (states (O t h c)) = another (states (O t h c)) (λ past d. refl) (no-K (states (O t h c)) refl)

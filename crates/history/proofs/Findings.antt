@@ -17,7 +17,7 @@ use Rattle.history.specs.Accepted.{Accepted}
 use Rattle.history.specs.Findings.{rules, places, found, of-line, findings}
 use Rattle.history.specs.declared.Finding.{Finding}
 use Rattle.history.specs.Paper.{Wrong, null-handle, null-identity, null-buffer, wrong-kind, dead-local, dead-shared, other-class, not-outstanding}
-use Rattle.history.specs.Paper.{Broken, at-a, at-b, at-c, at-result, other-env, not-allowed, called-in-critical, no-monitor, not-pushed, left-in-critical, overflow, buffers-left, monitors-left, handles-left}
+use Rattle.history.specs.Paper.{Broken, at-a, at-b, at-c, at-result, other-env, not-allowed, called-in-critical, no-monitor, not-pushed, left-in-critical, detached-in-critical, detached-with-monitors, overflow, buffers-left, monitors-left, handles-left}
 use Rattle.history.specs.Order.{Breached, Ordered, no-more, then-more}
 use Rattle.history.proofs.Tests.{either}
 use Rattle.history.proofs.Order.{joined-member, member-joined, in-from, ordered-append, joined-ordered, ordered-once}
@@ -47,6 +47,8 @@ broken-rule past _ _ _ _ (called-in-critical t env f a b c n h k) = omega arith
 broken-rule past _ _ _ _ (no-monitor t env a b c n h) = omega arith
 broken-rule past _ _ _ _ (not-pushed t env a b c n h) = omega arith
 broken-rule past _ _ _ _ (left-in-critical t v h) = omega arith
+broken-rule past _ _ _ _ (detached-in-critical t h) = omega arith
+broken-rule past _ _ _ _ (detached-with-monitors t k e l) = omega arith
 broken-rule past _ _ _ _ (overflow t f h p capacity lower is nz cs above) = omega arith
 broken-rule past _ _ _ _ (buffers-left k e l) = omega arith
 broken-rule past _ _ _ _ (monitors-left k e l) = omega arith

@@ -24,6 +24,7 @@ pub mod Classes
 pub mod Stated
 pub mod Stating
 pub mod Stacks
+pub mod Attached
 pub mod Once
 pub mod Leaks
 pub mod LeakOrder

@@ -36,7 +36,7 @@ lines =
     ∷ l "X 1 0" gives 0 ∷ l "X 1" gives 2 ∷ l "X 1 0 0" gives 2
     ∷ l "C 1 1 6 0 0 0 0" gives 0 ∷ l "C 1 1 6 0 0 0" gives 2 ∷ l "C 1 1 6 0 0 0 0 0" gives 2
     ∷ l "R 1 6 0 0" gives 0 ∷ l "R 1 6 0" gives 2 ∷ l "R 1 6 0 0 0" gives 2
-    ∷ l "Z" gives 0 ∷ l "Z 0" gives 2 ∷ l "Z " gives 2 ∷ l "" gives 2 ∷ l "A 1 1" gives 2
+    ∷ l "Z" gives 0 ∷ l "Z 0" gives 2 ∷ l "Z " gives 2 ∷ l "" gives 2 ∷ l "M 8 1 1 0 0" gives 2
     ∷ l "K 5 1" gives 0 ∷ l "K 5" gives 2 ∷ l "K 5 1 1" gives 2 ∷ l "k 5 1" gives 2
     ∷ l "O 1 5 2" gives 0 ∷ l "O 1 5" gives 2 ∷ l "O 1 5 2 2" gives 2
     -- N has 0 to 8 handles

@@ -15,12 +15,12 @@ use Rattle.facts.specs.Table.{fact-of}
 use Rattle.facts.specs.Named.{PushLocalFrame, PopLocalFrame, DeleteGlobalRef, DeleteLocalRef, DeleteWeakGlobalRef}
 use Rattle.facts.specs.declared.Result.{Result}
 use Rattle.facts.specs.declared.Result.the-variants as Result
-use Rattle.lines.specs.Line.{Line, N, X, C, R, Z, states, kind, is-zero}
+use Rattle.lines.specs.Line.{Line, N, X, C, R, A, D, Z, states, kind, is-zero}
 use Rattle.history.specs.Past.{History, thread-of, is-of}
 use Rattle.history.specs.Frames.{Frame, entered, pushed, frames, depth, without-pushed}
 use Rattle.history.specs.Handles.{Alive, local, shared, makes, result-made, is-local, is-shared, deletes, ends, frame-gone, living}
 use Rattle.history.specs.Seen.{seen, is-alive}
-use Rattle.history.specs.Lives.{Makes, argument, local-result, global-result, weak-result, Ends, deletes-local, deletes-global, deletes-weak, pops, leaves, Spared, so-far, by-line, Lives, Local-lives}
+use Rattle.history.specs.Lives.{Makes, argument, local-result, global-result, weak-result, Ends, deletes-local, deletes-global, deletes-weak, pops, leaves, detaches, Spared, so-far, by-line, Lives, Local-lives}
 use Rattle.history.proofs.Tests.{and-left, and-right, and-both, of-three, all-three, or-cases, or-right, or-neither, never-true, true-not-false, eqb-self, either}
 use Rattle.history.proofs.Counts.{keep-member, member-kept, some-member, member-counts, map-member, member-map}
 use Rattle.history.proofs.Threads.{own-depth, other-depth}
@@ -64,7 +64,7 @@ module _ (past : History) where
 
   -- ---- what a line ends
 
-  -- a line after which a frame less is there: an X, or a C of 20 over a pushed frame
+  -- a line after which a frame less is there: an X, a D, or a C of 20 over a pushed frame
   frame-left : (e : Line) (t d h : ℕ) → d ≤ depth t past → depth t (e ∷ past) < d → is-of t e ≡ true → Ends past e (local t d h)
   unfolding depth
   frame-left (N s env hs) t d h k l o = absurd (omega (arith, own-depth t (N s env hs) past o))
@@ -85,6 +85,8 @@ module _ (past : History) where
       go : (q : Bool) → length (frames t (R s f r p ∷ past)) ≡ length (if q then pushed ∷ frames t past else frames t past) → ⊥
       go true m = omega arith
       go false m = omega arith
+  frame-left (A s env) t d h k l o = absurd (omega (arith, own-depth t (A s env) past o))
+  frame-left (D s) t d h k l o = rw (sym (eqb-true t s o)) (detaches t d h)
   frame-left Z t d h k l o = absurd (false≢true o)
   frame-left (states s) t d h k l o = absurd (false≢true o)
 
@@ -95,7 +97,7 @@ module _ (past : History) where
       go true o = frame-left e t d h k (ltb-true (depth t (e ∷ past)) d g) o
       go false o = absurd (omega (arith, other-depth t e past o, ltb-true (depth t (e ∷ past)) d g))
 
-  -- a C that deletes
+  -- a C that deletes, or a D
   deleted : (e : Line) (x : Alive) → deletes e x ≡ true → Ends past e x
   unfolding deletes
   deleted (N t env hs) x h = absurd (false≢true h)
@@ -118,6 +120,9 @@ module _ (past : History) where
       let (u, k, is) = all-three _ _ _ y in
       rw (eqb-true f DeleteWeakGlobalRef u, eqb-true g a is) (deletes-weak t env a b c n (eqb-true (kind a) 3 k)))
   deleted (R t f r p) x h = absurd (false≢true h)
+  deleted (A t env) x h = absurd (false≢true h)
+  deleted (D t) (local s d g) h = rw (eqb-true s t h) (detaches t d g)
+  deleted (D t) (shared g) h = absurd (false≢true h)
   deleted Z x h = absurd (false≢true h)
   deleted (states s) x h = absurd (false≢true h)
 
@@ -138,6 +143,7 @@ module _ (past : History) where
       or-right (deletes (C t env PopLocalFrame a b c n) (local t (suc (length below)) h)) (frame-gone (C t env PopLocalFrame a b c n ∷ past) (local t (suc (length below)) h))
       (lt-ltb (depth t (C t env PopLocalFrame a b c n ∷ past)) (suc (length below))
       (omega (arith, own-depth t (C t env PopLocalFrame a b c n) past (eqb-self t), ap (λ (fs : List Frame). length (without-pushed fs)) is)))
+  ends-it _ _ (detaches t d h) = rw (eqb-self t)
   ends-it _ _ (leaves t r d h k) = lt-ltb (depth t (X t r ∷ past)) d (omega (arith, own-depth t (X t r) past (eqb-self t)))
 
   -- ---- the frame of what is made is there

@@ -14,15 +14,15 @@ use Rattle.words.specs.Lists.{joined, sum}
 use Rattle.facts.specs.Table.{fact-of, table, is-allowed-pending, is-allowed-critical}
 use Rattle.facts.specs.Named.{PopLocalFrame, MonitorExit}
 use Rattle.facts.specs.declared.Place.the-variants as Place
-use Rattle.lines.specs.Line.{Line, N, X, C, R, Z, states, above-zero}
+use Rattle.lines.specs.Line.{Line, N, X, C, R, A, D, Z, states, above-zero}
 use Rattle.history.specs.Past.{History, thread-of}
 use Rattle.history.specs.Frames.{top-pushed}
 use Rattle.history.specs.Handles.{global-or-weak}
 use Rattle.history.specs.Seen.{Seen}
 use Rattle.history.specs.Acceptance.{everything}
-use Rattle.history.specs.Breaches.{when, place-rule, place-at, class-at, value-at, function-of, rule-at, is-rule, in-critical, overflows, line-rule, call-rule, end-rule, breach}
+use Rattle.history.specs.Breaches.{when, place-rule, place-at, class-at, value-at, function-of, rule-at, is-rule, in-critical, overflows, line-rule, call-rule, detach-rule, end-rule, breach}
 use Rattle.history.specs.Findings.{rules, places, found, of-line}
-use Rattle.history.specs.Paper.{Wrong, Broken, at-a, at-b, at-c, at-result, other-env, not-allowed, called-in-critical, no-monitor, not-pushed, left-in-critical, overflow, buffers-left, monitors-left, handles-left}
+use Rattle.history.specs.Paper.{Wrong, Broken, at-a, at-b, at-c, at-result, other-env, not-allowed, called-in-critical, no-monitor, not-pushed, left-in-critical, detached-in-critical, detached-with-monitors, overflow, buffers-left, monitors-left, handles-left}
 use Rattle.history.specs.Order.{most-findings}
 use Rattle.history.proofs.Tests.{one-most}
 use Rattle.history.proofs.Order.{from}
@@ -42,6 +42,8 @@ place-wrong past _ _ _ _ l (called-in-critical t env f a b c n h k) = absurd (om
 place-wrong past _ _ _ _ l (no-monitor t env a b c n h) = absurd (omega arith)
 place-wrong past _ _ _ _ l (not-pushed t env a b c n h) = absurd (omega arith)
 place-wrong past _ _ _ _ l (left-in-critical t v h) = absurd (omega arith)
+place-wrong past _ _ _ _ l (detached-in-critical t h) = absurd (omega arith)
+place-wrong past _ _ _ _ l (detached-with-monitors t k e m) = absurd (omega arith)
 place-wrong past _ _ _ _ l (overflow t f h p capacity lower is nz cs above) = absurd (omega arith)
 place-wrong past _ _ _ _ l (buffers-left k e z) = absurd (omega arith)
 place-wrong past _ _ _ _ l (monitors-left k e z) = absurd (omega arith)
@@ -182,7 +184,7 @@ no-places line e v h =
 
 -- at most six findings a line
 pub at-most : (line : ℕ) (e : Line) (v : Seen) → length (of-line line e v) ≤ most-findings e
-unfolding whole-line line-rule rule-at place-rule end-rule call
+unfolding whole-line line-rule rule-at place-rule detach-rule end-rule call
 at-most line (N t env hs) v = omega (arith, no-places line (N t env hs) v (λ place. refl))
 at-most line (X t r) v =
     omega (
@@ -195,6 +197,9 @@ at-most line (X t r) v =
     )
 at-most line (C t env f a b c n) v = call-most t env f a b c n v line
 at-most line (R t f r p) v = omega (arith, no-places line (R t f r p) v (λ place. refl), most-when (overflows t f (above-zero r) v) (above-zero r))
+at-most line (A t env) v = omega (arith, no-places line (A t env) v (λ place. refl))
+at-most line (D t) v =
+    omega (arith, no-places line (D t) v (λ place. refl), most-when (in-critical t v) 0, most-when (ltb 0 (v .monitors t)) (v .monitors t))
 at-most line Z v =
     omega (
       arith,

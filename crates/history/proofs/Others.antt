@@ -10,11 +10,11 @@ use Rattle.words.specs.Choice.{if_then_else_}
 use Rattle.words.specs.Lists.{count, but-first}
 use Rattle.facts.specs.Table.{fact-of, family, is-critical}
 use Rattle.facts.specs.Results.{is-buffer-result, is-buffer-place}
-use Rattle.lines.specs.Line.{Line, N, X, C, R, Z, states, above-zero}
+use Rattle.lines.specs.Line.{Line, N, X, C, R, A, D, Z, states, above-zero}
 use Rattle.history.specs.Past.{History, is-of}
 use Rattle.history.specs.Handles.{Alive, local, shared, living}
 use Rattle.history.specs.Buffers.{Pin, ordinary, critical, pin, same-pin, gets, releases, outstanding}
-use Rattle.history.specs.Lives.{Makes, argument, local-result, global-result, weak-result, Ends, deletes-local, deletes-global, deletes-weak, pops, leaves, Lives}
+use Rattle.history.specs.Lives.{Makes, argument, local-result, global-result, weak-result, Ends, deletes-local, deletes-global, deletes-weak, pops, leaves, detaches, Lives}
 use Rattle.history.specs.Same.{Same-for}
 use Rattle.history.proofs.Tests.{eqb-self, never-true, true-not-false}
 use Rattle.history.proofs.Counts.{count-append}
@@ -39,6 +39,7 @@ ends-own _ past _ (deletes-global t env a b c n k) = tt
 ends-own _ past _ (deletes-weak t env a b c n k) = tt
 ends-own _ past _ (pops t env a b c h n below is) = eqb-self t
 ends-own _ past _ (leaves t r d h k) = eqb-self t
+ends-own _ past _ (detaches t d h) = eqb-self t
 
 -- a local was alive before the line of another thread
 pub alive-beside : (t d h : ℕ) (e : Line) (past : History) → is-of t e ≡ false → List·Memᴰ (local t d h) (living (e ∷ past)) → List·Memᴰ (local t d h) (living past)
@@ -71,6 +72,8 @@ gets-none t k b (R s f r p) o = go (is-buffer-result (fact-of f .result) && not 
     go : (q : Bool) → count (same-pin (critical t k b)) (if q then pin s f (above-zero r) ∷ [] else []) ≡ 0
     go true = rw (not-same t s f k b (above-zero r) (eqb-false _ _ o))
     go false = refl
+gets-none t k b (A s env) o = refl
+gets-none t k b (D s) o = refl
 gets-none t k b Z o = refl
 gets-none t k b (states s) o = refl
 
@@ -80,6 +83,8 @@ releases-none t k b (N s env hs) o = refl
 releases-none t k b (X s r) o = refl
 releases-none t k b (C s env f x y z n) o = rw (not-that t s f k b y (eqb-false _ _ o)) (and-false (is-buffer-place (fact-of f .b)))
 releases-none t k b (R s f r p) o = refl
+releases-none t k b (A s env) o = refl
+releases-none t k b (D s) o = refl
 releases-none t k b Z o = refl
 releases-none t k b (states s) o = refl
 

@@ -9,7 +9,7 @@ use lib.Dec.{leb, ltb}
 use lib.ListN.{length}
 use borrow.Author.Tests.{leb-true, leb-false, ltb-true, ltb-false}
 use Rattle.words.specs.Lists.{count}
-use Rattle.lines.specs.Line.{Line, N, X, C, R, Z, states}
+use Rattle.lines.specs.Line.{Line, N, X, C, R, A, D, Z, states}
 use Rattle.history.specs.Past.{History, thread-of, is-of, through}
 use Rattle.history.specs.Items.{Item, items}
 use Rattle.history.specs.Frames.{frames, depth}
@@ -43,6 +43,8 @@ module _ (room : Room) where
   items-fit (C s env f a b c n) past t l h o =
       omega (arith, ap length (own-items t (C s env f a b c n) past o), ltb-true (length (items t past)) deepest (rw (thread-is t (C s env f a b c n) o) at h))
   items-fit (R s f r p) past t l h o = omega (arith, ap length (own-items t (R s f r p) past o), tail-less (items t past))
+  items-fit (A s env) past t l h o = omega (arith, ap length (own-items t (A s env) past o), ltb-true (length (items t past)) deepest (rw (thread-is t (A s env) o) at h))
+  items-fit (D s) past t l h o = omega (arith, ap length (own-items t (D s) past o), tail-less (items t past))
   items-fit Z past t l h o = absurd (false≢true o)
   items-fit (states s) past t l h o = absurd (false≢true o)
 
@@ -122,6 +124,9 @@ module _ (room : Room) where
   no-item-room (C t env f a b c n) past h =
       open-items t (omega (arith, ltb-false (length (items t past)) deepest h, ap length (own-items t (C t env f a b c n) past (eqb-self t))))
   no-item-room (R t f r p) past h = absurd (false≢true (sym h))
+  no-item-room (A t env) past h =
+      open-items t (omega (arith, ltb-false (length (items t past)) deepest h, ap length (own-items t (A t env) past (eqb-self t))))
+  no-item-room (D t) past h = absurd (false≢true (sym h))
   no-item-room Z past h = absurd (false≢true (sym h))
   no-item-room (states s) past h = absurd (false≢true (sym h))
 

@@ -4,6 +4,8 @@ use Rattle.history.specs.Sentences.{On-breaches, On-handles, On-buffers,
 use Rattle.history.proofs.Living.{living-are, local-alive, shared-alive}
 use Rattle.history.proofs.Acts.{enter-items, call-items, leave-items, return-items, enter-frames, enter-capacities, enter-pending, pop-frames, pop-nothing, pop-capacities, return-pending, call-pending, push-frames, enter-monitors, exit-monitors, other-status-frames, other-status-capacities, other-status-monitors}
 use Rattle.history.proofs.Arguments.{enter-alive}
+use Rattle.history.proofs.Attached.{attach-items, attach-frames, attach-capacities, attach-pending, detach-items, detach-frames, detach-locals, detach-monitors, attached-closes}
+use Rattle.history.proofs.Stacks.{attached-lowest}
 use Rattle.history.proofs.Changes.{nothing-at-start, items-kept, frames-kept, capacities-kept, pending-kept, monitors-kept}
 use Rattle.history.proofs.Breaches.{breaches-are}
 use Rattle.history.proofs.Findings.{findings-are, findings-ordered, found-once}
@@ -27,7 +29,7 @@ use Rattle.history.proofs.Rooms.{run-more}
 use Rattle.history.proofs.Replies.{verdict-is, after-Z, heard-accepted, refusal-changes-nothing, refused-number, told-all, whole-run, run-told}
 use Rattle.history.proofs.Cut.{lines-joined, lines-cut}
 use Rattle.history.proofs.Report.{end-counts, refused-word, closed-word, open-word}
-use Rattle.history.proofs.ShutOut.{not-always-refused, not-one-reply, each-letter, statements-accepted, not-first-only}
+use Rattle.history.proofs.ShutOut.{not-always-refused, not-one-reply, each-letter, attached-accepted, statements-accepted, not-first-only}
 
 pub on-breaches : On-breaches
 on-breaches =
@@ -53,6 +55,14 @@ on-lines =
       enter-capacities = enter-capacities;
       enter-alive = enter-alive;
       enter-pending = enter-pending;
+      attach-items = attach-items;
+      attach-frames = attach-frames;
+      attach-capacities = attach-capacities;
+      attach-pending = attach-pending;
+      detach-items = detach-items;
+      detach-frames = detach-frames;
+      detach-locals = detach-locals;
+      detach-monitors = detach-monitors;
       pop-frames = pop-frames;
       pop-nothing = pop-nothing;
       pop-capacities = pop-capacities;
@@ -76,6 +86,8 @@ on-lines =
       native-closes = native-closes;
       capacities-close = capacities-close;
       nothing-of-it-lives = nothing-of-it-lives;
+      attached-closes = attached-closes;
+      attached-lowest = attached-lowest;
       other-threads = other-threads;
       env-of-first = env-of-first;
       no-env = no-env;
@@ -129,4 +141,4 @@ on-replies =
     }
 
 pub shut-out : Shut-out
-shut-out = record { not-always-refused = not-always-refused; not-one-reply = not-one-reply; each-letter = each-letter; statements-accepted = statements-accepted; not-first-only = not-first-only }
+shut-out = record { not-always-refused = not-always-refused; not-one-reply = not-one-reply; each-letter = each-letter; attached-accepted = attached-accepted; statements-accepted = statements-accepted; not-first-only = not-first-only }

@@ -7,7 +7,7 @@ use lib.IntN.{pos}
 use Rattle.numbers.specs.Decimal.{read-on}
 use Rattle.facts.specs.Table.{table, fact-of, is-allowed-pending, is-allowed-critical}
 use Rattle.facts.specs.Classes.{class-a, class-b}
-use Rattle.lines.specs.Line.{N, X, C, R, Z, states, K, O}
+use Rattle.lines.specs.Line.{N, X, C, R, A, D, Z, states, K, O}
 use Rattle.lines.specs.Forms.{of-letter}
 use Rattle.lines.specs.Reading.{fields, numbers, line-of, of-fields, read}
 use Rattle.history.specs.Past.{History, through, closed}
@@ -21,7 +21,7 @@ use Rattle.history.specs.Statements.{names, class-stated}
 use Rattle.history.specs.Classes.{super-of, super, leads, class-fits}
 use Rattle.history.specs.Seen.{seen, handle-alive}
 use Rattle.history.specs.Acceptance.{Room, in-step, env-right, made-by, makes-anew, classes-right, names-alive, has-room, refusal}
-use Rattle.history.specs.Breaches.{handle-rule, kind-rule, place-rule, is-there, rule-at, in-critical, overflows, call-rule, end-rule, line-rule, breach}
+use Rattle.history.specs.Breaches.{handle-rule, kind-rule, place-rule, is-there, rule-at, in-critical, overflows, call-rule, detach-rule, end-rule, line-rule, breach}
 use Rattle.history.specs.Findings.{of-line}
 use Rattle.history.specs.Replies.{verdict, accepted, not-accepted, reply, heard}
 use Rattle.history.specs.Accepted.{Accepted, at-start, and-line}
@@ -39,7 +39,7 @@ tells = tt
 
 -- acceptance, breaches and replies
 judges : Unit {0}
-unfolding in-step env-right made-by makes-anew classes-right names-alive has-room refusal super leads class-fits class-a class-b handle-rule kind-rule place-rule handle-alive is-there rule-at in-critical overflows call-rule end-rule line-rule breach of-line verdict reply heard
+unfolding in-step env-right made-by makes-anew classes-right names-alive has-room refusal super leads class-fits class-a class-b handle-rule kind-rule place-rule handle-alive is-there rule-at in-critical overflows call-rule detach-rule end-rule line-rule breach of-line verdict reply heard
 judges = tt
 
 module _ (room : Room) where
@@ -66,6 +66,18 @@ module _ (room : Room) where
       (and-line (R 1 6 (pos 0) 0) c (omega arith) refl (rw (leb·zero (room .references), leb·zero (room .pins)))
       (and-line (C 1 100 6 0 0 0 (pos 0)) n (omega arith) refl (rw (leb·zero (room .references), leb·zero (room .pins)))
       (and-line (N 1 100 []) [] (omega arith) refl (rw (leb·zero (room .references), leb·zero (room .pins))) at-start))))
+
+  -- A and D too
+  pub attached-accepted : Accepted room (D 1 ∷ R 1 6 (pos 0) 0 ∷ C 1 100 6 0 0 0 (pos 0) ∷ A 1 100 ∷ [])
+  unfolding reads tells judges
+  attached-accepted =
+      let a : History = A 1 100 ∷ [] in
+      let c : History = C 1 100 6 0 0 0 (pos 0) ∷ a in
+      let r : History = R 1 6 (pos 0) 0 ∷ c in
+      and-line (D 1) r (omega arith) refl (rw (leb·zero (room .references), leb·zero (room .pins)))
+      (and-line (R 1 6 (pos 0) 0) c (omega arith) refl (rw (leb·zero (room .references), leb·zero (room .pins)))
+      (and-line (C 1 100 6 0 0 0 (pos 0)) a (omega arith) refl (rw (leb·zero (room .references), leb·zero (room .pins)))
+      (and-line (A 1 100) [] (omega arith) refl (rw (leb·zero (room .references), leb·zero (room .pins))) at-start)))
 
 -- K and O too, where there is a row
 pub statements-accepted : Accepted program-room (states (O 1 5 5) ∷ N 1 100 (5 ∷ []) ∷ states (K 5 1) ∷ [])

@@ -13,7 +13,7 @@ use Rattle.words.specs.Lists.{any, count, of-first}
 use Rattle.facts.specs.Table.{table, fact-of}
 use Rattle.facts.specs.Classes.{class, no-class}
 use Rattle.facts.specs.Named.{GetObjectClass}
-use Rattle.lines.specs.Line.{Line, N, X, C, R, Z, states, K, O, if-O_then_else_, kind, is-thread, is-value, is-class, is-allowed, above-zero}
+use Rattle.lines.specs.Line.{Line, N, X, C, R, A, D, Z, states, K, O, if-O_then_else_, kind, is-thread, is-value, is-class, is-allowed, above-zero}
 use Rattle.history.specs.Past.{History, thread-of}
 use Rattle.history.specs.Frames.{depth}
 use Rattle.history.specs.Handles.{Alive, local, shared, is-local, is-shared, same-handle, makes, living}
@@ -84,6 +84,8 @@ class-next (N t env hs) past x = refl
 class-next (X t r) past x = refl
 class-next (C t env f a b c n) past x = refl
 class-next (R t f r p) past x = refl
+class-next (A t env) past x = refl
+class-next (D t) past x = refl
 class-next Z past x = refl
 class-next (states (K c s)) past x = refl
 class-next (states (O t h c)) past x = refl
@@ -93,6 +95,8 @@ states-by (N t env hs) x h = absurd (false≢true h)
 states-by (X t r) x h = absurd (false≢true h)
 states-by (C t env f a b c n) x h = absurd (false≢true h)
 states-by (R t f r p) x h = absurd (false≢true h)
+states-by (A t env) x h = absurd (false≢true h)
+states-by (D t) x h = absurd (false≢true h)
 states-by Z x h = absurd (false≢true h)
 states-by (states (K c s)) x h = absurd (false≢true h)
 states-by (states (O t h c)) x k = go (names-means t h x k)
@@ -120,6 +124,8 @@ made-states : (e : Line) (past : History) (x : Alive) → made-by-line e past x 
 made-states (N t env hs) past x m nz = absurd (nz refl)
 made-states (X t r) past x m nz = absurd (nz refl)
 made-states (C t env f a b c n) past x m nz = absurd (nz refl)
+made-states (A t env) past x m nz = absurd (nz refl)
+made-states (D t) past x m nz = absurd (nz refl)
 made-states Z past x m nz = absurd (nz refl)
 made-states (states s) past x m nz = absurd (nz refl)
 made-states (R t f r p) past x m nz = go (eqb f GetObjectClass) refl nz

@@ -4,7 +4,7 @@ use mathlib.Core.Path.{_≡_, refl, sym}
 use mathlib.Core.Logic.{_↔_}
 use mathlib.Core.Bool.{Bool, true, false, not, _&&_, false≢true, and-false}
 use mathlib.Core.List.{_∷_}
-use Rattle.lines.specs.Line.{Line, Statement, N, X, C, R, Z, states, K, O}
+use Rattle.lines.specs.Line.{Line, Statement, N, X, C, R, A, D, Z, states, K, O}
 use Rattle.history.specs.Past.{History, closed}
 use Rattle.history.specs.Handles.{living}
 use Rattle.history.specs.Buffers.{outstanding}
@@ -37,6 +37,8 @@ module _ (room : Room) (past : History) (so-far : Accepted room past) where
   classes-are (X t r) = (λ h. absurd (false≢true (sym h)), λ w. elim w [ ])
   classes-are (C t env f a b c n) = (λ h. absurd (false≢true (sym h)), λ w. elim w [ ])
   classes-are (R t f r p) = (λ h. absurd (false≢true (sym h)), λ w. elim w [ ])
+  classes-are (A t env) = (λ h. absurd (false≢true (sym h)), λ w. elim w [ ])
+  classes-are (D t) = (λ h. absurd (false≢true (sym h)), λ w. elim w [ ])
   classes-are Z = (λ h. absurd (false≢true (sym h)), λ w. elim w [ ])
   classes-are (states (O t h c)) = (λ k. class-unknown t h c (unknown c k), back)
     where
@@ -61,6 +63,8 @@ names-are past (N t env hs) = (λ h. absurd (false≢true (sym h)), λ w. elim w
 names-are past (X t r) = (λ h. absurd (false≢true (sym h)), λ w. elim w [ ])
 names-are past (C t env f a b c n) = (λ h. absurd (false≢true (sym h)), λ w. elim w [ ])
 names-are past (R t f r p) = (λ h. absurd (false≢true (sym h)), λ w. elim w [ ])
+names-are past (A t env) = (λ h. absurd (false≢true (sym h)), λ w. elim w [ ])
+names-are past (D t) = (λ h. absurd (false≢true (sym h)), λ w. elim w [ ])
 names-are past Z = (λ h. absurd (false≢true (sym h)), λ w. elim w [ ])
 names-are past (states (K c s)) = (λ h. absurd (false≢true (sym h)), λ w. elim w [ ])
 names-are past (states (O t h c)) = (

@@ -6,7 +6,7 @@ use mathlib.Core.List.{[], _∷_}
 use lib.ListN.{length}
 use borrow.Author.Tests.{eqb-true}
 use Rattle.words.specs.Choice.{if_then_else_}
-use Rattle.lines.specs.Line.{Line, N, X, C, R, Z, states}
+use Rattle.lines.specs.Line.{Line, N, X, C, R, A, D, Z, states}
 use Rattle.history.specs.Past.{History, thread-of, is-of, through}
 use Rattle.history.specs.Items.{items, items-after, top-of, asked}
 use Rattle.history.specs.Frames.{frames, frames-after, depth}
@@ -87,5 +87,7 @@ thread-is t (N s env hs) o = sym (eqb-true _ _ o)
 thread-is t (X s r) o = sym (eqb-true _ _ o)
 thread-is t (C s env f a b c n) o = sym (eqb-true _ _ o)
 thread-is t (R s f r p) o = sym (eqb-true _ _ o)
+thread-is t (A s env) o = sym (eqb-true _ _ o)
+thread-is t (D s) o = sym (eqb-true _ _ o)
 thread-is t Z o = absurd (false≢true o)
 thread-is t (states s) o = absurd (false≢true o)
