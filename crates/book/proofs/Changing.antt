@@ -10,19 +10,19 @@ use lib.ListN.{length}
 use lib.Dec.{ltb}
 use borrow.Author.Tests.{lt-ltb, le-ltb, ne-eqb}
 use Rattle.words.specs.Choice.{if_then_else_}
-use Rattle.history.specs.Items.{Item, in-native, in-call}
+use Rattle.history.specs.Items.{Item, in-native, in-call, attached}
 use Rattle.history.specs.Frames.{without-native, without-pushed}
 use Rattle.history.specs.Acceptance.{deepest}
 use Rattle.history.specs.Replies.{most-lines}
 use Rattle.book.specs.Layout.{width, lines-at, closed-at, env-at, pending-at, monitors-at, frames-at, capacity-at, items-at, natives-at, cell, Write, into, wrote, Stands}
-use Rattle.book.specs.Threads.{Row, Thread, thread-of, thread-in, frame-is, top-capacity, no-function, item-bound, item-is, items-of, items-in, top-is, lines-in, closed-in}
+use Rattle.book.specs.Threads.{Row, Thread, thread-of, thread-in, frame-is, top-capacity, no-function, attached-function, item-bound, item-is, items-of, items-in, top-is, lines-in, closed-in}
 use Rattle.book.specs.declared.Top.{Top}
 use Rattle.book.specs.declared.Top.the-variants as Top
-use Rattle.book.specs.Moves.{push-frame, frame-pushed, leave-native, native-left, pop-frame, frame-popped, raise-capacity, capacity-raised, push-item, item-pushed, pop-item, item-popped, env-set, pending-set, monitor-added, monitor-taken}
+use Rattle.book.specs.Moves.{push-frame, frame-pushed, leave-native, native-left, frames-ended, pop-frame, frame-popped, raise-capacity, capacity-raised, push-item, item-pushed, pop-item, item-popped, env-set, pending-set, monitor-added, monitor-taken, monitors-dropped}
 use Rattle.book.specs.Unfit.{overdone-in}
 use Rattle.book.specs.Changes.{with-frame, cut-to, with-raised, with-pending, with-monitors, with-env, pushed-item, stay, Kept, Changes}
 use Rattle.book.proofs.Rows.{after, Among, none, more, wider, after-apart, length-wrote, cell-wrote, cell-elsewhere, cell-apart}
-use Rattle.book.proofs.Frames.{depth-most, length-frames, thread-by, thread-left, left-within, thread-popped, popped-within, pushing-among, thread-pushed, thread-raised, thread-pending, thread-monitors, thread-env}
+use Rattle.book.proofs.Frames.{depth-most, length-frames, thread-by, thread-left, thread-bare, left-within, thread-popped, popped-within, pushing-among, thread-pushed, thread-raised, thread-pending, thread-monitors, thread-env}
 use Rattle.book.proofs.Items.{opened-most, length-items, items-by, opening-among, items-pushed, closing-among, items-popped, pushed-kept, popped-kept}
 
 -- ---- the lists are never longer than 64
@@ -114,6 +114,11 @@ unfolding native-left thread-in leave-native
 native-left-changes b t h =
     changes b t (λ x. cut-to (without-native (x .frames)) x) (more {j = frames-at} (omega arith) (omega arith) none) h (thread-left (cell b t)) (λ k. left-within (cell b t))
 
+pub frames-ended-changes : (b : List ℕ) (t : ℕ) → Stands b t → Changes b (frames-ended b t) t (cut-to []) stay
+unfolding frames-ended thread-in
+frames-ended-changes b t h =
+    changes b t (cut-to []) (more {j = frames-at} (omega arith) (omega arith) none) h (thread-bare (cell b t)) (λ k. omega arith)
+
 pub frame-popped-changes : (b : List ℕ) (t : ℕ) → Stands b t → Changes b (frame-popped b t) t (λ x. cut-to (without-pushed (x .frames)) x) stay
 unfolding frame-popped thread-in pop-frame
 frame-popped-changes b t h =
@@ -159,6 +164,10 @@ monitor-taken-changes b t h =
     changes b t (λ x. with-monitors (pred (x .monitors)) x) (more {j = monitors-at} (omega arith) (omega arith) none) h
     (unfold thread-in in thread-monitors (cell b t) (pred (thread-of (cell b t) .monitors))) (λ k. k)
 
+pub monitors-dropped-changes : (b : List ℕ) (t : ℕ) → Stands b t → Changes b (monitors-dropped b t) t (with-monitors 0) stay
+unfolding monitors-dropped
+monitors-dropped-changes b t h = changes b t (with-monitors 0) (more {j = monitors-at} (omega arith) (omega arith) none) h (thread-monitors (cell b t) 0) (λ k. k)
+
 -- ---- the open items
 turns : {ws : List Write} (b : List ℕ) (t : ℕ) (turn : List Item → List Item) → Among items-at width ws → Stands b t
     → items-of (after (cell b t) ws) ≡ turn (items-of (cell b t)) → (Kept (cell b t) → Kept (after (cell b t) ws))
@@ -200,29 +209,40 @@ item-popped-changes b t h =
     let c = cell b t in
     turns b t tail (unfold pop-item in closing-among _) h (items-popped c) (λ k. popped-kept c k)
 
--- what is pushed as a native, or as a call, is one
+-- what is pushed as a native, as an attached item, or as a call, is one
 pub pushed-native : (n : ℕ) → pushed-item no-function n ≡ in-native
 unfolding pushed-item item-is
 pushed-native n = refl
 
-pub pushed-call : (f n : ℕ) → 0 < f → f < item-bound → n < item-bound → pushed-item f n ≡ in-call f n
+pub pushed-attached : (n : ℕ) → pushed-item attached-function n ≡ attached
+unfolding pushed-item item-is
+pushed-attached n = refl
+
+pub pushed-call : (f n : ℕ) → 1 < f → f < item-bound → n < item-bound → pushed-item f n ≡ in-call f n
 unfolding pushed-item item-is
 pushed-call f n z a b =
     let x : f % item-bound ≡ f = omega arith in
     let y : n % item-bound ≡ n = omega arith in
-    rw (ne-eqb f no-function (λ q. absurd (omega arith)), x, y)
+    rw (ne-eqb f no-function (λ q. absurd (omega arith)), ne-eqb f attached-function (λ q. absurd (omega arith)), x, y)
 
 -- ---- the top item has one form in the code
 pub one-top : (x y : Top) → top-is x ≡ top-is y → x ≡ y
 unfolding top-is
 one-top Top.Nothing Top.Nothing e = refl
 one-top Top.Nothing Top.Native e = cc
+one-top Top.Nothing Top.Attached e = cc
 one-top Top.Nothing (Top.Call g m) e = cc
 one-top Top.Native Top.Nothing e = cc
 one-top Top.Native Top.Native e = refl
+one-top Top.Native Top.Attached e = cc
 one-top Top.Native (Top.Call g m) e = cc
+one-top Top.Attached Top.Nothing e = cc
+one-top Top.Attached Top.Native e = cc
+one-top Top.Attached Top.Attached e = refl
+one-top Top.Attached (Top.Call g m) e = cc
 one-top (Top.Call f n) Top.Nothing e = cc
 one-top (Top.Call f n) Top.Native e = cc
+one-top (Top.Call f n) Top.Attached e = cc
 one-top (Top.Call f n) (Top.Call g m) e = cc
 
 -- ---- one move after another

@@ -12,7 +12,7 @@ use Rattle.history.specs.Acceptance.{deepest}
 use Rattle.history.specs.Replies.{most-lines}
 use Rattle.book.specs.Layout.{width, lines-at, closed-at, env-at, pending-at, monitors-at, frames-at, items-at, cell, put, Write, into, wrote}
 use Rattle.book.specs.Threads.{thread-of, thread-in, items-of, items-in, lines-in}
-use Rattle.book.specs.Moves.{frame-pushed, leave-native, native-left, pop-frame, frame-popped, raise-capacity, capacity-raised, item-pushed, pop-item, item-popped, env-set, pending-set, monitor-added, monitor-taken, line-counted, closed-set}
+use Rattle.book.specs.Moves.{frame-pushed, leave-native, native-left, frames-ended, pop-frame, frame-popped, raise-capacity, capacity-raised, item-pushed, pop-item, item-popped, env-set, pending-set, monitor-added, monitor-taken, monitors-dropped, line-counted, closed-set}
 use Rattle.book.specs.Unfit.{overdone-in}
 use Rattle.book.proofs.Rows.{Among, none, more, wider, cell-put-same, length-wrote, cell-elsewhere, cell-apart}
 use Rattle.book.proofs.Items.{items-by}
@@ -64,6 +64,10 @@ module _ (b : List ℕ) (t : ℕ) where
   unfolding native-left leave-native
   native-left-elsewhere = one-written frames-at _ (omega arith) (omega arith)
 
+  pub frames-ended-elsewhere : Elsewhere t (lines-in b) b (frames-ended b t)
+  unfolding frames-ended
+  frames-ended-elsewhere = one-written frames-at 0 (omega arith) (omega arith)
+
   pub frame-popped-elsewhere : Elsewhere t (lines-in b) b (frame-popped b t)
   unfolding frame-popped pop-frame
   frame-popped-elsewhere = one-written frames-at _ (omega arith) (omega arith)
@@ -89,6 +93,10 @@ module _ (b : List ℕ) (t : ℕ) where
   pub monitor-taken-elsewhere : Elsewhere t (lines-in b) b (monitor-taken b t)
   unfolding monitor-taken
   monitor-taken-elsewhere = one-written monitors-at _ (omega arith) (omega arith)
+
+  pub monitors-dropped-elsewhere : Elsewhere t (lines-in b) b (monitors-dropped b t)
+  unfolding monitors-dropped
+  monitors-dropped-elsewhere = one-written monitors-at 0 (omega arith) (omega arith)
 
   pub item-pushed-elsewhere : (f n : ℕ) → Elsewhere t (lines-in b) b (item-pushed b t f n)
   unfolding item-pushed items-in

@@ -88,6 +88,10 @@ pub left-within : (c : Row) → length (without-native (thread-of c .frames)) �
 unfolding thread-of
 left-within c = omega (arith, native-lowest (frame-in c) (depth c) .within, depth-most c)
 
+-- D
+pub thread-bare : (c : Row) → thread-of (after c (into frames-at 0 ∷ [])) ≡ cut-to [] (thread-of c)
+thread-bare c = fewer c 0 (omega arith)
+
 -- C of 20
 pub thread-popped : (c : Row) → thread-of (after c (pop-frame (thread-of c))) ≡ cut-to (without-pushed (thread-of c .frames)) (thread-of c)
 unfolding pop-frame

@@ -14,7 +14,7 @@ use Rattle.history.specs.Acceptance.{deepest}
 use Rattle.rows.specs.Marks.{bit}
 use Rattle.rows.proofs.MarkLaws.{set-same, set-other, clear-same, clear-other}
 use Rattle.book.specs.Layout.{width, frames-at, items-at, natives-at, function-at, asked-at, Write, into}
-use Rattle.book.specs.Threads.{Row, stack, opened, no-function, item-is, items-of}
+use Rattle.book.specs.Threads.{Row, stack, opened, marked-function, item-is, items-of}
 use Rattle.book.specs.Moves.{with-mark, push-item, pop-item}
 use Rattle.book.specs.Changes.{pushed-item, Kept}
 use Rattle.book.proofs.Rows.{after, Among, none as nothing, more, after-apart}
@@ -104,7 +104,7 @@ pub items-pushed : (c : Row) (f n : ℕ) → length (items-of c) < deepest
     → items-of (after c (push-item (items-of c) (c natives-at) f n)) ≡ pushed-item f n ∷ items-of c
 unfolding push-item pushed-item
 items-pushed c f n h =
-    rw (lt-ltb (length (items-of c)) deepest h) (opened-more c f n (length (items-of c)) (eqb f no-function) (sym (length-items c)) h)
+    rw (lt-ltb (length (items-of c)) deepest h) (opened-more c f n (length (items-of c)) (marked-function f) (sym (length-items c)) h)
 
 -- ---- without the top item
 abbrev pub closing : ℕ → List Write
@@ -150,7 +150,7 @@ pub pushed-kept : (c : Row) (f n : ℕ) → length (items-of c) < deepest → Ke
 unfolding push-item
 pushed-kept c f n h k =
     rw (lt-ltb (length (items-of c)) deepest h)
-    (let w = with-mark (c natives-at) (length (items-of c)) (eqb f no-function) in
+    (let w = with-mark (c natives-at) (length (items-of c)) (marked-function f) in
     record {
       items-fit = omega arith;
       frames-fit = omega (arith, k .frames-fit, after-apart c frames-at (opening-among f n w (length (items-of c)) h) (inl (omega arith)));

@@ -7,15 +7,15 @@ use native.Mathlib.Decide.{ℕ-discrete}
 use native.Mathlib.Omega.{arith}
 use lib.Dec.{eqb}
 use lib.Bits.{bitAnd, bitOr}
-use Rattle.words.specs.Choice.{one}
-use Rattle.history.specs.Items.{Item}
+use Rattle.words.specs.Choice.{if_then_else_, one}
+use Rattle.history.specs.Items.{Item, in-native, attached}
 use Rattle.history.specs.Acceptance.{deepest}
 use Rattle.rows.specs.Scan.{how-many}
 use Rattle.rows.specs.Marks.{bit}
 use Rattle.rows.proofs.ScanLaws.{how-many-suc}
 use Rattle.rows.proofs.BitLaws.{bit-zero, bit-suc, bit-and, bit-or, bit-of-zero}
 use Rattle.book.specs.Layout.{items-at, natives-at, function-at, asked-at}
-use Rattle.book.specs.Threads.{Row, stack, opened, item-is, items-of, natives}
+use Rattle.book.specs.Threads.{Row, stack, opened, attached-function, item-is, items-of, natives}
 use Rattle.book.specs.Turns.{By-turns}
 use Rattle.book.proofs.AllThreads.{or-left, or-right}
 use Rattle.book.proofs.Items.{item-in}
@@ -23,7 +23,11 @@ use Rattle.book.proofs.Items.{item-in}
 -- ---- a count of marks
 native-more : (p : Bool) (f n : ℕ) (is : List Item) → natives (item-is p f n ∷ is) ≡ natives is + one p
 unfolding item-is
-native-more true f n is = omega arith
+native-more true f n is = go (eqb f attached-function)
+  where
+    go : (q : Bool) → natives ((if q then attached else in-native) ∷ is) ≡ natives is + 1
+    go true = omega arith
+    go false = omega arith
 native-more false f n is = omega arith
 
 natives-below : (c : Row) (d : ℕ) → natives (stack (item-in c) d) ≡ how-many (bit (c natives-at)) d

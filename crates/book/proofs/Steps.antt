@@ -7,7 +7,7 @@ use mathlib.Core.Option.{Option, some}
 use native.Mathlib.Nat.{not-suc-le-zero, le-of-suc-le-suc}
 use native.Mathlib.Omega.{arith}
 use borrow.Author.Fill.{fill-none, fill-more}
-use borrow.Author.Tests.{lt-ltb, le-ltb, ltb-false, eqb-true, not-true, not-false}
+use borrow.Author.Tests.{lt-ltb, le-ltb, ltb-false, eqb-true, not-true, not-false, ne-eqb}
 use lib.ListN.{length, getD, set, replicate, drop, List·getD-eq-default}
 use lib.Seq.{drop-length}
 use lib.Dec.{eqb, ltb}
@@ -22,10 +22,10 @@ use Rattle.history.specs.Replies.{most-lines}
 use Rattle.rows.specs.Scan.{how-many}
 use Rattle.rows.specs.Marks.{bit}
 use Rattle.book.specs.Layout.{width, whole, lines-at, closed-at, env-at, pending-at, monitors-at, frames-at, capacity-at, pushed-at, items-at, natives-at, function-at, asked-at, cell, put, wrote}
-use Rattle.book.specs.Threads.{stack, depth, frame-is, is-pushed, thread-of, thread-in, top-capacity, opened, no-function, item-is, items-of, items-in, natives, top-is, lines-in, closed-in, env-elsewhere, all-monitors}
+use Rattle.book.specs.Threads.{stack, depth, frame-is, is-pushed, thread-of, thread-in, top-capacity, opened, attached-function, marked-function, item-bound, item-is, items-of, items-in, natives, top-is, lines-in, closed-in, env-elsewhere, all-monitors}
 use Rattle.book.specs.declared.Top.{Top}
 use Rattle.book.specs.declared.Top.the-variants as Top
-use Rattle.book.specs.Moves.{push-frame, frame-pushed, leave-native, native-left, pop-frame, frame-popped, raise-capacity, capacity-raised, with-mark, push-item, item-pushed, pop-item, item-popped, env-set, pending-set, monitor-added, monitor-taken, line-counted, closed-set, cleared}
+use Rattle.book.specs.Moves.{push-frame, frame-pushed, leave-native, native-left, frames-ended, pop-frame, frame-popped, raise-capacity, capacity-raised, with-mark, push-item, item-pushed, pop-item, item-popped, env-set, pending-set, monitor-added, monitor-taken, monitors-dropped, line-counted, closed-set, cleared}
 use Rattle.book.specs.Turns.{By-turns}
 use Rattle.book.specs.Unfit.{overdone, overdone-in, unfit}
 use Rattle.book.proofs.AllThreads.{rest, rest-none, rest-more, or-left, or-right, any-first, any-next, any-last, sum-first, sum-next, sum-last}
@@ -134,6 +134,10 @@ pub leave-all : (b b₁ : List ℕ) (t d : ℕ) → d ≡ length (without-native
 unfolding native-left leave-native wrote
 leave-all b b₁ t d e x = rw (← e) x
 
+pub no-frames : (b b₁ : List ℕ) (t : ℕ) → b₁ ≡ put b t frames-at 0 → b₁ ≡ frames-ended b t
+unfolding frames-ended wrote
+no-frames b b₁ t x = x
+
 length-popped : (fs : List Frame) → length (without-pushed fs) ≡ length fs - one (top-pushed fs)
 length-popped [] = omega arith
 length-popped (entered ∷ fs) = omega arith
@@ -175,14 +179,27 @@ item-some b t (suc d) w f n p r e z m o x y i =
     (i ∙ ap {B = Option Item} (λ x. some x)
     (same-item (o ∙ ap₂ bit m k) (x ∙ ap (λ (j : ℕ). cell b t (function-at j)) k) (y ∙ ap (λ (j : ℕ). cell b t (asked-at j)) k)))
 
+-- an item by its mark and its function
+pub item-attached : (f n : ℕ) (p : Bool) → p ≡ true → f ≡ attached-function → top-is Top.Attached ≡ some (item-is p f n)
+unfolding top-is item-is
+item-attached f n p m e = rw (m, e)
+
+pub item-native : (f n : ℕ) (p : Bool) → p ≡ true → (f ≡ attached-function → ⊥) → top-is Top.Native ≡ some (item-is p f n)
+unfolding top-is item-is
+item-native f n p m d = rw (m, ne-eqb f attached-function d)
+
+pub item-call : (f n g m : ℕ) (p : Bool) → p ≡ false → g ≡ f % item-bound → m ≡ n % item-bound → top-is (Top.Call g m) ≡ some (item-is p f n)
+unfolding top-is item-is
+item-call f n g m p c x y = rw (c, x, y)
+
 pub item-full : (b : List ℕ) (t f n d : ℕ) → d ≡ length (items-in b t) → deepest ≤ d → b ≡ item-pushed b t f n
 unfolding item-pushed push-item wrote
 item-full b t f n d e h = rw (le-ltb (length (items-in b t)) deepest (omega arith))
 
-pub item-room : (b b₁ b₂ b₃ b₄ : List ℕ) (t f n d k w : ℕ) → d ≡ length (items-in b t) → d < deepest → k ≡ cell b t natives-at → w ≡ with-mark k d (eqb f no-function)
+pub item-room : (b b₁ b₂ b₃ b₄ : List ℕ) (t f n d k w : ℕ) (m : Bool) → d ≡ length (items-in b t) → d < deepest → k ≡ cell b t natives-at → m ≡ marked-function f → w ≡ with-mark k d m
     → b₁ ≡ put b t (function-at d) f → b₂ ≡ put b₁ t (asked-at d) n → b₃ ≡ put b₂ t items-at (d + 1) → b₄ ≡ put b₃ t natives-at w → b₄ ≡ item-pushed b t f n
 unfolding item-pushed push-item wrote
-item-room b b₁ b₂ b₃ b₄ t f n d k w e h p q x y z u = rw (lt-ltb (length (items-in b t)) deepest (omega arith), ← e, ← p, ← q) (cc)
+item-room b b₁ b₂ b₃ b₄ t f n d k w m e h p i q x y z u = rw (lt-ltb (length (items-in b t)) deepest (omega arith), ← e, ← p, ← i, ← q) (cc)
 
 pub item-off : (b b₁ : List ℕ) (t d x : ℕ) → d ≡ length (items-in b t) → x ≡ d - 1 → b₁ ≡ put b t items-at x → b₁ ≡ item-popped b t
 unfolding item-popped pop-item wrote
@@ -208,6 +225,10 @@ pred-is (suc n) = omega arith
 pub one-taken : (b b₁ : List ℕ) (t k m : ℕ) → k ≡ thread-in b t .monitors → m ≡ k - 1 → b₁ ≡ put b t monitors-at m → b₁ ≡ monitor-taken b t
 unfolding monitor-taken wrote
 one-taken b b₁ t k m p q x = rw (pred-is (thread-in b t .monitors), ← p, ← q) x
+
+pub all-dropped : (b b₁ : List ℕ) (t : ℕ) → b₁ ≡ put b t monitors-at 0 → b₁ ≡ monitors-dropped b t
+unfolding monitors-dropped wrote
+all-dropped b b₁ t x = x
 
 -- another thread's env, looked for from thread s on
 unfoldable pub elsewhere-from : List ℕ → ℕ → ℕ → ℕ → Bool
