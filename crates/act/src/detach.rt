@@ -20,6 +20,6 @@ pub fn write_book(book: &mut [u64], t: u32)
 pub fn detach(rows: &mut [Number], marks: &mut [u64], book: &mut [u64], t: u32)
     ensures { λ _. ⌜ ((ps ns cs : List ℕ) (line n : ℕ) → tables (now (rows .exit)) (now (marks .exit)) ps ns (now (book .exit)) cs ≡ acted line (D t) n (tables (now (rows .entry)) (now (marks .entry)) ps ns (now (book .entry)) cs)) ⌝ }
 {
-    rows::references::end_frames(rows, marks, t as Number, 0);
+    rows::references::end_frames(rows, marks, t as Number, 1);
     write_book(book, t);
 }

@@ -12,7 +12,7 @@ use Rattle.numbers.specs.Signed.{is-i32, largest-i32}
 use Rattle.facts.specs.Table.{fact-of, family, is-critical, is-function, first-function, last-function}
 use Rattle.facts.specs.Named.{PushLocalFrame, EnsureLocalCapacity}
 use Rattle.facts.specs.Results.{is-buffer-result}
-use Rattle.lines.specs.Line.{Line, N, X, C, R, Z, states, is-allowed, is-thread, is-env, is-value, threads, place-allows, capacity-allows, is-zero, above-zero}
+use Rattle.lines.specs.Line.{Line, N, X, C, R, A, D, Z, states, is-allowed, is-thread, is-env, is-value, threads, place-allows, capacity-allows, is-zero, above-zero}
 use Rattle.history.specs.Past.{History, thread-of, is-of}
 use Rattle.history.specs.Frames.{depth}
 use Rattle.history.specs.Handles.{Alive, makes}
@@ -38,6 +38,8 @@ is-a-thread (N s env hs) t o h = rw (eqb-true t s o) (thread-of-N s env hs h)
 is-a-thread (X s r) t o h = rw (eqb-true t s o) (and-left (is-thread s) (is-value r) h)
 is-a-thread (C s env f a b c n) t o h = rw (eqb-true t s o) (thread-of-C s env f a b c n h)
 is-a-thread (R s f r p) t o h = rw (eqb-true t s o) (thread-of-R s f r p h)
+is-a-thread (A s env) t o h = rw (eqb-true t s o) (and-left (is-thread s) (is-env env) h)
+is-a-thread (D s) t o h = rw (eqb-true t s o) h
 is-a-thread Z t o h = absurd (false≢true o)
 is-a-thread (states s) t o h = absurd (false≢true o)
 

@@ -2,7 +2,7 @@
 use Prim.Native.Nat.{ℕ, suc, pred, _+_, _-_, _≤_, _<_}
 use mathlib.Core.Path.{_≡_, refl, sym, ap, _∙_}
 use mathlib.Core.Bool.{Bool, true, false, _&&_}
-use mathlib.Core.List.{List, _∷_}
+use mathlib.Core.List.{List, [], _∷_}
 use native.Mathlib.Omega.{arith}
 use lib.Dec.{eqb}
 use lib.IntN.{ℤ}
@@ -10,7 +10,7 @@ use lib.ListN.{length}
 use borrow.Author.Tests.{eqb-true}
 use Rattle.words.specs.Choice.{if_then_else_}
 use Rattle.facts.specs.Named.{PushLocalFrame, PopLocalFrame, EnsureLocalCapacity, MonitorEnter, MonitorExit}
-use Rattle.lines.specs.Line.{Line, N, X, C, R, is-zero}
+use Rattle.lines.specs.Line.{Line, N, X, C, R, A, D, is-zero}
 use Rattle.history.specs.Past.{History, is-of}
 use Rattle.history.specs.Items.{items, top-of, asked}
 use Rattle.history.specs.Frames.{entered, pushed, frames, frames-after, without-pushed, depth}
@@ -22,10 +22,10 @@ use Rattle.history.specs.Replies.{most-lines}
 use Rattle.history.proofs.Threads.{own-frames, own-capacities, own-pending, own-monitors, own-env, other-frames, other-capacities, other-pending, other-monitors, other-env-of, own-depth}
 use Rattle.book.specs.Layout.{Stands}
 use Rattle.book.specs.Threads.{Thread, thread-in}
-use Rattle.book.specs.Moves.{frame-pushed, native-left, frame-popped, capacity-raised, env-set, pending-set, monitor-added, monitor-taken}
+use Rattle.book.specs.Moves.{frame-pushed, native-left, frames-ended, frame-popped, capacity-raised, env-set, pending-set, monitor-added, monitor-taken}
 use Rattle.book.specs.Changes.{with-frame, cut-to, with-raised, with-pending, with-monitors, with-env, stay, Changes}
-use Rattle.book.proofs.Changing.{frame-pushed-changes, native-left-changes, frame-popped-changes, capacity-raised-changes, env-set-changes, pending-set-changes, monitor-added-changes, monitor-taken-changes, and-then}
-use Rattle.tables.specs.Acting.{env-kept, native-entered, status-acted}
+use Rattle.book.proofs.Changing.{frame-pushed-changes, native-left-changes, frames-ended-changes, frame-popped-changes, capacity-raised-changes, env-set-changes, pending-set-changes, monitor-added-changes, monitor-taken-changes, monitors-dropped-changes, and-then}
+use Rattle.tables.specs.Acting.{env-kept, native-entered, detached, status-acted}
 use Rattle.demands.specs.Tied.{past-thread}
 
 -- ---- a thread after a line of its own: `held` locals are alive in its top frame, and `n` was asked of its open call
@@ -132,6 +132,22 @@ module _ (b : List ℕ) (t : ℕ) (stands : Stands b t) (held n : ℕ) where
     where
       same-env : (k : ℕ) (x : Thread) → with-frame k entered x .env ≡ x .env
       same-env k x = unfold with-frame in refl
+
+  -- ---- A: as N with no handles
+
+  pub attach-changes : (env : ℕ) → length (thread-in b t .frames) < deepest → Changes b (native-entered b t env []) t (thread-after (A t env) held n) stay
+  attach-changes env few = becomes (thread-after (A t env) held n) (enter-changes env [] few) (unfold thread-after in refl)
+
+  -- ---- D
+
+  detached-thread : (x : Thread) → with-monitors 0 (cut-to [] x) ≡ thread-after (D t) held n x
+  unfolding with-monitors cut-to thread-after
+  detached-thread x = refl
+
+  pub detach-changes : Changes b (detached b t) t (thread-after (D t) held n) stay
+  detach-changes =
+      let first = frames-ended-changes b t stands in
+      becomes (thread-after (D t) held n) (and-then first (monitors-dropped-changes (frames-ended b t) t (omega (arith, first .as-long)))) (detached-thread (thread-in b t))
 
   -- ---- X
 

@@ -14,7 +14,7 @@ use Rattle.facts.specs.Table.{fact-of}
 use Rattle.facts.specs.Results.{is-buffer-result}
 use Rattle.facts.specs.declared.Result.{Result}
 use Rattle.facts.specs.declared.Result.the-variants as Result
-use Rattle.lines.specs.Line.{Line, N, X, C, R, Z, states, above-zero}
+use Rattle.lines.specs.Line.{Line, N, X, C, R, A, D, Z, states, above-zero}
 use Rattle.rows.specs.Slots.{held, wipe, wipe-first}
 use Rattle.history.specs.Past.{History, thread-of}
 use Rattle.history.specs.Frames.{depth}
@@ -235,6 +235,8 @@ one-made (R t f r p) d = go (fact-of f .result) (eqb (above-zero r) 0)
     go Result.Status false = omega arith
     go Result.Nothing true = omega arith
     go Result.Nothing false = omega arith
+one-made (A t env) d = omega arith
+one-made (D t) d = omega arith
 one-made Z d = omega arith
 one-made (states s) d = omega arith
 

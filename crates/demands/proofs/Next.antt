@@ -11,7 +11,7 @@ use borrow.Author.Tests.{ne-eqb, ltb-true, leb-true, le-leb}
 use Rattle.words.specs.Choice.{if_then_else_, within}
 use Rattle.words.specs.Lists.{count}
 use Rattle.facts.specs.Named.{PushLocalFrame}
-use Rattle.lines.specs.Line.{Line, N, X, C, R, Z, states, K, O, is-allowed, is-zero, threads, classes, is-class, above-zero}
+use Rattle.lines.specs.Line.{Line, N, X, C, R, A, D, Z, states, K, O, is-allowed, is-zero, threads, classes, is-class, above-zero}
 use Rattle.history.specs.Past.{History, thread-of, is-of, closed}
 use Rattle.history.specs.Items.{Item, items, items-after, top-of, asked}
 use Rattle.history.specs.Frames.{Frame, pushed, frames, frames-after, depth}
@@ -27,10 +27,10 @@ use Rattle.history.proofs.Accepting.{passed}
 use Rattle.history.proofs.Threads.{own-items, other-items}
 use Rattle.history.proofs.Stacks.{monitors-in-lines}
 use Rattle.book.specs.Layout.{whole, cell, Stands}
-use Rattle.book.specs.Threads.{Thread, thread-in, items-in, lines-in, closed-in, no-function}
+use Rattle.book.specs.Threads.{Thread, thread-in, items-in, lines-in, closed-in, no-function, attached-function}
 use Rattle.book.specs.Moves.{line-counted, closed-set}
 use Rattle.book.specs.Changes.{pushed-item, stay, Kept, Changes, Traced}
-use Rattle.book.proofs.Changing.{item-pushed-changes, pushed-native, pushed-call, item-popped-changes}
+use Rattle.book.proofs.Changing.{item-pushed-changes, pushed-native, pushed-attached, pushed-call, item-popped-changes}
 use Rattle.book.proofs.Tracing.{line-counted-traces, closed-set-traces}
 use Rattle.tables.specs.Tables.{Tables, handles-in}
 use Rattle.tables.specs.Acting.{book-after, classes-after, acted, items-moved}
@@ -41,7 +41,7 @@ use Rattle.demands.proofs.Weighed.{frames-own, handles-tied, own-frames
 use Rattle.demands.proofs.PastRoom.{Roomy, roomy}
 use Rattle.demands.proofs.Allowed.{is-a-thread, thread-within, asks}
 use Rattle.demands.proofs.RowsActed.{references-acted, pins-acted}
-use Rattle.demands.proofs.BookActed.{thread-after, past-thread-own, past-thread-other, enter-changes, leave-changes, call-changes, return-changes}
+use Rattle.demands.proofs.BookActed.{thread-after, past-thread-own, past-thread-other, enter-changes, attach-changes, detach-changes, leave-changes, call-changes, return-changes}
 
 -- ---- all but the open items
 
@@ -136,6 +136,14 @@ module _ (room : Room) (T : Tables) (past : History) (tied : Tied room T past) (
           → length (thread-in (T .book) t .frames) < deepest
       pushes k l =
           omega (arith, l, ap (λ (q : Bool). length (if q then pushed ∷ frames t past else frames t past)) k, ap length (own-frames-tied room T past tied so-far t))
+  book-acted (A t env) fine fits =
+      let e = A t env in
+      booked e t _ (in-book e t (eqb-self t) fine) (λ s. refl) refl
+      (attach-changes (T .book) t (stands e t (eqb-self t) fine) (held-in t) (asked-of t) env
+      (omega (arith, frames-left e fits, ap length (own-frames-tied room T past tied so-far t))))
+  book-acted (D t) fine fits =
+      let e = D t in
+      booked e t _ (in-book e t (eqb-self t) fine) (λ s. refl) refl (detach-changes (T .book) t (stands e t (eqb-self t) fine) (held-in t) (asked-of t))
   book-acted Z fine fits =
       record {
         threads-so = λ s. counted .threads s ∙ over .threads s ∙ tied .threads s ∙ sym (past-thread-other s Z past refl);
@@ -172,6 +180,8 @@ classes-acted room T past tied (N t env hs) fine = tied .class-table
 classes-acted room T past tied (X t r) fine = tied .class-table
 classes-acted room T past tied (C t env f a b c n) fine = tied .class-table
 classes-acted room T past tied (R t f r p) fine = tied .class-table
+classes-acted room T past tied (A t env) fine = tied .class-table
+classes-acted room T past tied (D t) fine = tied .class-table
 classes-acted room T past tied Z fine = tied .class-table
 classes-acted room T past tied (states (O t h c)) fine = tied .class-table
 classes-acted room T past tied (states (K c s)) fine =
@@ -191,6 +201,8 @@ same-length (N t env hs) T = refl
 same-length (X t r) T = refl
 same-length (C t env f a b c n) T = refl
 same-length (R t f r p) T = refl
+same-length (A t env) T = refl
+same-length (D t) T = refl
 same-length Z T = refl
 same-length (states (O t h c)) T = refl
 same-length (states (K c s)) T = go (within 1 (length (T .classes)) c)
@@ -277,6 +289,11 @@ module _ (b : List ℕ) (past : History) (long : whole ≤ length b) (opened : I
       (item-pushed-changes b t f (above-zero n) (row-stands e t (eqb-self t) fine) (some-room t (fits .items-few)))
   items-acted room (R t f r p) fine fits =
       moved (R t f r p) t _ tail (λ s. refl) refl (item-popped-changes b t (row-stands (R t f r p) t (eqb-self t) fine))
+  items-acted room (A t env) fine fits =
+      let e = A t env in
+      moved e t _ (λ is. pushed-item attached-function 0 ∷ is) (λ s. refl) (ap (λ (i : Item). i ∷ items t past) (pushed-attached 0))
+      (item-pushed-changes b t attached-function 0 (row-stands e t (eqb-self t) fine) (some-room t (fits .items-few)))
+  items-acted room (D t) fine fits = moved (D t) t _ tail (λ s. refl) refl (item-popped-changes b t (row-stands (D t) t (eqb-self t) fine))
   items-acted room Z fine fits =
       record {
         items-so = record { open-items = λ s. opened .open-items s ∙ sym (other-items s Z past refl); counts = opened .counts };

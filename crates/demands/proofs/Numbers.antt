@@ -10,7 +10,7 @@ use Rattle.facts.specs.Table.{fact-of, family}
 use Rattle.facts.specs.Classes.{no-class, class-made}
 use Rattle.facts.specs.Named.{PopLocalFrame}
 use Rattle.facts.specs.Results.{is-buffer-place}
-use Rattle.lines.specs.Line.{Line, N, X, C, R, Z, states, K, O}
+use Rattle.lines.specs.Line.{Line, N, X, C, R, A, D, Z, states, K, O}
 use Rattle.lines.specs.Reading.{Read, says, refused, read}
 use Rattle.rows.specs.Table.{Layout, Table, row, row-at, found, taken, ended-all}
 use Rattle.rows.specs.Exact.{Exact}
@@ -64,6 +64,8 @@ module _ (T : Tables) (k : Clean-tables T) where
       go false true = clean-ended-all references (from-frame t (length (thread-in (T .book) t .frames))) (T .references) (k .reference-table)
       go false false = k .reference-table
   clean-references line (R t f r p) = clean-all-taken references (map (reference-of line (class-made f)) (made-by (R t f r p) (seen-in T))) (T .references) (k .reference-table)
+  clean-references line (A t env) = clean-all-taken references (map (reference-of line no-class) (made-by (A t env) (seen-in T))) (T .references) (k .reference-table)
+  clean-references line (D t) = clean-ended-all references (from-frame t 1) (T .references) (k .reference-table)
   clean-references line Z = clean-all-taken references (map (reference-of line no-class) (made-by Z (seen-in T))) (T .references) (k .reference-table)
   clean-references line (states (K c s)) = clean-all-taken references (map (reference-of line no-class) (made-by (states (K c s)) (seen-in T))) (T .references) (k .reference-table)
   clean-references line (states (O t h c)) = clean-changed references (is-handle (owner-of t h) h) (with-class c) (T .references) (k .reference-table)
@@ -81,6 +83,8 @@ module _ (T : Tables) (k : Clean-tables T) where
       go true = clean-first-ended pins (is-buffer (pin-owner f t) (family f) b) (T .pins) (k .pin-table)
       go false = k .pin-table
   clean-pins line (R t f r p) = got-clean line (R t f r p)
+  clean-pins line (A t env) = got-clean line (A t env)
+  clean-pins line (D t) = got-clean line (D t)
   clean-pins line Z = got-clean line Z
   clean-pins line (states s) = got-clean line (states s)
 

@@ -9,7 +9,7 @@ use lib.Dec.{leb}
 use lib.ListN.{length, length-map}
 use borrow.Author.Tests.{leb-true, le-leb}
 use Rattle.words.specs.Lists.{count}
-use Rattle.lines.specs.Line.{Line, N, X, C, R, Z, states}
+use Rattle.lines.specs.Line.{Line, N, X, C, R, A, D, Z, states}
 use Rattle.rows.specs.Slots.{held, wipe, wipe-first}
 use Rattle.history.specs.Past.{History, thread-of}
 use Rattle.history.specs.Frames.{frames, depth}
@@ -126,6 +126,8 @@ module _ (room : Room) (past : History) (so-far : Accepted room past) where
   references-left (X t r) = none-more (X t r) (unfold makes in refl)
   references-left (C t env f a b c n) = none-more (C t env f a b c n) (unfold makes in refl)
   references-left (R t f r p) = all-fit (R t f r p) (rows-added room past so-far (R t f r p) (frames-grow-R t f r p (frames t past)) (λ x. refl))
+  references-left (A t env) = none-more (A t env) (unfold makes in refl)
+  references-left (D t) = none-more (D t) (unfold makes in refl)
   references-left Z = none-more Z (unfold makes in refl)
   references-left (states s) = none-more (states s) (unfold makes in refl)
 
@@ -179,5 +181,7 @@ module _ (room : Room) (past : History) (so-far : Accepted room past) where
   pins-left (X t r) = all-pins-fit (X t r) (λ x. refl)
   pins-left (C t env f a b c n) = no-more-pins (C t env f a b c n) (unfold gets in refl)
   pins-left (R t f r p) = all-pins-fit (R t f r p) (λ x. refl)
+  pins-left (A t env) = all-pins-fit (A t env) (λ x. refl)
+  pins-left (D t) = all-pins-fit (D t) (λ x. refl)
   pins-left Z = all-pins-fit Z (λ x. refl)
   pins-left (states s) = all-pins-fit (states s) (λ x. refl)

@@ -13,7 +13,7 @@ use Rattle.words.specs.Lists.{keep, count, but-first}
 use Rattle.facts.specs.Table.{fact-of}
 use Rattle.facts.specs.Named.{DeleteGlobalRef, DeleteLocalRef, DeleteWeakGlobalRef}
 use Rattle.facts.specs.Results.{is-buffer-place}
-use Rattle.lines.specs.Line.{Line, N, X, C, R, Z, states, kind}
+use Rattle.lines.specs.Line.{Line, N, X, C, R, A, D, Z, states, kind}
 use Rattle.rows.specs.Slots.{held, wipe, wipe-first}
 use Rattle.history.specs.Past.{History, thread-of}
 use Rattle.history.specs.Frames.{depth}
@@ -78,6 +78,8 @@ one-deleted (C t env f a b c n) l single = go (eqb f DeleteLocalRef) refl
               (λ y. all-three (eqb f DeleteWeakGlobalRef) (eqb (kind a) 3) (is-shared a x) y .2)) l,
         )
 one-deleted (R t f r p) l single = omega (arith, count-none l)
+one-deleted (A t env) l single = omega (arith, count-none l)
+one-deleted (D t) l single = omega (arith, count-none l)
 one-deleted Z l single = omega (arith, count-none l)
 one-deleted (states s) l single = omega (arith, count-none l)
 
@@ -141,6 +143,8 @@ released (X t r) = (ordinary 0 0, λ x h. absurd (false≢true h))
 released (C t env f a b c n) =
     (pin t f b, λ x h. same-pin-is (pin t f b) x (and-right (is-buffer-place (fact-of f .b)) (same-pin (pin t f b) x) h))
 released (R t f r p) = (ordinary 0 0, λ x h. absurd (false≢true h))
+released (A t env) = (ordinary 0 0, λ x h. absurd (false≢true h))
+released (D t) = (ordinary 0 0, λ x h. absurd (false≢true h))
 released Z = (ordinary 0 0, λ x h. absurd (false≢true h))
 released (states s) = (ordinary 0 0, λ x h. absurd (false≢true h))
 

@@ -15,7 +15,7 @@ use Rattle.words.specs.Lists.{count}
 use Rattle.facts.specs.Table.{fact-of, family}
 use Rattle.facts.specs.Named.{PopLocalFrame}
 use Rattle.facts.specs.Results.{is-buffer-place}
-use Rattle.lines.specs.Line.{Line, N, X, C, R, Z, states, K, O, kind, is-thread, is-value, is-class, is-allowed}
+use Rattle.lines.specs.Line.{Line, N, X, C, R, A, D, Z, states, K, O, kind, is-thread, is-value, is-class, is-allowed}
 use Rattle.rows.specs.Slots.{held, wipe, wipe-first}
 use Rattle.rows.specs.Table.{Table, found, changed, ended-all}
 use Rattle.rows.specs.View.{view}
@@ -241,6 +241,11 @@ module _ (room : Room) (T : Tables) (past : History) (tied : Tied room T past) (
   references-acted (C t env f a b c n) fine k = called t env f a b c n fine (k .anew)
   references-acted (R t f r p) fine k =
       taken (R t f r p) (k .anew) (λ x. refl) (rows-added room past so-far (R t f r p) (frames-grow-R t f r p (frames t past)) (λ x. refl))
+  references-acted (A t env) fine k =
+      taken (A t env) (k .anew) (λ x. refl) (rows-added room past so-far (A t env) (omega arith) (λ x. refl))
+  references-acted (D t) fine k =
+      ended (D t) (k .anew) (λ x. refl) t 1 (not-thread-zero t (is-a-thread (D t) t (eqb-self t) fine)) (ap suc (sym (own-depth t (D t) past (eqb-self t))))
+      (rows-left room past so-far (D t) t (λ s. refl) (λ x. refl) (unfold makes in refl))
   references-acted Z fine k = taken Z (k .anew) (λ x. refl) (rows-added room past so-far Z (omega arith) (λ x. refl))
   references-acted (states (K c s)) fine k =
       taken (states (K c s)) (k .anew) (λ x. refl) (rows-added room past so-far (states (K c s)) (omega arith) (λ x. refl))
@@ -299,5 +304,7 @@ module _ (room : Room) (T : Tables) (past : History) (tied : Tied room T past) (
       go true q = released t env f a b c n (not-thread-zero t (is-a-thread (C t env f a b c n) t (eqb-self t) fine)) q
       go false q = kept t env f a b c n q
   pins-acted (R t f r p) fine = got (R t f r p) (λ x. refl)
+  pins-acted (A t env) fine = got (A t env) (λ x. refl)
+  pins-acted (D t) fine = got (D t) (λ x. refl)
   pins-acted Z fine = got Z (λ x. refl)
   pins-acted (states s) fine = got (states s) (λ x. refl)

@@ -9,7 +9,7 @@ use lib.ListN.{length, getD}
 use borrow.Author.Tests.{leb-true}
 use Rattle.words.specs.Choice.{if_then_else_}
 use Rattle.words.specs.Lists.{count, sum, of-first}
-use Rattle.lines.specs.Line.{Line, N, X, C, R, Z, states, classes, is-class}
+use Rattle.lines.specs.Line.{Line, N, X, C, R, A, D, Z, states, classes, is-class}
 use Rattle.rows.specs.Slots.{held}
 use Rattle.rows.specs.Table.{room as room-of-rows, alive}
 use Rattle.rows.specs.View.{view}
@@ -55,6 +55,8 @@ frames-own (N t env hs) past = own-frames t (N t env hs) past (eqb-self t)
 frames-own (X t r) past = own-frames t (X t r) past (eqb-self t)
 frames-own (C t env f a b c n) past = own-frames t (C t env f a b c n) past (eqb-self t)
 frames-own (R t f r p) past = own-frames t (R t f r p) past (eqb-self t)
+frames-own (A t env) past = own-frames t (A t env) past (eqb-self t)
+frames-own (D t) past = own-frames t (D t) past (eqb-self t)
 frames-own Z past = unfold frames through in refl
 frames-own (states s) past = unfold frames through in refl
 

@@ -5,24 +5,24 @@ use mathlib.Core.Bool.{true, not, false≢true}
 use mathlib.Core.List.{List, [], _∷_, _++_, tail}
 use native.Mathlib.Omega.{arith}
 use lib.ListN.{length}
-use borrow.Author.Tests.{not-true}
+use borrow.Author.Tests.{ltb-false}
 use Rattle.lines.specs.Line.{A, D}
 use Rattle.history.specs.Past.{History, closed}
 use Rattle.history.specs.Items.{Item, attached, items, top-of, is-empty}
 use Rattle.history.specs.Frames.{entered, frames, depth}
-use Rattle.history.specs.Handles.{Alive, local, makes, ends, living}
+use Rattle.history.specs.Handles.{local, makes}
 use Rattle.history.specs.Capacities.{capacities}
 use Rattle.history.specs.Thread.{pending, monitors}
 use Rattle.history.specs.Acceptance.{Room, in-step}
 use Rattle.history.specs.Accepted.{Accepted, and-line}
 use Rattle.history.specs.Whole.{Whole}
-use Rattle.history.specs.Lives.{Lives, detaches}
-use Rattle.history.proofs.Tests.{and-right, true-not-false, eqb-self}
-use Rattle.history.proofs.Counts.{keep-member}
-use Rattle.history.proofs.Threads.{own-items, own-frames, own-capacities, own-pending, own-monitors}
+use Rattle.history.specs.Lives.{Lives}
+use Rattle.history.proofs.Tests.{and-right, eqb-self}
+use Rattle.history.proofs.Threads.{own-items, own-frames, own-capacities, own-pending, own-monitors, own-depth}
 use Rattle.history.proofs.Capacities.{capacities-fit}
 use Rattle.history.proofs.Calls.{same-items}
-use Rattle.history.proofs.Living.{ends-it, living-are}
+use Rattle.history.proofs.Living.{unless-made, frame-stands, living-are}
+use Rattle.history.proofs.Once.{local-placed}
 use Rattle.history.proofs.Stacks.{unframed}
 use Rattle.history.proofs.Accepting.{passed}
 
@@ -72,11 +72,13 @@ module _ (t : ℕ) (past : History) where
   detach-monitors = own-monitors t (D t) past (eqb-self t)
 
 -- and none of its locals lives
-pub detach-locals : (t d h : ℕ) (past : History) → ¬ Lives (local t d h) (D t ∷ past)
-unfolding living makes
-detach-locals t d h past k =
-    let (i, kept) = keep-member (λ (x : Alive). not (ends (D t) past x)) (living past) (living-are (D t ∷ past) (local t d h) .1 k) in
-    true-not-false _ (ends-it past (D t) (local t d h) (detaches t d h)) (not-true _ kept)
+pub detach-locals : (room : Room) (past : History) → Accepted room past → (t d h : ℕ) → ¬ Lives (local t d h) (D t ∷ past)
+unfolding makes
+detach-locals room past a t d h k =
+    let alive = unless-made (D t) past (local t d h) (λ m. elim m [ ]) (living-are (D t ∷ past) (local t d h) .1 k) in
+    let placed = local-placed room past a t d h (living-are past (local t d h) .0 alive) .0 in
+    let there = ltb-false (depth t (D t ∷ past)) d (frame-stands (D t ∷ past) (local t d h) (living-are (D t ∷ past) (local t d h) .1 k)) in
+    absurd (omega (arith, placed, there, own-depth t (D t) past (eqb-self t)))
 
 -- ---- A and its D
 

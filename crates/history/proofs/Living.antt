@@ -86,7 +86,7 @@ module _ (past : History) where
       go true m = omega arith
       go false m = omega arith
   frame-left (A s env) t d h k l o = absurd (omega (arith, own-depth t (A s env) past o))
-  frame-left (D s) t d h k l o = rw (sym (eqb-true t s o)) (detaches t d h)
+  frame-left (D s) t d h k l o = rw (sym (eqb-true t s o)) (detaches t d h (omega arith))
   frame-left Z t d h k l o = absurd (false≢true o)
   frame-left (states s) t d h k l o = absurd (false≢true o)
 
@@ -97,7 +97,7 @@ module _ (past : History) where
       go true o = frame-left e t d h k (ltb-true (depth t (e ∷ past)) d g) o
       go false o = absurd (omega (arith, other-depth t e past o, ltb-true (depth t (e ∷ past)) d g))
 
-  -- a C that deletes, or a D
+  -- a C that deletes
   deleted : (e : Line) (x : Alive) → deletes e x ≡ true → Ends past e x
   unfolding deletes
   deleted (N t env hs) x h = absurd (false≢true h)
@@ -121,8 +121,7 @@ module _ (past : History) where
       rw (eqb-true f DeleteWeakGlobalRef u, eqb-true g a is) (deletes-weak t env a b c n (eqb-true (kind a) 3 k)))
   deleted (R t f r p) x h = absurd (false≢true h)
   deleted (A t env) x h = absurd (false≢true h)
-  deleted (D t) (local s d g) h = rw (eqb-true s t h) (detaches t d g)
-  deleted (D t) (shared g) h = absurd (false≢true h)
+  deleted (D t) x h = absurd (false≢true h)
   deleted Z x h = absurd (false≢true h)
   deleted (states s) x h = absurd (false≢true h)
 
@@ -143,7 +142,7 @@ module _ (past : History) where
       or-right (deletes (C t env PopLocalFrame a b c n) (local t (suc (length below)) h)) (frame-gone (C t env PopLocalFrame a b c n ∷ past) (local t (suc (length below)) h))
       (lt-ltb (depth t (C t env PopLocalFrame a b c n ∷ past)) (suc (length below))
       (omega (arith, own-depth t (C t env PopLocalFrame a b c n) past (eqb-self t), ap (λ (fs : List Frame). length (without-pushed fs)) is)))
-  ends-it _ _ (detaches t d h) = rw (eqb-self t)
+  ends-it _ _ (detaches t d h l) = lt-ltb (depth t (D t ∷ past)) d (omega (arith, own-depth t (D t) past (eqb-self t)))
   ends-it _ _ (leaves t r d h k) = lt-ltb (depth t (X t r ∷ past)) d (omega (arith, own-depth t (X t r) past (eqb-self t)))
 
   -- ---- the frame of what is made is there

@@ -39,7 +39,7 @@ ends-own _ past _ (deletes-global t env a b c n k) = tt
 ends-own _ past _ (deletes-weak t env a b c n k) = tt
 ends-own _ past _ (pops t env a b c h n below is) = eqb-self t
 ends-own _ past _ (leaves t r d h k) = eqb-self t
-ends-own _ past _ (detaches t d h) = eqb-self t
+ends-own _ past _ (detaches t d h l) = eqb-self t
 
 -- a local was alive before the line of another thread
 pub alive-beside : (t d h : ℕ) (e : Line) (past : History) → is-of t e ≡ false → List·Memᴰ (local t d h) (living (e ∷ past)) → List·Memᴰ (local t d h) (living past)

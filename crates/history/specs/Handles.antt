@@ -9,7 +9,7 @@ use Rattle.facts.specs.Table.{fact-of}
 use Rattle.facts.specs.Named.{DeleteGlobalRef, DeleteLocalRef, DeleteWeakGlobalRef}
 use Rattle.facts.specs.declared.Result.{Result}
 use Rattle.facts.specs.declared.Result.the-variants as Result
-use Rattle.lines.specs.Line.{Line, if-N_then_else_, if-C_then_else_, if-R_then_else_, if-D_then_else_, kind, above-zero}
+use Rattle.lines.specs.Line.{Line, if-N_then_else_, if-C_then_else_, if-R_then_else_, kind, above-zero}
 use Rattle.history.specs.Past.{History, thread-of}
 use Rattle.history.specs.Frames.{depth}
 
@@ -57,18 +57,13 @@ abbrev pub in-frame : ℕ → ℕ → Alive → Bool
 in-frame t d (local s e h) = eqb s t && eqb e d
 in-frame t d (shared h) = false
 
--- a local of thread t, whichever
-abbrev pub local-of : ℕ → Alive → Bool
-local-of t (local s d h) = eqb s t
-local-of t (shared h) = false
-
 abbrev pub global-or-weak : Alive → Bool
 global-or-weak (local t d h) = false
 global-or-weak (shared h) = true
 
 -- ---- what ends a handle
 
--- C of 23, 22, 227 ends the handle in a if it is of that place's kind (a local: in this thread); D ends the thread's locals
+-- C of 23, 22, 227 ends the handle in a if it is of that place's kind (a local: in this thread)
 unfoldable pub deletes : Line → Alive → Bool
 deletes e x =
     if-C e then
@@ -76,10 +71,9 @@ deletes e x =
     (eqb f DeleteLocalRef && eqb (kind a) 1 && is-local t a x)
     || (eqb f DeleteGlobalRef && eqb (kind a) 2 && is-shared a x)
     || (eqb f DeleteWeakGlobalRef && eqb (kind a) 3 && is-shared a x))
-    else if-D e then (λ t. local-of t x)
     else false
 
--- a local ends with its frame
+-- a local ends with its frame: on X, on C of 20, and on D, which ends all frames of the thread
 abbrev pub frame-gone : History → Alive → Bool
 frame-gone past (local t d h) = ltb (depth t past) d
 frame-gone past (shared h) = false

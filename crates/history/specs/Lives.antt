@@ -37,8 +37,8 @@ pub data Ends (past : History) : Line → Alive → Type 0 where
       → Ends past (C t env PopLocalFrame a b c n) (local t (suc (length below)) h)
   -- X ends all locals of that native, those in pushed frames included
   leaves : (t r d h : ℕ) → length (without-native (frames t past)) < d → Ends past (X t r) (local t d h)
-  -- D ends the thread's locals
-  detaches : (t d h : ℕ) → Ends past (D t) (local t d h)
+  -- D ends the thread's locals; their frames are counted from 1
+  detaches : (t d h : ℕ) → 1 ≤ d → Ends past (D t) (local t d h)
 
 -- no line of `newer`, which came after `older`, ended it
 pub data Spared (x : Alive) (older : History) : History → Type 0 where

@@ -126,7 +126,7 @@ pub record On-lines : Type 0 where
   -- D ends the thread's locals and frames and closes it; monitors then become 0
   pub detach-items : (t : ℕ) (past : History) → items t (D t ∷ past) ≡ tail (items t past)
   pub detach-frames : (t : ℕ) (past : History) → (frames t (D t ∷ past) ≡ []) × (capacities t (D t ∷ past) ≡ [])
-  pub detach-locals : (t d h : ℕ) (past : History) → ¬ Lives (local t d h) (D t ∷ past)
+  pub detach-locals : (room : Room) (past : History) → Accepted room past → (t d h : ℕ) → ¬ Lives (local t d h) (D t ∷ past)
   pub detach-monitors : (t : ℕ) (past : History) → monitors t (D t ∷ past) ≡ 0
   -- C of 20 ends the top frame, if that frame was pushed
   pub pop-frames : (t env a b c : ℕ) (n : ℤ) (past : History) (below : List Frame) → frames t past ≡ pushed ∷ below

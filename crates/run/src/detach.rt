@@ -20,7 +20,7 @@ fn act_on(rows: &mut [Number], marks: &mut [u64], guide: &mut [u64], book: &mut 
     ensures left { λ _. ⌜ ((ps ns cs : List ℕ) (line n : ℕ) → tables (now (rows .exit)) (now (marks .exit)) ps ns (now (book .exit)) cs ≡ acted line (D t) n (tables (now (rows .entry)) (now (marks .entry)) ps ns (now (book .entry)) cs)) ⌝ }
     ensures guided { λ _. ⌜ Guides (table (now (rows .exit)) (now (marks .exit))) (now (guide .exit)) ⌝ }
 {
-    kept::end_frames(rows, marks, guide, t as Number, 0);
+    kept::end_frames(rows, marks, guide, t as Number, 1);
     act::detach::write_book(book, t);
 }
 

@@ -53,7 +53,7 @@ pin-owner f t = if is-critical (family f) then t else 0
 abbrev pub owner-of : ℕ → ℕ → ℕ
 owner-of t h = if eqb (kind h) 1 then t else 0
 
--- X ends the rows of its native's frames, D all rows of its thread; 20 those of the top frame, if it was pushed; what line number `line` makes carries that number,
+-- X ends the rows of its native's frames, D those of all frames of its thread; 20 those of the top frame, if it was pushed; what line number `line` makes carries that number,
 -- and the class that the line gives it; O writes its class into the lowest matching row
 unfoldable pub references-after : ℕ → Line → Tables → Table
 references-after line e T =
@@ -64,7 +64,7 @@ references-after line e T =
     else if eqb f PopLocalFrame && top-pushed (thread-in (T .book) t .frames) then
     ended-all references (from-frame t (length (thread-in (T .book) t .frames))) (T .references)
     else T .references)
-    else if-D e then (λ t. ended-all references (from-frame t 0) (T .references))
+    else if-D e then (λ t. ended-all references (from-frame t 1) (T .references))
     else if-O e then (λ t h c. changed references (T .references) (found references (is-handle (owner-of t h) h) (T .references)) (with-class c))
     else all-taken references (T .references) (map (reference-of line (class-by e)) (made-by e (seen-in T)))
 
