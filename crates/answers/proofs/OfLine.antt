@@ -9,11 +9,11 @@ use borrow.Author.Tests.{ne-eqb, eqb-true, not-true}
 use lib.Dec.{eqb}
 use lib.IntN.{ℤ}
 use Rattle.words.specs.Lists.{joined}
-use Rattle.lines.specs.Line.{N, R, Z, above-zero}
+use Rattle.lines.specs.Line.{N, R, A, D, Z, above-zero}
 use Rattle.history.specs.Handles.{global-or-weak}
 use Rattle.history.specs.Acceptance.{everything}
 use Rattle.history.specs.Seen.{Seen}
-use Rattle.history.specs.Breaches.{when, is-rule, some-of, place-rule, rule-at, line-rule, end-rule, overflows, breach}
+use Rattle.history.specs.Breaches.{when, is-rule, some-of, place-rule, rule-at, line-rule, end-rule, overflows, breach, in-critical, detach-rule}
 use Rattle.history.specs.Findings.{rules, found, of-line}
 use Rattle.history.specs.declared.Finding.{Finding}
 use Rattle.answers.specs.declared.Judged.{Judged}
@@ -72,6 +72,22 @@ end-listed line v =
   where
     three : (a b c : List Finding) → (a ++ []) ++ ((b ++ []) ++ ((c ++ []) ++ [])) ≡ a ++ (b ++ c)
     three a b c = λ i. append-nil a i ++ (append-nil b i ++ (append-nil (c ++ []) ∙ append-nil c) i)
+
+-- ---- D
+
+pub detach-listed : (line t : ℕ) (v : Seen)
+    → of-line line (D t) v ≡ found line 3 0 (when (in-critical t v) 0) ++ found line 9 0 (some-of (v .monitors t))
+unfolding of-line breach rule-at line-rule detach-rule place-rule
+detach-listed line t v = two (found line 3 0 (when (in-critical t v) 0)) (found line 9 0 (some-of (v .monitors t)))
+  where
+    two : (a b : List Finding) → (a ++ []) ++ ((b ++ []) ++ []) ≡ a ++ b
+    two a b = λ i. append-nil a i ++ (append-nil (b ++ []) ∙ append-nil b) i
+
+-- ---- N and A have none
+
+pub attach-listed : (line t env : ℕ) (v : Seen) → of-line line (A t env) v ≡ []
+unfolding of-line breach rule-at line-rule place-rule
+attach-listed line t env v = refl
 
 pub enter-listed : (line t env : ℕ) (hs : List ℕ) (v : Seen) → of-line line (N t env hs) v ≡ []
 unfolding of-line breach rule-at line-rule place-rule

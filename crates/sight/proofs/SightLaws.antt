@@ -27,7 +27,7 @@ use Rattle.tables.specs.Tables.{tables, alive-of, handles-in, buffers-in, seen-
 use Rattle.tables.proofs.RowCounts.{alive-most, counted-all, counted-most}
 use Rattle.sight.specs.declared.spot.Spot.{Spot}
 use Rattle.sight.specs.Spots.{handle-spot, place-spot}
-use Rattle.sight.specs.Sights.{call-sight, leave-sight, some-alive, enter-sight, end-sight, declare-sight, state-sight}
+use Rattle.sight.specs.Sights.{call-sight, leave-sight, some-alive, enter-sight, detach-sight, end-sight, declare-sight, state-sight}
 
 -- ---- C and X
 
@@ -58,6 +58,11 @@ module _ (rs ms ps ns d cs : List ℕ) (t : ℕ) where
       → record { critical = region; result = x } ≡ leave-sight (tables rs ms ps ns d cs) t r
   unfolding leave-sight seen-in in-critical
   leave-seen r region x er ex i = record { critical = er i; result = ex ps ns d cs i }
+
+  pub detach-seen : (region : Bool) (held : ℕ) → region ≡ ltb 0 (buffers-in (table ps ns) (critical-of t)) → held ≡ thread-in d t .monitors
+      → record { critical = region; monitors = held } ≡ detach-sight (tables rs ms ps ns d cs) t
+  unfolding detach-sight seen-in in-critical
+  detach-seen region held er eh i = record { critical = er i; monitors = eh i }
 
   -- ---- N
 

@@ -7,7 +7,7 @@ use borrow.Author.Tests.{le-leb, lt-leb}
 use lib.Dec.{eqb}
 use Rattle.facts.specs.Table.{is-allowed-pending, is-allowed-critical}
 use Rattle.facts.specs.Named.{PopLocalFrame, MonitorExit}
-use Rattle.history.specs.Items.{Item, is-native}
+use Rattle.history.specs.Items.{Item, native-or-attached}
 use Rattle.history.specs.Acceptance.{deepest}
 use Rattle.history.specs.Breaches.{place-rule}
 use Rattle.answers.specs.declared.Answer.{Answer}
@@ -33,9 +33,9 @@ is-in true x e = absurd (false≢true (sym e))
 is-in false true e = refl
 is-in false false e = absurd (false≢true (sym e))
 
-module _ (closed : Bool) (top : Option Item) (many : ℕ) (x : Bool) (e : x ≡ is-native top) where
-  step-is : (b : Bool) → (not closed && x) ≡ b → (not closed && is-native top) ≡ b
-  step-is b q = sym (open-and closed x (is-native top) e) ∙ q
+module _ (closed : Bool) (top : Option Item) (many : ℕ) (x : Bool) (e : x ≡ native-or-attached top) where
+  step-is : (b : Bool) → (not closed && x) ≡ b → (not closed && native-or-attached top) ≡ b
+  step-is b q = sym (open-and closed x (native-or-attached top) e) ∙ q
 
   pub call-4 : (closed || not x) ≡ true → 4 ≡ call-refusal closed top many
   unfolding call-refusal

@@ -19,7 +19,7 @@ use Rattle.facts.specs.declared.Place.{Place}
 use Rattle.facts.specs.declared.Place.the-variants as Place
 use Rattle.facts.specs.declared.Result.{Result}
 use Rattle.facts.specs.declared.Result.the-variants as Result
-use Rattle.lines.specs.Line.{Statement, X, C, R, Z, states, above-zero}
+use Rattle.lines.specs.Line.{Statement, X, C, R, D, Z, states, above-zero}
 use Rattle.lines.specs.Events.{is-status, result-in-line}
 use Rattle.rows.specs.Table.{Table}
 use Rattle.history.specs.Handles.{in-frame}
@@ -31,14 +31,15 @@ use Rattle.book.specs.Threads.{stack, depth, thread-of, thread-in, top-capacity
 use Rattle.book.proofs.Frames.{length-frames}
 use Rattle.answers.specs.Listed.{listed}
 use Rattle.answers.proofs.Found.{of-one-rule}
-use Rattle.answers.proofs.OfLine.{by-rules, as-seen, as-judged, same-of-rule, return-listed, end-listed}
+use Rattle.answers.proofs.OfLine.{by-rules, as-seen, as-judged, same-of-rule, return-listed, detach-listed, end-listed}
 use Rattle.tables.specs.Tables.{Tables, handles-in, seen-in}
 use Rattle.sight.specs.Spots.{handle-spot, place-spot}
 use Rattle.sight.specs.Returns.{over-capacity, overflows-in, return-sight}
-use Rattle.sight.specs.Sights.{call-sight, leave-sight, end-sight}
+use Rattle.sight.specs.Sights.{call-sight, leave-sight, detach-sight, end-sight}
 use Rattle.weigh.specs.Call.{judged-call}
 use Rattle.weigh.specs.Leave.{judged-leave}
 use Rattle.weigh.specs.Returns.{found-return}
+use Rattle.weigh.specs.Detach.{found-detach}
 use Rattle.weigh.specs.End.{found-end}
 use Rattle.weigh.proofs.PlaceLaws.{judged-there}
 
@@ -126,6 +127,12 @@ return-found T line t f h p s =
     (λ (o : Bool). found line 11 0 (when (is-local-result (fact-of f .result) && not (eqb (above-zero (result-in-line f h s)) 0) && o) (above-zero (result-in-line f h s))))
     (capacity-passed (T .references) (T .book) t)
     ∙ overflow-as line h s (over-capacity (T .references) (T .book) t) (fact-of f .result))
+
+-- ---- D
+
+pub detach-found : (T : Tables) (line t : ℕ) → found-detach line (detach-sight T t) ≡ of-line line (D t) (seen-in T)
+unfolding found-detach detach-sight
+detach-found T line t = sym (detach-listed line t (seen-in T))
 
 -- ---- Z
 

@@ -3,6 +3,7 @@ pub mod CallLaws
 pub mod LeaveLaws
 pub mod EnterLaws
 pub mod ReturnLaws
+pub mod DetachLaws
 pub mod EndLaws
 pub mod StatementLaws
 pub mod Refused

@@ -13,11 +13,11 @@ use lib.ListN.{length, length-map}
 use Rattle.words.specs.Choice.{if_then_else_}
 use Rattle.words.specs.Lists.{any}
 use Rattle.facts.specs.Named.{PopLocalFrame}
-use Rattle.lines.specs.Line.{Statement, K, O, N, X, C, Z, states}
+use Rattle.lines.specs.Line.{Statement, K, O, N, X, C, A, D, Z, states}
 use Rattle.rows.specs.Table.{room, alive}
 use Rattle.rows.specs.References.{references}
 use Rattle.rows.specs.Pins.{pins}
-use Rattle.history.specs.Items.{Item, is-empty, is-native, is-call}
+use Rattle.history.specs.Items.{Item, is-empty, is-native, is-call, is-attached, native-or-attached}
 use Rattle.history.specs.Frames.{Frame, entered, pushed, without-native, without-pushed}
 use Rattle.history.specs.Handles.{Alive, local, makes, is-local, same-handle}
 use Rattle.history.specs.Buffers.{gets}
@@ -33,6 +33,8 @@ use Rattle.tables.proofs.RowCounts.{alive-most}
 use Rattle.sight.specs.declared.state.StateSight.{StateSight}
 use Rattle.sight.specs.Sights.{some-alive, enter-sight, declare-sight, state-sight}
 use Rattle.weigh.specs.Enter.{enter-turn, named-twice, env-fits, enter-room, enter-refusal}
+use Rattle.weigh.specs.Attach.{attach-turn}
+use Rattle.weigh.specs.Detach.{detach-refusal}
 use Rattle.weigh.specs.Leave.{leave-refusal}
 use Rattle.weigh.specs.Call.{call-refusal}
 use Rattle.weigh.specs.Declare.{declare-refusal}
@@ -79,6 +81,18 @@ leave-told T top many t r =
     ap (λ (o : Bool). first-refusal (not (closed-in (T .book)) && is-native top) true true true true (o && true)) (leave-room T t r)
     ∙ by-step (not (closed-in (T .book)) && is-native top)
 
+-- ---- D
+
+detach-room : (T : Tables) (t : ℕ) → rows-left (D t) T ≡ true
+unfolding rows-left made-by makes gets seen-in
+detach-room T t = nothing-made T 0 (omega arith)
+
+pub detach-told : (T : Tables) (top : Option Item) (many t : ℕ) → refusal-in (D t) top many T ≡ detach-refusal (closed-in (T .book)) top
+unfolding refusal-in detach-refusal in-step env-right classes-right names-alive makes-anew made-by makes seen-in
+detach-told T top many t =
+    ap (λ (o : Bool). first-refusal (not (closed-in (T .book)) && is-attached top) true true true true (o && true)) (detach-room T t)
+    ∙ by-step (not (closed-in (T .book)) && is-attached top)
+
 -- ---- C
 
 call-room : (T : Tables) (t env f a b c : ℕ) (n : ℤ) → rows-left (C t env f a b c n) T ≡ true
@@ -99,8 +113,8 @@ pub call-told : (T : Tables) (top : Option Item) (many t env f a b c : ℕ) (n :
     → refusal-in (C t env f a b c n) top many T ≡ call-refusal (closed-in (T .book)) top many
 unfolding refusal-in call-refusal in-step env-right classes-right names-alive makes-anew made-by makes seen-in
 call-told T top many t env f a b c n =
-    ap (λ (o : Bool). first-refusal (not (closed-in (T .book)) && is-native top) true true true true (o && ltb many deepest)) (call-room T t env f a b c n)
-    ∙ by-items (not (closed-in (T .book)) && is-native top) many
+    ap (λ (o : Bool). first-refusal (not (closed-in (T .book)) && native-or-attached top) true true true true (o && ltb many deepest)) (call-room T t env f a b c n)
+    ∙ by-items (not (closed-in (T .book)) && native-or-attached top) many
 
 -- ---- Z
 
@@ -161,7 +175,7 @@ stated-alive closed s = go closed (s .known) (s .alive)
     go false true false e = absurd (omega (arith, e))
     go false true true e = refl
 
--- ---- N
+-- ---- N and A
 
 some-local : (T : Tables) (t d : ℕ) (hs : List ℕ)
     → any (λ (x : Alive). is-alive (same-handle x) (seen-in T)) (map (local t d) hs) ≡ some-alive (T .references) t hs
@@ -218,11 +232,23 @@ by-turn : (turn env anew room : Bool) → first-refusal turn env anew true true 
 by-turn true env anew room = refl
 by-turn false env anew room = refl
 
-pub enter-told : (T : Tables) (top : Option Item) (many t env : ℕ) (hs : List ℕ)
-    → refusal-in (N t env hs) top many T ≡ (if enter-turn (closed-in (T .book)) top then enter-refusal many env hs (enter-sight T t env hs) else 4)
-unfolding refusal-in enter-refusal in-step env-right classes-right names-alive env-elsewhere enter-sight seen-in
-enter-told T top many t env hs =
-    let turn : Bool = not (closed-in (T .book)) && (is-empty top || is-call top) in
+-- of N in its turn, or out of it
+opened-told : (T : Tables) (turn : Bool) (many t env : ℕ) (hs : List ℕ)
+    → first-refusal turn (env-right (N t env hs) (seen-in T)) (makes-anew (N t env hs) (seen-in T)) true true (rows-left (N t env hs) T && ltb many deepest)
+    ≡ (if turn then enter-refusal many env hs (enter-sight T t env hs) else 4)
+unfolding enter-refusal env-right env-elsewhere enter-sight seen-in
+opened-told T turn many t env hs =
     let fits : Bool = env-fits env (enter-sight T t env hs) in
     ap₂ (λ (a r : Bool). first-refusal turn fits a true true r) (enter-anew T t env hs) (enter-fits T many t env hs)
     ∙ by-turn turn fits (not (some-alive (T .references) t hs || named-twice hs)) (enter-room many (length hs) (enter-sight T t env hs))
+
+pub enter-told : (T : Tables) (top : Option Item) (many t env : ℕ) (hs : List ℕ)
+    → refusal-in (N t env hs) top many T ≡ (if enter-turn (closed-in (T .book)) top then enter-refusal many env hs (enter-sight T t env hs) else 4)
+unfolding refusal-in in-step classes-right names-alive seen-in
+enter-told T top many t env hs = opened-told T (not (closed-in (T .book)) && (is-empty top || is-call top)) many t env hs
+
+-- A is told as N with no handles
+pub attach-told : (T : Tables) (top : Option Item) (many t env : ℕ)
+    → refusal-in (A t env) top many T ≡ (if attach-turn (closed-in (T .book)) top then enter-refusal many env [] (enter-sight T t env []) else 4)
+unfolding refusal-in in-step env-right makes-anew made-by makes rows-left gets classes-right names-alive seen-in
+attach-told T top many t env = opened-told T (not (closed-in (T .book)) && is-empty top) many t env []

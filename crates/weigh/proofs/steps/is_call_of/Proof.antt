@@ -13,6 +13,8 @@ is-call-of-spec =
     (λ c. search needs)
     (λ c. search needs)
     (λ c. search needs)
+    (λ c. search needs)
     (λ c. unfold top-is in ap (λ (x : Top). is-call-of (c .before .before .args .f) (top-is x)) (sym (c .enum-told .given .1)))
     (λ c. unfold top-is in ap (λ (x : Top). is-call-of (c .before .before .args .f) (top-is x)) (sym (c .enum-told2 .given .1)))
+    (λ c. unfold top-is in ap (λ (x : Top). is-call-of (c .before .before .args .f) (top-is x)) (sym (c .enum-told3 .given .1)))
     (λ c. unfold top-is in ap (λ (x : Top). is-call-of (c .before .before .before .args .f) (top-is x)) (sym (c .before .top .given .1))))
