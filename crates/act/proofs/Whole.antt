@@ -2,14 +2,14 @@
 use Prim.Native.Nat.{ℕ, suc, _+_}
 use mathlib.Core.Path.{_≡_, refl, sym, ap, _∙_}
 use mathlib.Core.Bool.{false}
-use mathlib.Core.List.{List, map}
+use mathlib.Core.List.{List, [], map}
 use native.Mathlib.Numerals.{add-one}
 use borrow.Author.Tests.{eq-eqb, ne-eqb}
 use lib.ListN.{length}
 use Rattle.rows.specs.Table.{table, ended-all}
 use Rattle.rows.specs.References.{references, from-frame}
 use Rattle.facts.specs.Classes.{no-class}
-use Rattle.lines.specs.Line.{N, X, Z, K, states}
+use Rattle.lines.specs.Line.{N, X, A, D, Z, K, states}
 use Rattle.history.specs.Frames.{without-native}
 use Rattle.history.specs.Handles.{local, makes}
 use Rattle.history.specs.Capacities.{native-capacity}
@@ -17,11 +17,11 @@ use Rattle.history.specs.Buffers.{gets}
 use Rattle.history.specs.Acceptance.{made-by}
 use Rattle.classes.specs.Supers.{with-super}
 use Rattle.book.specs.Threads.{thread-in}
-use Rattle.book.specs.Moves.{frame-pushed, native-left, env-set, pending-set, line-counted, closed-set}
-use Rattle.tables.specs.Tables.{tables, reference-of, seen-in}
+use Rattle.book.specs.Moves.{frame-pushed, native-left, frames-ended, env-set, pending-set, monitors-dropped, line-counted, closed-set}
+use Rattle.tables.specs.Tables.{Tables, tables, reference-of, seen-in}
 use Rattle.tables.specs.Acting.{all-taken, references-after, pins-after, book-after, classes-after, acted, env-kept}
 use Rattle.act.specs.Rows.{locals}
-use Rattle.act.specs.Books.{entered-book, left-book}
+use Rattle.act.specs.Books.{entered-book, left-book, detached-book}
 use Rattle.act.proofs.Taking.{rows-of-locals}
 
 -- ---- the env
@@ -43,6 +43,10 @@ book-entered b b1 b2 b3 b4 t env hs e1 e2 e3 e4 =
 pub book-left : (b b1 b2 : List ℕ) (t : ℕ) → b1 ≡ native-left b t → b2 ≡ line-counted b1 → b2 ≡ left-book b t
 unfolding left-book
 book-left b b1 b2 t e1 e2 = e2 ∙ ap line-counted e1
+
+pub book-detached : (b b1 b2 b3 : List ℕ) (t : ℕ) → b1 ≡ frames-ended b t → b2 ≡ monitors-dropped b1 t → b3 ≡ line-counted b2 → b3 ≡ detached-book b t
+unfolding detached-book
+book-detached b b1 b2 b3 t e1 e2 e3 = e3 ∙ ap line-counted (e2 ∙ ap (λ (x : List ℕ). monitors-dropped x t) e1)
 
 -- ---- the tables
 
@@ -66,6 +70,16 @@ module _ (rs ms ps ns b cs rs' ms' b' : List ℕ) (line n : ℕ) where
       er ∙ ap (λ (k : ℕ). ended-all references (from-frame t k) (table rs ms)) (add-one d ∙ ap suc ed)
       in
       λ i. record { references = rows i; pins = table ps ns; book = eb i; classes = cs }
+
+  pub detached : (t : ℕ) → table rs' ms' ≡ ended-all references (from-frame t 1) (table rs ms) → b' ≡ detached-book b t
+      → tables rs' ms' ps ns b' cs ≡ acted line (D t) n (tables rs ms ps ns b cs)
+  unfolding acted references-after pins-after book-after classes-after gets all-taken detached-book
+  detached t er eb i = record { references = er i; pins = table ps ns; book = eb i; classes = cs }
+
+-- A does what N does with no handles
+pub attached : (line n t env : ℕ) (T : Tables) → acted line (N t env []) n T ≡ acted line (A t env) n T
+unfolding acted references-after pins-after book-after classes-after made-by makes gets
+attached line n t env T = refl
 
 pub closed : (rs ms ps ns b cs b1 b2 : List ℕ) (line n : ℕ) → b1 ≡ closed-set b → b2 ≡ line-counted b1 → tables rs ms ps ns b2 cs ≡ acted line Z n (tables rs ms ps ns b cs)
 unfolding acted references-after pins-after book-after classes-after made-by makes gets all-taken

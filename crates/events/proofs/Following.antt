@@ -9,7 +9,7 @@ use borrow.Author.Tests.{not-true, not-false}
 use lib.IntN.{ℤ}
 use Rattle.words.specs.Choice.{if_then_else_}
 use Rattle.facts.specs.declared.Result.{Result}
-use Rattle.lines.specs.Line.{Statement, N, X, C, R, Z, K, O, states, is-zero}
+use Rattle.lines.specs.Line.{Statement, N, X, C, R, A, D, Z, K, O, states, is-zero}
 use Rattle.lines.specs.Events.{result-in-line}
 use Rattle.history.specs.Items.{Item, asked}
 use Rattle.history.specs.Seen.{Seen}
@@ -19,34 +19,38 @@ use Rattle.book.specs.Threads.{closed-in}
 use Rattle.answers.specs.declared.Answer.{Answer}
 use Rattle.answers.specs.Answer.{refused-with, answer-of}
 use Rattle.answers.specs.Listed.{listed}
-use Rattle.answers.proofs.OfLine.{enter-listed}
+use Rattle.answers.proofs.OfLine.{enter-listed, attach-listed}
 use Rattle.tables.specs.Tables.{Tables, seen-in}
 use Rattle.tables.specs.Weighing.{refusal-in}
 use Rattle.tables.specs.Acting.{acted}
 use Rattle.sight.specs.declared.enter.EnterSight.{EnterSight}
 use Rattle.sight.specs.declared.leave.LeaveSight.{LeaveSight}
+use Rattle.sight.specs.declared.detach.DetachSight.{DetachSight}
 use Rattle.sight.specs.declared.call.CallSight.{CallSight}
 use Rattle.sight.specs.declared.returns.ReturnSight.{ReturnSight}
 use Rattle.sight.specs.declared.end.EndSight.{EndSight}
 use Rattle.sight.specs.declared.declare.DeclareSight.{DeclareSight}
 use Rattle.sight.specs.declared.state.StateSight.{StateSight}
-use Rattle.sight.specs.Sights.{enter-sight, leave-sight, call-sight, end-sight, declare-sight, state-sight}
+use Rattle.sight.specs.Sights.{enter-sight, leave-sight, call-sight, detach-sight, end-sight, declare-sight, state-sight}
 use Rattle.sight.specs.Returns.{return-sight}
 use Rattle.sight.proofs.RowLaws.{deleted-row, released-row, place-told, stated-row}
 use Rattle.sight.proofs.ReturnLaws.{handle-row, buffer-row, kind-told}
 use Rattle.weigh.specs.Enter.{enter-turn, enter-refusal}
 use Rattle.weigh.specs.Leave.{leave-refusal, judged-leave}
+use Rattle.weigh.specs.Attach.{attach-turn}
+use Rattle.weigh.specs.Detach.{detach-refusal, found-detach}
 use Rattle.weigh.specs.Call.{call-refusal, judged-call}
 use Rattle.weigh.specs.Returns.{return-turn, return-refusal, found-return}
 use Rattle.weigh.specs.End.{found-end}
 use Rattle.weigh.specs.Declare.{declare-refusal}
 use Rattle.weigh.specs.State.{state-refusal}
-use Rattle.weigh.proofs.Refused.{enter-told, leave-told, call-told, end-told, declare-told, state-told}
+use Rattle.weigh.proofs.Refused.{enter-told, attach-told, leave-told, detach-told, call-told, end-told, declare-told, state-told}
 use Rattle.weigh.proofs.ReturnRefused.{return-told}
-use Rattle.weigh.proofs.Found.{leave-found, call-found, return-found, end-found}
+use Rattle.weigh.proofs.Found.{leave-found, detach-found, call-found, return-found, end-found}
 use Rattle.act.specs.Calls.{called}
 use Rattle.act.specs.Returns.{returned}
 use Rattle.act.specs.Statements.{stated}
+use Rattle.act.proofs.Whole.{attached}
 use Rattle.act.proofs.Calling.{called-is-acted}
 use Rattle.act.proofs.Returning.{returned-is-acted}
 use Rattle.act.proofs.Stating.{stated-is-acted}
@@ -87,6 +91,33 @@ module _ (T : Tables) (top : Option Item) (many t env : ℕ) (hs : List ℕ) (li
     enter-goes y S z ey es =
         goes line (N t env hs) top many T y [] S (sym enter-number ∙ z) ey (sym (enter-listed line t env hs (seen-in T))) (es (asked top))
 
+-- ---- A
+
+module _ (T : Tables) (top : Option Item) (many t env line : ℕ) (closed x : Bool) (ec : closed ≡ closed-in (T .book)) (ex : x ≡ attach-turn closed top) where
+  attach-is : (b : Bool) → x ≡ b → attach-turn (closed-in (T .book)) top ≡ b
+  attach-is b q = sym (ex ∙ ap (λ (o : Bool). attach-turn o top) ec) ∙ q
+
+  pub attach-out : (y : Answer) → not x ≡ true → y ≡ refused-with 4 → leaves y T ≡ line-outcome line (A t env) top many T
+  attach-out y n ey =
+      stays line (A t env) top many T y 4
+      (out-of-turn (attach-turn (closed-in (T .book)) top) _ (attach-is false (not-true x n)) ∙ sym (attach-told T top many t env))
+      (λ z. omega (arith, z))
+      ey
+
+  module _ (v : EnterSight) (k : ℕ) (n : not x ≡ false) (ev : v ≡ enter-sight T t env []) (ek : k ≡ enter-refusal many env [] v) where
+    attach-number : k ≡ refusal-in (A t env) top many T
+    attach-number =
+        in-turn (attach-turn (closed-in (T .book)) top) k _ (attach-is true (not-false x n)) (ek ∙ ap (enter-refusal many env []) ev)
+        ∙ sym (attach-told T top many t env)
+
+    pub attach-stays : (y : Answer) → (k ≡ 0 → ⊥) → y ≡ refused-with k → leaves y T ≡ line-outcome line (A t env) top many T
+    attach-stays y z ey = stays line (A t env) top many T y k attach-number z ey
+
+    pub attach-goes : (y : Answer) (S : Tables) → k ≡ 0 → y ≡ answer-of [] → ((i : ℕ) → S ≡ acted line (N t env []) i T)
+        → leaves y S ≡ line-outcome line (A t env) top many T
+    attach-goes y S z ey es =
+        goes line (A t env) top many T y [] S (sym attach-number ∙ z) ey (sym (attach-listed line t env (seen-in T))) (es (asked top) ∙ attached line (asked top) t env T)
+
 -- ---- X
 
 module _ (T : Tables) (top : Option Item) (many t r line : ℕ) (closed : Bool) (k : ℕ) (ec : closed ≡ closed-in (T .book)) (ek : k ≡ leave-refusal closed top) where
@@ -102,6 +133,20 @@ module _ (T : Tables) (top : Option Item) (many t r line : ℕ) (closed : Bool) 
       goes line (X t r) top many T y _ S (sym leave-number ∙ z) ey
       (ap (λ (u : LeaveSight). listed (judged-leave line r u)) ev ∙ leave-found T line t r)
       (es (asked top))
+
+-- ---- D
+
+module _ (T : Tables) (top : Option Item) (many t line : ℕ) (closed : Bool) (k : ℕ) (ec : closed ≡ closed-in (T .book)) (ek : k ≡ detach-refusal closed top) where
+  detach-number : k ≡ refusal-in (D t) top many T
+  detach-number = ek ∙ ap (λ (o : Bool). detach-refusal o top) ec ∙ sym (detach-told T top many t)
+
+  pub detach-stays : (y : Answer) → (k ≡ 0 → ⊥) → y ≡ refused-with k → leaves y T ≡ line-outcome line (D t) top many T
+  detach-stays y z ey = stays line (D t) top many T y k detach-number z ey
+
+  pub detach-goes : (v : DetachSight) (y : Answer) (S : Tables) → k ≡ 0 → v ≡ detach-sight T t → ((i : ℕ) → S ≡ acted line (D t) i T)
+      → y ≡ answer-of (found-detach line v) → leaves y S ≡ line-outcome line (D t) top many T
+  detach-goes v y S z ev es ey =
+      goes line (D t) top many T y _ S (sym detach-number ∙ z) ey (ap (found-detach line) ev ∙ detach-found T line t) (es (asked top))
 
 -- ---- C
 
