@@ -6,7 +6,7 @@ use words::Handle;
 ghost use mathlib.Core.Path.{_≡_};
 ghost use mathlib.Core.List.{List};
 ghost use Prim.Native.Nat.{ℕ};
-ghost use Rattle.lines.specs.Line.{A};
+ghost use Rattle.lines.specs.Line.{A as line-A};
 ghost use Rattle.book.specs.Threads.{top-is};
 ghost use Rattle.tables.specs.Tables.{tables};
 ghost use Rattle.events.specs.Outcome.{leaves, line-outcome};
@@ -22,7 +22,7 @@ pub fn attach(
     t: u32,
     env: Handle,
 ) -> Answer
-    ensures { λ r. ⌜ ((ps ns cs : List ℕ) → leaves r (tables (now (rows .exit)) (now (marks .exit)) ps ns (now (book .exit)) cs) ≡ line-outcome line (A t env) (top-is top) many (tables (now (rows .entry)) (now (marks .entry)) ps ns (now (book .entry)) cs)) ⌝ }
+    ensures { λ r. ⌜ ((ps ns cs : List ℕ) → leaves r (tables (now (rows .exit)) (now (marks .exit)) ps ns (now (book .exit)) cs) ≡ line-outcome line (line-A t env) (top-is top) many (tables (now (rows .entry)) (now (marks .entry)) ps ns (now (book .entry)) cs)) ⌝ }
 {
     if !weigh::attach::in_turn(book::is_closed(book), top) {
         return answers::refused(4);

@@ -20,6 +20,7 @@ pub fn capacity_asked(top: Top) -> u32
     match top {
         Top::Nothing => 0,
         Top::Native => 0,
+        Top::Attached => 0,
         Top::Call(_, n) => n,
     }
 }

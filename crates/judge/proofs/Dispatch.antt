@@ -5,7 +5,7 @@ use mathlib.Core.List.{List}
 use mathlib.Core.Option.{Option}
 use lib.IntN.{ℤ}
 use lib.ListN.{take}
-use Rattle.lines.specs.Line.{N, X, C, R, Z, K, O, states}
+use Rattle.lines.specs.Line.{N, X, C, R, A, D, Z, K, O, states}
 use Rattle.lines.specs.Events.{result-in-line}
 use Rattle.lines.specs.declared.Event.{Event}
 use Rattle.lines.specs.declared.Event.the-variants as Event
@@ -36,6 +36,12 @@ module _ (line : ℕ) (ev : Event) (hs : List ℕ) (top : Option Item) (many : �
   pub of-return : {t f h p : ℕ} {s : ℤ} (m : ℤ) → m ≡ s → ev ≡ Event.Return t f h s p → o ≡ line-outcome line (R t f (result-in-line f h m) p) top many T
       → o ≡ event-outcome line ev hs top many T
   of-return {t} {f} {h} {p} m w e q = of-read e (q ∙ ap (λ (i : ℤ). line-outcome line (R t f (result-in-line f h i) p) top many T) w)
+
+  pub of-attach : {t env : ℕ} → ev ≡ Event.Attach t env → o ≡ line-outcome line (A t env) top many T → o ≡ event-outcome line ev hs top many T
+  of-attach p q = of-read p q
+
+  pub of-detach : {t : ℕ} → ev ≡ Event.Detach t → o ≡ line-outcome line (D t) top many T → o ≡ event-outcome line ev hs top many T
+  of-detach p q = of-read p q
 
   pub of-declare : {c s : ℕ} → ev ≡ Event.Declare c s → o ≡ line-outcome line (states (K c s)) top many T → o ≡ event-outcome line ev hs top many T
   of-declare p q = of-read p q

@@ -10,7 +10,7 @@ use lib.Dec.{eqb, leb}
 use lib.IntN.{ℤ}
 use lib.ListN.{length, take}
 use Rattle.words.specs.Choice.{if_then_else_}
-use Rattle.lines.specs.Line.{Line, N, X, C, R, Z, K, O, states, above-zero}
+use Rattle.lines.specs.Line.{Line, N, X, C, R, A, D, Z, K, O, states, above-zero}
 use Rattle.lines.specs.Reading.{Read, says, refused, read}
 use Rattle.lines.specs.Events.{result-in-line, event-of, slots-of}
 use Rattle.lines.specs.declared.Event.{Event}
@@ -20,7 +20,7 @@ use Rattle.history.specs.Past.{thread-of}
 use Rattle.history.specs.Items.{Item, top-of, asked}
 use Rattle.history.specs.Findings.{of-line}
 use Rattle.history.specs.Replies.{Reply, accepted, not-accepted, most-lines}
-use Rattle.book.specs.Threads.{items-in, lines-in, no-function}
+use Rattle.book.specs.Threads.{items-in, lines-in, no-function, attached-function}
 use Rattle.book.specs.Moves.{item-pushed, item-popped}
 use Rattle.answers.specs.declared.Answer.{Answer}
 use Rattle.answers.specs.Answer.{answer-of}
@@ -57,6 +57,14 @@ module _ (b b' : List ℕ) (ev : Event) where
   pub call-closed : {t f h p : ℕ} {s : ℤ} → ev ≡ Event.Return t f h s p → b' ≡ item-popped b t → (hs : List ℕ) → b' ≡ items-after (read-as ev hs) b
   unfolding items-moved
   call-closed p q = moved-as p (λ hs. q)
+
+  pub attached-opened : {t env : ℕ} → ev ≡ Event.Attach t env → b' ≡ item-pushed b t attached-function 0 → (hs : List ℕ) → b' ≡ items-after (read-as ev hs) b
+  unfolding items-moved
+  attached-opened p q = moved-as p (λ hs. q)
+
+  pub attached-closed : {t : ℕ} → ev ≡ Event.Detach t → b' ≡ item-popped b t → (hs : List ℕ) → b' ≡ items-after (read-as ev hs) b
+  unfolding items-moved
+  attached-closed p q = moved-as p (λ hs. q)
 
   pub none-declared : {c s : ℕ} → ev ≡ Event.Declare c s → b' ≡ b → (hs : List ℕ) → b' ≡ items-after (read-as ev hs) b
   unfolding items-moved
@@ -134,6 +142,8 @@ thread-is (Event.Enter t env n) hs e h = let same : N t env (take n hs) ≡ e = 
 thread-is (Event.Leave t r) hs e h = let same : X t r ≡ e = cc in ap thread-of same
 thread-is (Event.Call t env f a b c n) hs e h = let same : C t env f a b c n ≡ e = cc in ap thread-of same
 thread-is (Event.Return t f r s p) hs e h = let same : R t f (result-in-line f r s) p ≡ e = cc in ap thread-of same
+thread-is (Event.Attach t env) hs e h = let same : A t env ≡ e = cc in ap thread-of same
+thread-is (Event.Detach t) hs e h = let same : D t ≡ e = cc in ap thread-of same
 thread-is (Event.Declare c s) hs e h = let same : states (K c s) ≡ e = cc in ap thread-of same
 thread-is (Event.State t v c) hs e h = let same : states (O t v c) ≡ e = cc in ap thread-of same
 thread-is Event.End hs e h = let same : Z ≡ e = cc in ap thread-of same

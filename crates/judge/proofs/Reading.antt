@@ -10,7 +10,7 @@ use lib.IntN.{pos}
 use lib.ListN.{length, take, drop}
 use Rattle.words.specs.Choice.{if_then_else_}
 use Rattle.words.specs.Lists.{any}
-use Rattle.lines.specs.Line.{Line, N, X, C, R, Z, K, O, states, is-allowed, is-zero, most-handles, is-thread, is-env, is-argument, above-zero}
+use Rattle.lines.specs.Line.{Line, N, X, C, R, A, D, Z, K, O, states, is-allowed, is-zero, most-handles, is-thread, is-env, is-argument, above-zero}
 use Rattle.lines.specs.Reading.{Read, says, refused, read}
 use Rattle.lines.specs.Events.{gives-status, event-of, slots-of, not-zero, with-slots, meant}
 use Rattle.lines.specs.declared.Event.{Event}
@@ -43,6 +43,8 @@ as-meant (Event.Return t f h s p) hs e m = go (gives-status f) m
         → says (R t f (if status then s else pos h) p) ≡ says e
     go true k = if-right (eqb h 0) (R t f s p) k
     go false k = if-right (is-zero s) (R t f (pos h) p) k
+as-meant (Event.Attach t env) hs e h = slots-said 0 hs (A t env) e h
+as-meant (Event.Detach t) hs e h = slots-said 0 hs (D t) e h
 as-meant (Event.Declare c s) hs e h = slots-said 0 hs (states (K c s)) e h
 as-meant (Event.State t v c) hs e h = slots-said 0 hs (states (O t v c)) e h
 as-meant Event.End hs e h = slots-said 0 hs Z e h
@@ -70,6 +72,8 @@ few-read bs (says (R t f r p)) h = go (gives-status f)
     go : (s : Bool) → slots-named (if s then Event.Return t f 0 r p else Event.Return t f (above-zero r) (pos 0) p) ≤ most-handles
     go true = omega arith
     go false = omega arith
+few-read bs (says (A t env)) h = omega arith
+few-read bs (says (D t)) h = omega arith
 few-read bs (says Z) h = omega arith
 few-read bs (says (states (K c s))) h = omega arith
 few-read bs (says (states (O t v c))) h = omega arith

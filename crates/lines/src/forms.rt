@@ -11,7 +11,7 @@ ghost use lib.ListN.{getD};
 ghost use Rattle.words.specs.Choice.{within};
 ghost use Rattle.numbers.specs.Signed.{signed};
 // `A` is taken in a contract.
-ghost use Rattle.lines.specs.Line.{K, O, N, X, C, R, A as attached, D, states};
+ghost use Rattle.lines.specs.Line.{K, O, N, X, C, R, A as line-A, D, states};
 ghost use Rattle.lines.specs.Forms.{form-of};
 ghost use Rattle.lines.specs.Reading.{if-allowed};
 ghost use Rattle.lines.specs.Events.{event-of};
@@ -178,7 +178,7 @@ fn returns(thread: Handle, function: Handle, minus: bool, result: Handle, pendin
 }
 
 fn attach(thread: Handle, env: Handle) -> Event
-    ensures { λ r. ⌜ r ≡ event-of (if-allowed (attached thread env)) ⌝ }
+    ensures { λ r. ⌜ r ≡ event-of (if-allowed (line-A thread env)) ⌝ }
 {
     if !ranges::attach_allows(thread, env) {
         return Event::Refused(RANGE);

@@ -19,7 +19,7 @@ ghost use Rattle.words.specs.Lists.{any};
 ghost use Rattle.numbers.specs.Signed.{signed, is-i32};
 ghost use Rattle.facts.specs.Table.{fact-of, is-function};
 // `A` is taken in a contract.
-ghost use Rattle.lines.specs.Line.{K, O, N, X, C, R, A as attached, D, states, is-allowed, is-thread, is-env, is-class, is-argument, is-made, value-allows, place-allows, capacity-allows, result-allows};
+ghost use Rattle.lines.specs.Line.{K, O, N, X, C, R, A as line-A, D, states, is-allowed, is-thread, is-env, is-class, is-argument, is-made, value-allows, place-allows, capacity-allows, result-allows};
 ghost use Rattle.lines.specs.Events.{is-status, gives-status};
 ghost use Rattle.lines.specs.Sizes.{named};
 
@@ -172,7 +172,7 @@ fn are_arguments(v: [Handle; 10], n: usize) -> bool
 }
 
 pub(crate) fn attach_allows(thread: Handle, env: Handle) -> bool
-    ensures { λ r. ⌜ r ≡ is-allowed (attached thread env) ⌝ }
+    ensures { λ r. ⌜ r ≡ is-allowed (line-A thread env) ⌝ }
 {
     is_thread(thread) & is_env(env)
 }

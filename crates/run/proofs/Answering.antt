@@ -9,7 +9,7 @@ use borrow.Author.Tests.{eq-eqb}
 use lib.Dec.{eqb, leb}
 use lib.ListN.{length}
 use Rattle.words.specs.Choice.{if_then_else_}
-use Rattle.lines.specs.Line.{Line, N, X, C, R, Z, states}
+use Rattle.lines.specs.Line.{Line, N, X, C, R, A, D, Z, states}
 use Rattle.lines.specs.Reading.{Read, says, refused, read}
 use Rattle.lines.proofs.Refusals.{refused-by-number}
 use Rattle.history.specs.Past.{thread-of}
@@ -36,6 +36,8 @@ few-findings (N t env hs) = omega arith
 few-findings (X t r) = omega arith
 few-findings (C t env f a b c n) = omega arith
 few-findings (R t f r p) = omega arith
+few-findings (A t env) = omega arith
+few-findings (D t) = omega arith
 few-findings Z = omega arith
 few-findings (states s) = omega arith
 

@@ -8,7 +8,7 @@ use borrow.Author.Tests.{leb-false, le-leb, lt-leb, eq-eqb}
 use lib.Dec.{leb, ltb, eqb}
 use lib.ListN.{length, take}
 use Rattle.words.specs.Choice.{if_then_else_}
-use Rattle.lines.specs.Line.{Line, N, X, C, R, Z, K, O, states, is-thread}
+use Rattle.lines.specs.Line.{Line, N, X, C, R, A, D, Z, K, O, states, is-thread}
 use Rattle.lines.specs.Reading.{Read, says, refused, read}
 use Rattle.lines.specs.Events.{result-in-line, event-of, slots-of}
 use Rattle.lines.specs.declared.Event.{Event}
@@ -106,6 +106,8 @@ module _ (T : Tables) (fit : unfit-tables T ≡ false) (few : lines-in (T .book)
   fit-event (Event.Leave t r) hs = fit-line (X t r)
   fit-event (Event.Call t env f a b c n) hs = fit-line (C t env f a b c n)
   fit-event (Event.Return t f h s p) hs = fit-line (R t f (result-in-line f h s) p)
+  fit-event (Event.Attach t env) hs = fit-line (A t env)
+  fit-event (Event.Detach t) hs = fit-line (D t)
   fit-event (Event.Declare c s) hs = fit-line (states (K c s))
   fit-event (Event.State t h c) hs = fit-line (states (O t h c))
   fit-event Event.End hs = fit-line Z

@@ -7,7 +7,7 @@ use words::Handle;
 ghost use mathlib.Core.Path.{_≡_};
 ghost use mathlib.Core.List.{List};
 ghost use Prim.Native.Nat.{ℕ};
-ghost use Rattle.lines.specs.Line.{A};
+ghost use Rattle.lines.specs.Line.{A as line-A};
 ghost use Rattle.rows.specs.Table.{table};
 ghost use Rattle.guide.specs.References.{Guides};
 ghost use Rattle.book.specs.Threads.{top-is};
@@ -27,7 +27,7 @@ pub(crate) fn attach(
     env: Handle,
 ) -> Answer
     requires { ⌜ Guides (table (now rows) (now marks)) (now guide) ⌝ }
-    ensures outcome { λ r. ⌜ ((ps ns cs : List ℕ) → leaves r (tables (now (rows .exit)) (now (marks .exit)) ps ns (now (book .exit)) cs) ≡ line-outcome line (A t env) (top-is top) many (tables (now (rows .entry)) (now (marks .entry)) ps ns (now (book .entry)) cs)) ⌝ }
+    ensures outcome { λ r. ⌜ ((ps ns cs : List ℕ) → leaves r (tables (now (rows .exit)) (now (marks .exit)) ps ns (now (book .exit)) cs) ≡ line-outcome line (line-A t env) (top-is top) many (tables (now (rows .entry)) (now (marks .entry)) ps ns (now (book .entry)) cs)) ⌝ }
     ensures guided { λ _. ⌜ Guides (table (now (rows .exit)) (now (marks .exit))) (now (guide .exit)) ⌝ }
 {
     if !weigh::attach::in_turn(book::is_closed(book), top) {

@@ -13,6 +13,8 @@ capacity-asked-spec =
     (λ c. search needs)
     (λ c. search needs)
     (λ c. search needs)
+    (λ c. search needs)
     (λ c. unfold top-is in ap (λ (i : Top). asked (top-is i)) (sym (c .enum-told .given .1)))
     (λ c. unfold top-is in ap (λ (i : Top). asked (top-is i)) (sym (c .enum-told2 .given .1)))
+    (λ c. unfold top-is in ap (λ (i : Top). asked (top-is i)) (sym (c .enum-told3 .given .1)))
     (λ c. unfold top-is in ap (λ (i : Top). asked (top-is i)) (sym (c .before .top .given .1))))
