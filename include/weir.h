@@ -98,7 +98,7 @@ int32_t weir_return(uint8_t *d, size_t length, uint32_t thread, uint32_t functio
  */
 int32_t weir_attach(uint8_t *d, size_t length, uint32_t thread, uint64_t env);
 
-/* D: it detaches itself. That it is attached, and no call of its is open, is for the judge to look at. */
+/* D: it detaches itself. That it is attached, and that no call of its own is open, is for the judge to look at. */
 int32_t weir_detach(uint8_t *d, size_t length, uint32_t thread);
 
 /* K: declares a class.
