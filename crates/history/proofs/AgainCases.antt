@@ -1,4 +1,4 @@
--- A worked case of a judge that is called again after refusals: a refused line leaves all as it was. Assumes nothing.
+-- Worked cases of a judge that is called again after refusals: a refused line leaves all as it was. Assumes nothing.
 use Prim.Native.Nat.{ℕ}
 use Prim.Native.String.{String}
 use mathlib.Core.Path.{_≡_, refl}
@@ -56,7 +56,47 @@ calls =
     ∷ "Z" answered not-accepted 4
     ∷ []
 
+abbrev attached-calls : List Call
+attached-calls =
+    "A 1 100" answered accepted []
+    -- a refused A opens nothing and leaves no env
+    ∷ "A 2 100" answered not-accepted 5
+    ∷ "C 2 100 6 0 0 0 0" answered not-accepted 4
+    ∷ "N 2 100" answered not-accepted 5
+    ∷ "A 2 200" answered accepted []
+    ∷ "A 2 201" answered not-accepted 4
+    ∷ "A 3 201" answered accepted []
+    -- a refused D, X or N ends nothing
+    ∷ "C 1 100 6 0 0 0 0" answered accepted []
+    ∷ "D 1" answered not-accepted 4
+    ∷ "A 1 100" answered not-accepted 4
+    ∷ "R 1 6 5 0" answered accepted []
+    ∷ "C 1 100 217 5 0 0 0" answered accepted []
+    ∷ "R 1 217 0 0" answered accepted []
+    ∷ "D 1 100" answered not-accepted 2
+    ∷ "D 17" answered not-accepted 3
+    ∷ "X 1 5" answered not-accepted 4
+    ∷ "N 1 100 9" answered not-accepted 4
+    ∷ "C 1 100 24 5 9 0 0" answered accepted (finding 8 11 2 9 ∷ [])
+    ∷ "R 1 24 0 1" answered accepted []
+    ∷ "D 1" answered accepted (finding 10 9 0 1 ∷ [])
+    ∷ "D 1" answered not-accepted 4
+    -- a refused A or N brings no other env
+    ∷ "A 1 101" answered not-accepted 5
+    ∷ "N 1 101" answered not-accepted 5
+    ∷ "A 4 101" answered accepted []
+    ∷ "A 1 100" answered accepted []
+    ∷ "C 1 100 31 5 0 0 0" answered accepted (finding 13 11 1 5 ∷ [])
+    ∷ "Z" answered accepted []
+    ∷ "A 5 500" answered not-accepted 4
+    ∷ "D 2" answered not-accepted 4
+    ∷ []
+
 -- three reference rows and no pin row
 called-again : replies (record { references = 3; pins = 0 }) [] (map line calls) ≡ map expected calls
 unfolding replied
 called-again = refl
+
+attached-again : replies (record { references = 3; pins = 0 }) [] (map line attached-calls) ≡ map expected attached-calls
+unfolding replied
+attached-again = refl

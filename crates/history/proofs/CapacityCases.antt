@@ -1,34 +1,7 @@
 -- Worked cases of a native's capacity: 16 plus the number of handles on its N line. Assumes nothing.
 use mathlib.Core.Path.{_≡_, refl}
 use mathlib.Core.List.{List, [], _∷_, _++_, map}
-use Prim.Native.String.{String}
-use Rattle.history.proofs.Worked.{Case, case_reads_prints_, judged, printed}
-
-abbrev sixteen-new-locals : List String
-sixteen-new-locals =
-    "C 1 100 6 0 0 0 0" ∷ "R 1 6 101 0"
-    ∷ "C 1 100 6 0 0 0 0" ∷ "R 1 6 105 0"
-    ∷ "C 1 100 6 0 0 0 0" ∷ "R 1 6 109 0"
-    ∷ "C 1 100 6 0 0 0 0" ∷ "R 1 6 113 0"
-    ∷ "C 1 100 6 0 0 0 0" ∷ "R 1 6 117 0"
-    ∷ "C 1 100 6 0 0 0 0" ∷ "R 1 6 121 0"
-    ∷ "C 1 100 6 0 0 0 0" ∷ "R 1 6 125 0"
-    ∷ "C 1 100 6 0 0 0 0" ∷ "R 1 6 129 0"
-    ∷ "C 1 100 6 0 0 0 0" ∷ "R 1 6 133 0"
-    ∷ "C 1 100 6 0 0 0 0" ∷ "R 1 6 137 0"
-    ∷ "C 1 100 6 0 0 0 0" ∷ "R 1 6 141 0"
-    ∷ "C 1 100 6 0 0 0 0" ∷ "R 1 6 145 0"
-    ∷ "C 1 100 6 0 0 0 0" ∷ "R 1 6 149 0"
-    ∷ "C 1 100 6 0 0 0 0" ∷ "R 1 6 153 0"
-    ∷ "C 1 100 6 0 0 0 0" ∷ "R 1 6 157 0"
-    ∷ "C 1 100 6 0 0 0 0" ∷ "R 1 6 161 0"
-    ∷ []
-
-abbrev the-17th : List String
-the-17th = "C 1 100 6 0 0 0 0" ∷ "R 1 6 165 0" ∷ []
-
-abbrev the-18th : List String
-the-18th = "C 1 100 6 0 0 0 0" ∷ "R 1 6 169 0" ∷ []
+use Rattle.history.proofs.Worked.{Case, case_reads_prints_, judged, printed, sixteen-new-locals, the-17th, the-18th}
 
 abbrev capacity : List Case
 capacity =

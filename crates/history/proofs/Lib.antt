@@ -51,3 +51,4 @@ mod LimitCases
 mod AgainCases
 mod LeakCases
 mod ClassCases
+mod AttachedCases

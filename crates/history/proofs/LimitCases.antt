@@ -6,7 +6,7 @@ use lib.Dec.{leb}
 use lib.IntN.{pos, negsuc}
 use lib.ListN.{length}
 use Rattle.words.specs.Choice.{if_then_else_}
-use Rattle.lines.specs.Line.{Line, N, X, C, R, Z}
+use Rattle.lines.specs.Line.{Line, N, X, C, R, A, D, Z}
 use Rattle.lines.specs.Reading.{refused, read}
 use Rattle.history.specs.Past.{History}
 use Rattle.history.specs.Acceptance.{Room}
@@ -15,15 +15,30 @@ use Rattle.history.proofs.Worked.{program, refused-by}
 
 -- ---- each thread has at most 64 open items and 64 frames: 7
 
--- n natives of thread 1, each in an open call of the one before, and in the last an open call of 6
-abbrev nested : ℕ → History
-nested zero = []
-nested (suc n) = C 1 100 6 0 0 0 (pos 0) ∷ N 1 100 [] ∷ nested n
+-- after these lines n natives of thread 1, each in an open call of the one before, and in the last an open call of 6
+abbrev nested-after : History → ℕ → History
+nested-after past zero = past
+nested-after past (suc n) = C 1 100 6 0 0 0 (pos 0) ∷ N 1 100 [] ∷ nested-after past n
 
--- a native of thread 1 with n pushed frames
+abbrev nested : ℕ → History
+nested = nested-after []
+
+-- in an open call of an attached thread
+abbrev nested-attached : ℕ → History
+nested-attached = nested-after (C 1 100 6 0 0 0 (pos 0) ∷ A 1 100 ∷ [])
+
+-- after these lines n pushed frames of thread 1
+abbrev pushed-after : History → ℕ → History
+pushed-after past zero = past
+pushed-after past (suc n) = R 1 19 (pos 0) 0 ∷ C 1 100 19 0 0 0 (pos 1) ∷ pushed-after past n
+
+-- in a native
 abbrev pushes : ℕ → History
-pushes zero = N 1 100 [] ∷ []
-pushes (suc n) = R 1 19 (pos 0) 0 ∷ C 1 100 19 0 0 0 (pos 1) ∷ pushes n
+pushes = pushed-after (N 1 100 [] ∷ [])
+
+-- in an attached thread
+abbrev pushes-attached : ℕ → History
+pushes-attached = pushed-after (A 1 100 ∷ [])
 
 infix 80 _after_gives_
 data Tried : Type 0 where
@@ -52,6 +67,22 @@ tried =
     ∷ (N 1 100 [] after C 1 100 6 0 0 0 (pos 0) ∷ pushes 63 gives 7)
     ∷ (N 2 200 [] after pushes 63 gives 0)
     ∷ (X 1 0 after pushes 63 gives 0)
+    -- an attached item is one, and has a frame
+    ∷ (N 1 100 [] after nested-attached 30 gives 0)
+    ∷ (C 1 100 6 0 0 0 (pos 0) after N 1 100 [] ∷ nested-attached 30 gives 0)
+    ∷ (N 1 100 [] after nested-attached 31 gives 7)
+    ∷ (R 1 6 (pos 0) 0 after nested-attached 31 gives 0)
+    ∷ (D 1 after nested-attached 31 gives 4)
+    ∷ (A 2 200 after nested-attached 31 gives 0)
+    ∷ (R 1 19 (pos 0) 0 after C 1 100 19 0 0 0 (pos 1) ∷ pushes-attached 62 gives 0)
+    ∷ (R 1 19 (pos 0) 0 after C 1 100 19 0 0 0 (pos 1) ∷ pushes-attached 63 gives 7)
+    ∷ (N 1 100 [] after C 1 100 6 0 0 0 (pos 0) ∷ pushes-attached 62 gives 0)
+    ∷ (N 1 100 [] after C 1 100 6 0 0 0 (pos 0) ∷ pushes-attached 63 gives 7)
+    ∷ (A 2 200 after pushes-attached 63 gives 0)
+    ∷ (D 1 after pushes-attached 63 gives 0)
+    -- after D all of them are free again
+    ∷ (A 1 100 after D 1 ∷ pushes-attached 63 gives 0)
+    ∷ (R 1 19 (pos 0) 0 after C 1 100 19 0 0 0 (pos 1) ∷ A 1 100 ∷ D 1 ∷ pushes-attached 63 gives 0)
     ∷ []
 
 tried-hold : map given tried ≡ map expected tried

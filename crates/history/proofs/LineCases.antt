@@ -36,6 +36,8 @@ lines =
     ∷ l "X 1 0" gives 0 ∷ l "X 1" gives 2 ∷ l "X 1 0 0" gives 2
     ∷ l "C 1 1 6 0 0 0 0" gives 0 ∷ l "C 1 1 6 0 0 0" gives 2 ∷ l "C 1 1 6 0 0 0 0 0" gives 2
     ∷ l "R 1 6 0 0" gives 0 ∷ l "R 1 6 0" gives 2 ∷ l "R 1 6 0 0 0" gives 2
+    ∷ l "A 1 1" gives 0 ∷ l "A 1" gives 2 ∷ l "A" gives 2 ∷ l "A 1 1 5" gives 2 ∷ l "a 1 1" gives 2
+    ∷ l "D 1" gives 0 ∷ l "D" gives 2 ∷ l "D 1 1" gives 2 ∷ l "d 1" gives 2
     ∷ l "Z" gives 0 ∷ l "Z 0" gives 2 ∷ l "Z " gives 2 ∷ l "" gives 2 ∷ l "M 8 1 1 0 0" gives 2
     ∷ l "K 5 1" gives 0 ∷ l "K 5" gives 2 ∷ l "K 5 1 1" gives 2 ∷ l "k 5 1" gives 2
     ∷ l "O 1 5 2" gives 0 ∷ l "O 1 5" gives 2 ∷ l "O 1 5 2 2" gives 2
@@ -43,21 +45,27 @@ lines =
     ∷ l "N 1 1 1 5 9 13 17 21 25 29" gives 0 ∷ l "N 1 1 1 5 9 13 17 21 25 29 33" gives 2
     -- fields are parted by one tab
     ∷ l "N  1 1" gives 2 ∷ l "N 1 1 " gives 2 ∷ l " N 1 1" gives 2 ∷ bytes "N 1 1\n" gives 2 ∷ bytes "N\t1\t1\r\n" gives 2
+    ∷ l "A 1 1 " gives 2 ∷ l "A  1 1" gives 2 ∷ l "D 1 " gives 2 ∷ l "D  1" gives 2 ∷ bytes "D 1\n" gives 2
     -- decimal without plus or leading zeros; `-0` is not a number; `-1` is one in every field
     ∷ l "N 01 1" gives 2 ∷ l "N 00 1" gives 2 ∷ l "N +1 1" gives 2 ∷ l "N -0 1" gives 2 ∷ l "N -01 1" gives 2 ∷ l "N - 1" gives 2
     ∷ l "N --1 1" gives 2 ∷ l "N 1- 1" gives 2 ∷ l "N 1a 1" gives 2 ∷ l "N a 1" gives 2 ∷ bytes "N\t1\t1\0\n" gives 2
     ∷ l "N / 1" gives 2 ∷ l "N : 1" gives 2 ∷ l "C 1 1 19 0 0 0 -0" gives 2 ∷ l "C 1 1 19 0 0 0 +1" gives 2 ∷ l "R 1 19 -0 0" gives 2
+    ∷ l "A 1 01" gives 2 ∷ l "A 01 1" gives 2 ∷ l "A 1 -0" gives 2 ∷ l "D 01" gives 2 ∷ l "D -0" gives 2 ∷ l "D +1" gives 2
     ∷ l "N -1 1" gives 3 ∷ l "N 1 -1" gives 3 ∷ l "N 1 1 -1" gives 3 ∷ l "X -1 0" gives 3 ∷ l "X 1 -1" gives 3
     ∷ l "C -1 1 11 5 5 0 0" gives 3 ∷ l "C 1 -1 11 5 5 0 0" gives 3 ∷ l "C 1 1 -1 5 5 0 0" gives 3 ∷ l "C 1 1 11 -1 5 0 0" gives 3
     ∷ l "C 1 1 11 5 -1 0 0" gives 3 ∷ l "C 1 1 11 5 5 -1 0" gives 3 ∷ l "C 1 1 11 5 5 0 -1" gives 3
     ∷ l "R -1 6 0 0" gives 3 ∷ l "R 1 -1 0 0" gives 3 ∷ l "R 1 6 -1 0" gives 3 ∷ l "R 1 6 0 -1" gives 3
+    ∷ l "A -1 1" gives 3 ∷ l "A 1 -1" gives 3 ∷ l "D -1" gives 3
     -- form before range
     ∷ l "N 17 01" gives 2 ∷ l "N 17 1 5 -0" gives 2 ∷ l "X 17 0 0" gives 2 ∷ l "N 1 999999999999999999999999999999" gives 3
+    ∷ l "A 17 01" gives 2 ∷ l "A 0" gives 2 ∷ l "D 17 1" gives 2 ∷ l "A 1 999999999999999999999999999999" gives 3
     -- thread 1..16
     ∷ l "N 0 1" gives 3 ∷ l "N 16 1" gives 0 ∷ l "N 17 1" gives 3
     ∷ l "X 0 0" gives 3 ∷ l "X 16 0" gives 0 ∷ l "X 17 0" gives 3
     ∷ l "C 0 1 6 0 0 0 0" gives 3 ∷ l "C 16 1 6 0 0 0 0" gives 0 ∷ l "C 17 1 6 0 0 0 0" gives 3
     ∷ l "R 0 6 0 0" gives 3 ∷ l "R 16 6 0 0" gives 0 ∷ l "R 17 6 0 0" gives 3
+    ∷ l "A 0 1" gives 3 ∷ l "A 16 1" gives 0 ∷ l "A 17 1" gives 3
+    ∷ l "D 0" gives 3 ∷ l "D 16" gives 0 ∷ l "D 17" gives 3
     ∷ l "O 0 5 2" gives 3 ∷ l "O 16 5 2" gives 0 ∷ l "O 17 5 2" gives 3
     -- class and super 1..4095
     ∷ l "K 0 1" gives 3 ∷ l "K 1 1" gives 0 ∷ l "K 4095 1" gives 0 ∷ l "K 4096 1" gives 3 ∷ l "K -1 1" gives 3
@@ -67,6 +75,7 @@ lines =
     ∷ l "O 1 0 2" gives 0 ∷ l "O 1 8 2" gives 0 ∷ l "O 1 18446744073709551615 2" gives 0 ∷ l "O 1 18446744073709551616 2" gives 3 ∷ l "O 1 -1 2" gives 3
     -- env 1..18446744073709551615
     ∷ l "N 1 0" gives 3 ∷ l "N 1 18446744073709551615" gives 0 ∷ l "N 1 18446744073709551616" gives 3
+    ∷ l "A 1 0" gives 3 ∷ l "A 1 18446744073709551615" gives 0 ∷ l "A 1 18446744073709551616" gives 3
     ∷ l "C 1 0 6 0 0 0 0" gives 3 ∷ l "C 1 18446744073709551615 6 0 0 0 0" gives 0 ∷ l "C 1 18446744073709551616 6 0 0 0 0" gives 3
     -- function 4..232
     ∷ l "C 1 1 3 0 0 0 0" gives 3 ∷ l "C 1 1 4 0 0 0 0" gives 0 ∷ l "C 1 1 232 0 0 0 0" gives 0 ∷ l "C 1 1 233 0 0 0 0" gives 3
@@ -85,6 +94,7 @@ lines =
     ∷ l "C 1 1 23 18446744073709551617 0 0 0" gives 3 ∷ l "C 1 1 24 0 18446744073709551616 0 0" gives 3
     -- numbers that are the same modulo 4294967296 are two
     ∷ l "N 1 4294967296" gives 0 ∷ l "N 1 1 4294967297" gives 0 ∷ l "N 1 1 4294967298" gives 3 ∷ l "X 1 4294967296" gives 0
+    ∷ l "A 1 4294967296" gives 0 ∷ l "A 4294967297 1" gives 3 ∷ l "D 4294967297" gives 3
     ∷ l "X 4294967297 0" gives 3 ∷ l "N 4294967297 1" gives 3 ∷ l "C 4294967297 1 6 0 0 0 0" gives 3 ∷ l "R 4294967297 6 0 0" gives 3
     ∷ l "C 1 1 4294967302 0 0 0 0" gives 3 ∷ l "R 1 4294967302 0 0" gives 3 ∷ l "R 1 6 0 4294967296" gives 3 ∷ l "O 4294967297 5 2" gives 3
     ∷ l "K 4294967301 1" gives 3 ∷ l "K 5 4294967297" gives 3 ∷ l "O 1 5 4294967298" gives 3 ∷ l "C 1 1 6 4294967296 0 0 0" gives 3

@@ -22,7 +22,7 @@ use Rattle.history.specs.Statements.{names, class-stated}
 use Rattle.history.specs.Classes.{super-of, super, leads, class-fits}
 use Rattle.history.specs.Seen.{seen, handle-alive}
 use Rattle.history.specs.Acceptance.{Room, in-step, env-right, made-by, makes-anew, classes-right, names-alive, has-room, refusal}
-use Rattle.history.specs.Breaches.{handle-rule, kind-rule, place-rule, is-there, rule-at, in-critical, overflows, call-rule, end-rule, line-rule, breach}
+use Rattle.history.specs.Breaches.{handle-rule, kind-rule, place-rule, is-there, rule-at, in-critical, overflows, call-rule, end-rule, detach-rule, line-rule, breach}
 use Rattle.history.specs.Findings.{of-line, findings}
 use Rattle.history.specs.Replies.{verdict, Reply, reply, heard}
 use Rattle.history.specs.Report.{run, lines-of, shown-end, shown, report}
@@ -54,6 +54,34 @@ lent references pins c =
 abbrev pub unended : Case → Case
 unended c = record { name = c .name; room = c .room; input = take (pred (length (c .input))) (c .input); report = c .report }
 
+-- ---- locals that thread 1 makes, one after another
+
+abbrev pub sixteen-new-locals : List String
+sixteen-new-locals =
+    "C 1 100 6 0 0 0 0" ∷ "R 1 6 101 0"
+    ∷ "C 1 100 6 0 0 0 0" ∷ "R 1 6 105 0"
+    ∷ "C 1 100 6 0 0 0 0" ∷ "R 1 6 109 0"
+    ∷ "C 1 100 6 0 0 0 0" ∷ "R 1 6 113 0"
+    ∷ "C 1 100 6 0 0 0 0" ∷ "R 1 6 117 0"
+    ∷ "C 1 100 6 0 0 0 0" ∷ "R 1 6 121 0"
+    ∷ "C 1 100 6 0 0 0 0" ∷ "R 1 6 125 0"
+    ∷ "C 1 100 6 0 0 0 0" ∷ "R 1 6 129 0"
+    ∷ "C 1 100 6 0 0 0 0" ∷ "R 1 6 133 0"
+    ∷ "C 1 100 6 0 0 0 0" ∷ "R 1 6 137 0"
+    ∷ "C 1 100 6 0 0 0 0" ∷ "R 1 6 141 0"
+    ∷ "C 1 100 6 0 0 0 0" ∷ "R 1 6 145 0"
+    ∷ "C 1 100 6 0 0 0 0" ∷ "R 1 6 149 0"
+    ∷ "C 1 100 6 0 0 0 0" ∷ "R 1 6 153 0"
+    ∷ "C 1 100 6 0 0 0 0" ∷ "R 1 6 157 0"
+    ∷ "C 1 100 6 0 0 0 0" ∷ "R 1 6 161 0"
+    ∷ []
+
+abbrev pub the-17th : List String
+the-17th = "C 1 100 6 0 0 0 0" ∷ "R 1 6 165 0" ∷ []
+
+abbrev pub the-18th : List String
+the-18th = "C 1 100 6 0 0 0 0" ∷ "R 1 6 169 0" ∷ []
+
 -- ---- what the definitions say, computed: each line names all that is computed with
 
 -- the number 4 to 7, 9 or 10 given to a line after a history, or 0
@@ -63,7 +91,7 @@ refused-by = refusal
 
 -- the reply to a line after calls, which stand newest first
 unfoldable pub replied : Room → List (List ℕ) → List ℕ → Reply
-unfolding refused-by is-allowed-pending is-allowed-critical read-on fields numbers line-of of-letter of-fields read handle-rule kind-rule place-rule handle-alive super leads class-fits class-a class-b is-there rule-at in-critical overflows call-rule end-rule line-rule breach of-line verdict reply heard
+unfolding refused-by is-allowed-pending is-allowed-critical read-on fields numbers line-of of-letter of-fields read handle-rule kind-rule place-rule handle-alive super leads class-fits class-a class-b is-there rule-at in-critical overflows call-rule end-rule detach-rule line-rule breach of-line verdict reply heard
 replied room before bs = reply room (heard room before) bs
 
 -- the report
