@@ -36,6 +36,8 @@ extern "C" {
         status: i32,
         pending: u32,
     ) -> i32;
+    fn weir_attach(d: *mut u8, length: usize, thread: u32, env: Handle) -> i32;
+    fn weir_detach(d: *mut u8, length: usize, thread: u32) -> i32;
     fn weir_declare(d: *mut u8, length: usize, class: Class, superclass: Class) -> i32;
     fn weir_state(d: *mut u8, length: usize, thread: u32, handle: Handle, class: Class) -> i32;
     fn weir_end(d: *mut u8, length: usize) -> i32;
@@ -87,6 +89,8 @@ unsafe fn write_at(handed: &Handed, d: *mut u8, length: usize) -> i32 {
             status,
             pending,
         } => weir_return(d, length, thread, function, result, status, pending),
+        Handed::Attach { thread, env } => weir_attach(d, length, thread, env),
+        Handed::Detach { thread } => weir_detach(d, length, thread),
         Handed::Declare { class, superclass } => weir_declare(d, length, class, superclass),
         Handed::State {
             thread,

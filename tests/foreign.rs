@@ -198,6 +198,7 @@ fn compare_replies(
     let mut wanted_found = Guarded::new(vec![7; length], random);
     let mut found = wanted_found.clone();
     let step = || {
+        seen.steps_and_lists.look(&plain.tables(), line);
         let stepped = plain.step(line);
         seen.steps_and_lists.add(&plain.tables(), line, &stepped);
         stepped

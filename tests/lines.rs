@@ -226,8 +226,9 @@ fn values(handed: &Handed) -> Vec<Handle> {
         Handed::Enter { env, handles, .. } => [&[env], &handles[..]].concat(),
         Handed::Call { env, places, .. } => [&[env], &places[..]].concat(),
         Handed::Leave { result, .. } | Handed::Return { result, .. } => vec![result],
+        Handed::Attach { env, .. } => vec![env],
         Handed::State { handle, .. } => vec![handle],
-        Handed::Declare { .. } | Handed::End => Vec::new(),
+        Handed::Detach { .. } | Handed::Declare { .. } | Handed::End => Vec::new(),
     }
 }
 
@@ -273,7 +274,7 @@ impl Seen {
         for count in 0..=MOST_HANDLES as u32 {
             can_come_up(What::Handles(count));
         }
-        for letter in *b"NXCRO" {
+        for letter in *b"NXCRAO" {
             can_come_up(What::Wide(letter));
         }
         can_come_up(What::BelowZero(b'C'));
@@ -315,7 +316,12 @@ impl Seen {
                     self.add(What::BelowZero(letter));
                 }
             }
-            Handed::Leave { .. } | Handed::Declare { .. } | Handed::State { .. } | Handed::End => {}
+            Handed::Leave { .. }
+            | Handed::Attach { .. }
+            | Handed::Detach { .. }
+            | Handed::Declare { .. }
+            | Handed::State { .. }
+            | Handed::End => {}
         }
     }
 

@@ -148,6 +148,9 @@ fn judge_both(
     let mut wanted_far = Guarded::new(any, random);
     let (mut out, mut far) = (wanted_out.clone(), wanted_far.clone());
     let step = |line: &[u8]| {
+        if is_long(piece) {
+            seen.lines.look(&plain.tables(), line);
+        }
         let stepped = plain.step(line);
         if is_long(piece) {
             seen.lines.add(&plain.tables(), line, &stepped);

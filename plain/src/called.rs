@@ -49,6 +49,13 @@ pub enum Handed {
         status: i32,
         pending: u32,
     },
+    Attach {
+        thread: u32,
+        env: Handle,
+    },
+    Detach {
+        thread: u32,
+    },
     Declare {
         class: Class,
         superclass: Class,
@@ -101,6 +108,13 @@ impl Handed {
                     pending: pending.try_into().ok()?,
                 }
             }
+            (b'A', &[thread, env]) => Handed::Attach {
+                thread: thread.try_into().ok()?,
+                env,
+            },
+            (b'D', &[thread]) => Handed::Detach {
+                thread: thread.try_into().ok()?,
+            },
             (b'K', &[class, superclass]) => Handed::Declare {
                 class: class.try_into().ok()?,
                 superclass: superclass.try_into().ok()?,
@@ -122,6 +136,8 @@ impl Handed {
             Handed::Leave { .. } => b'X',
             Handed::Call { .. } => b'C',
             Handed::Return { .. } => b'R',
+            Handed::Attach { .. } => b'A',
+            Handed::Detach { .. } => b'D',
             Handed::Declare { .. } => b'K',
             Handed::State { .. } => b'O',
             Handed::End => b'Z',
@@ -184,6 +200,8 @@ impl Handed {
                 },
                 pending,
             },
+            Handed::Attach { thread, env } => Event::A { thread, env },
+            Handed::Detach { thread } => Event::D { thread },
             Handed::Declare { class, superclass } => Event::K { class, superclass },
             Handed::State {
                 thread,

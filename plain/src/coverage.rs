@@ -1,7 +1,8 @@
 //! What a set of steps brings up: lines accepted, functions called, numbers in unused places, handles of each standing in places
-//! that have a class, each refusal by its cause, lines about the longest, each rule by line letter and place, twins; and what leak
-//! lists bring up: each rule by the kind of leak, refusals, what orders two leaks.
+//! that have a class, each refusal by its cause, lines about the longest, each rule by line letter and place, attached threads, twins; and
+//! what leak lists bring up: each rule by the kind of leak, refusals, what orders two leaks.
 
+mod attached;
 pub mod twins;
 
 use crate::class::{CLASS, STRING, THROWABLE};
@@ -16,7 +17,7 @@ use crate::lent::lookup::Handles;
 use crate::lent::references::HANDLE;
 use crate::lent::rows::THREAD;
 use crate::lent::Tables;
-use crate::limits::{Class, Handle, Number, MOST_BYTES, MOST_FRAMES, MOST_ITEMS, THREADS};
+use crate::limits::*;
 use crate::line::{self, Event};
 use crate::refusal::*;
 use crate::standing::Standing;
@@ -24,17 +25,28 @@ use std::collections::BTreeMap;
 use std::fmt;
 
 /// The causes of refusals from a start, but for those that every line has.
-const CAUSES: [(Refusal, &str); 32] = [
+const CAUSES: [(Refusal, &str); 44] = [
     (NO_LINE, "long"),
     (NO_LINE, "no LF"),
     (MALFORMED, NO_LETTER),
     (OUT_OF_STEP, "N"),
+    (OUT_OF_STEP, "N over attached"),
     (OUT_OF_STEP, "X"),
+    (OUT_OF_STEP, "X over attached"),
     (OUT_OF_STEP, "C"),
     (OUT_OF_STEP, "R"),
+    (OUT_OF_STEP, "R over attached"),
+    (OUT_OF_STEP, "A over native"),
+    (OUT_OF_STEP, "A over attached"),
+    (OUT_OF_STEP, "A over call"),
+    (OUT_OF_STEP, "D over nothing"),
+    (OUT_OF_STEP, "D over native"),
+    (OUT_OF_STEP, "D over call"),
     (OUT_OF_STEP, "after Z"),
-    (WRONG_ENV, "changed"),
-    (WRONG_ENV, "shared"),
+    (WRONG_ENV, "N changed"),
+    (WRONG_ENV, "N shared"),
+    (WRONG_ENV, "A changed"),
+    (WRONG_ENV, "A shared"),
     (ALREADY_ALIVE, "N alive"),
     (ALREADY_ALIVE, "N twice"),
     (ALREADY_ALIVE, "R"),
@@ -49,6 +61,7 @@ const CAUSES: [(Refusal, &str); 32] = [
     (NOT_ALIVE, "O local"),
     (NOT_ALIVE, "O global"),
     (NOT_ALIVE, "O weak"),
+    (OUT_OF_STEP, "A or D after Z"),
     (OUT_OF_STEP, "K after Z"),
     (OUT_OF_STEP, "O after Z"),
     (NO_ROOM, "N handles"),
@@ -60,15 +73,18 @@ const CAUSES: [(Refusal, &str); 32] = [
 ];
 
 /// Those that come up over foreign tables alone; line 1,000,001 from a start is left to a trace of its own.
-const FOREIGN_CAUSES: [(Refusal, &str); 10] = [
+const FOREIGN_CAUSES: [(Refusal, &str); 13] = [
     (NO_LINE, "lines"),
     (NO_ROOM, "C items"),
+    (NO_ROOM, "C items over attached"),
+    (NO_ROOM, "A frames"),
     (UNFIT_TABLES, "short"),
     (UNFIT_TABLES, "classes"),
     (UNFIT_TABLES, "lines"),
     (UNFIT_TABLES, "items"),
     (UNFIT_TABLES, "frames"),
     (UNFIT_TABLES, "natives"),
+    (UNFIT_TABLES, "natives and attached"),
     (UNFIT_TABLES, "no frame"),
     (UNFIT_TABLES, "monitors"),
 ];
@@ -79,11 +95,12 @@ const SEVERAL: &str = "several";
 const NO_LETTER: &str = "letter";
 
 /// The rules, places and line letters of all findings there can be.
-const BREACHES: [(u8, u8, &str); 26] = [
+const BREACHES: [(u8, u8, &str); 28] = [
     (1, 0, "C"),
     (2, 0, "C"),
     (3, 0, "C"),
     (3, 0, "X"),
+    (3, 0, "D"),
     (4, 1, "C"),
     (4, 1, "X"),
     (4, 2, "C"),
@@ -94,6 +111,7 @@ const BREACHES: [(u8, u8, &str); 26] = [
     (8, 0, "Z"),
     (8, 2, "C"),
     (9, 0, "C"),
+    (9, 0, "D"),
     (9, 0, "Z"),
     (10, 0, "Z"),
     (10, 1, "C"),
@@ -144,6 +162,10 @@ enum What {
     Refused(Refusal, &'static str),
     /// The refusal of a line that is just as long as may be, or one byte longer.
     Long(Refusal),
+    /// What an attached thread shows.
+    Attached(&'static str),
+    /// A line letter, and the function of the marked item over which it comes.
+    Marked(&'static str, Word),
     /// What is a twin, or has one.
     Twin(&'static str),
     /// A rule, a place and a line letter.
@@ -176,13 +198,14 @@ impl Coverage {
     pub fn of_foreign() -> Coverage {
         let leaks = [&LEAKS[..], &[FOREIGN_LEAK]].concat();
         let in_lists = in_lists(&leaks, &ORDERS, &[UNFIT_TABLES, OUT_OF_STEP, NO_ROOM]);
-        let also = in_foreign().chain([What::Start, What::Twin(twins::LINES)]);
+        let also = [What::Start, What::Twin(twins::LINES)];
+        let also = in_foreign(&attached::LETTERS).chain(also);
         Coverage::of(also.chain(in_lists))
     }
 
-    /// Of the lines of pieces over foreign tables.
+    /// Of the lines of pieces over foreign tables, of which each has at most one that is refused.
     pub fn of_foreign_pieces() -> Coverage {
-        Coverage::of(in_foreign())
+        Coverage::of(in_foreign(&attached::LETTERS[..1]))
     }
 
     /// What can come up everywhere, and this.
@@ -198,11 +221,13 @@ impl Coverage {
         let found = BREACHES.map(|(rule, place, letter)| What::Found(rule, place, letter));
         let all = accepted.chain(called).chain(malformed).chain(out_of_range);
         let long = [NO_LINE, MALFORMED, OUT_OF_RANGE].map(What::Long);
+        let attached = attached::SHOWN.map(What::Attached);
         let twins = twins::NAMED.map(What::Twin);
         let all = all
             .chain(causes)
             .chain(long)
             .chain(found)
+            .chain(attached)
             .chain(twins)
             .chain(also);
         Coverage(all.map(|what| (what, 0)).collect())
@@ -210,6 +235,25 @@ impl Coverage {
 
     pub fn add_start(&mut self) {
         self.count(What::Start);
+    }
+
+    /// Adds what a line shows of attached threads that is to be stepped over these tables.
+    pub fn look(&mut self, tables: &Tables, line: &[u8]) {
+        let is_full = || tables.book.lines() == MOST_LINES.into();
+        let Ok(event) = line::read(line) else {
+            return;
+        };
+        if tables.is_unfit() || is_full() || tables.book.is_closed() {
+            return;
+        }
+        if let Some(function) = attached::of_marked(&tables.book, &event) {
+            self.count_wanted(What::Marked(letter(line), function));
+        }
+        if grounds(tables, &event).is_empty() {
+            for shown in attached::of_accepted(tables, &event) {
+                self.count_wanted(What::Attached(shown));
+            }
+        }
     }
 
     /// Adds a step that has left these tables.
@@ -272,6 +316,7 @@ impl Coverage {
     pub fn add_trace(&mut self, trace: &[u8], reference_rows: usize, pin_rows: usize) -> Judge {
         let mut judge = Judge::new(reference_rows, pin_rows);
         for line in trace.split_inclusive(|&byte| byte == b'\n') {
+            self.look(&judge.tables(), line);
             let stepped = judge.step(line);
             self.add(&judge.tables(), line, &stepped);
             if stepped.is_err() {
@@ -342,6 +387,11 @@ impl fmt::Display for Coverage {
                     "about the longest line".to_string(),
                     Some(format!("with {refusal}:")),
                 ),
+                What::Attached(what) => ("attached".to_string(), Some(format!("{what}:"))),
+                What::Marked(letter, function) => (
+                    "over marked items".to_string(),
+                    Some(format!("{letter} with {function}:")),
+                ),
                 What::Twin(what) => ("twins".to_string(), Some(format!("{what}:"))),
                 What::Found(rule, place, letter) => {
                     (format!("rule {rule}"), Some(format!("{letter}@{place}")))
@@ -385,18 +435,24 @@ fn in_traces() -> impl Iterator<Item = What> {
         unused.map(move |(place, _)| What::Unused(function, place))
     });
     let ended = [What::Ended("open"), What::Ended("closed")];
-    unused.chain(classed()).chain(ended)
+    let attached = attached::IN_TRACES.map(What::Attached);
+    unused.chain(classed()).chain(ended).chain(attached)
 }
 
-/// What comes up over foreign tables alone.
-fn in_foreign() -> impl Iterator<Item = What> {
+/// What comes up over foreign tables alone, lines of these letters over marked items.
+fn in_foreign(letters: &'static [&str]) -> impl Iterator<Item = What> {
     let causes = FOREIGN_CAUSES.map(|(refusal, cause)| What::Refused(refusal, cause));
     let classes = [CLASS, STRING, THROWABLE].into_iter().flat_map(|class| {
         let standings = STANDINGS.into_iter().chain(FOREIGN_STANDINGS);
         standings.map(move |standing| What::OfClass(class, standing))
     });
+    let attached = attached::FOREIGN.map(What::Attached);
+    let marked = letters
+        .iter()
+        .flat_map(|letter| attached::FUNCTIONS.map(|function| What::Marked(letter, function)));
     let columns = twins::COLUMNS.map(What::Twin);
-    causes.into_iter().chain(classes).chain(columns)
+    let all = causes.into_iter().chain(classes).chain(attached);
+    all.chain(marked).chain(columns)
 }
 
 /// Each place that has a class, with a handle of each standing from a start.
@@ -470,7 +526,7 @@ fn sole_unused(line: &[u8]) -> Option<(u32, usize)> {
 /// Why the line is refused with this number over these tables.
 fn cause(tables: &Tables, line: &[u8], refusal: Refusal) -> &'static str {
     match (refusal, line::read(line)) {
-        (UNFIT_TABLES, _) => fault(&tables.book.faults(), tables.classes.is_short()),
+        (UNFIT_TABLES, _) => fault(tables),
         (NO_LINE, _) if line.len() > MOST_BYTES + 1 => "long",
         (NO_LINE, Err(NO_LINE)) => "no LF",
         (NO_LINE, _) => "lines",
@@ -483,6 +539,13 @@ fn cause(tables: &Tables, line: &[u8], refusal: Refusal) -> &'static str {
 pub fn grounds(tables: &Tables, event: &Event) -> Vec<(Refusal, &'static str)> {
     let (book, references) = (&tables.book, &tables.references);
     let is_native = |thread| book.top(thread) == Top::Native;
+    let is_attached = |thread| book.top(thread) == Top::Attached;
+    let is_changed = |thread, env| ![0, env].contains(&book.env(thread));
+    let is_shared = |thread, env| {
+        let mut others = (1..=THREADS).filter(|&other| other != thread);
+        others.any(|other| book.env(other) == env)
+    };
+    let is_full = |thread| book.items(thread) == MOST_ITEMS;
     let mut grounds = match *event {
         Event::N {
             thread,
@@ -490,27 +553,38 @@ pub fn grounds(tables: &Tables, event: &Event) -> Vec<(Refusal, &'static str)> {
             count,
             handles,
         } => {
-            let own = book.env(thread);
-            let has = |other| other != thread && book.env(other) == env;
             let named = &handles[..count];
             let is_alive = |&handle: &Handle| references.is_alive(thread, handle);
             let is_twice = |index: usize| named[..index].contains(&named[index]);
             vec![
                 (OUT_OF_STEP, "N", is_native(thread)),
-                (WRONG_ENV, "changed", own != 0 && own != env),
-                (WRONG_ENV, "shared", (1..=THREADS).any(has)),
+                (OUT_OF_STEP, "N over attached", is_attached(thread)),
+                (WRONG_ENV, "N changed", is_changed(thread, env)),
+                (WRONG_ENV, "N shared", is_shared(thread, env)),
                 (ALREADY_ALIVE, "N alive", named.iter().any(is_alive)),
                 (ALREADY_ALIVE, "N twice", (0..count).any(is_twice)),
                 (NO_ROOM, "N handles", count > references.rows.free()),
-                (NO_ROOM, "N items", book.items(thread) == MOST_ITEMS),
+                (NO_ROOM, "N items", is_full(thread)),
                 (NO_ROOM, "N frames", book.frames(thread) == MOST_FRAMES),
             ]
         }
-        Event::X { thread, .. } => vec![(OUT_OF_STEP, "X", !is_native(thread))],
-        Event::C { thread, .. } => vec![
-            (OUT_OF_STEP, "C", !is_native(thread)),
-            (NO_ROOM, "C items", book.items(thread) == MOST_ITEMS),
-        ],
+        Event::X { thread, .. } => {
+            let over_attached = is_attached(thread);
+            let over_other = !is_native(thread) && !over_attached;
+            vec![
+                (OUT_OF_STEP, "X", over_other),
+                (OUT_OF_STEP, "X over attached", over_attached),
+            ]
+        }
+        Event::C { thread, .. } => {
+            let (native, attached) = (is_native(thread), is_attached(thread));
+            let over_attached = attached && is_full(thread);
+            vec![
+                (OUT_OF_STEP, "C", !native && !attached),
+                (NO_ROOM, "C items", native && is_full(thread)),
+                (NO_ROOM, "C items over attached", over_attached),
+            ]
+        }
         Event::R {
             thread,
             function,
@@ -527,9 +601,10 @@ pub fn grounds(tables: &Tables, event: &Event) -> Vec<(Refusal, &'static str)> {
                 ResultKind::Buffer(_) => (false, made != 0, false),
                 _ => (false, false, function == PUSH_LOCAL_FRAME && result == 0),
             };
-            let is_full = book.frames(thread) == MOST_FRAMES;
+            let is_deepest = book.frames(thread) == MOST_FRAMES;
             vec![
-                (OUT_OF_STEP, "R", !is_open),
+                (OUT_OF_STEP, "R", !is_open && !is_attached(thread)),
+                (OUT_OF_STEP, "R over attached", is_attached(thread)),
                 (
                     ALREADY_ALIVE,
                     "R",
@@ -537,8 +612,31 @@ pub fn grounds(tables: &Tables, event: &Event) -> Vec<(Refusal, &'static str)> {
                 ),
                 (NO_ROOM, "R handles", makes && references.rows.free() == 0),
                 (NO_ROOM, "R buffers", gets && tables.pins.rows.free() == 0),
-                (NO_ROOM, "R frames", pushes && is_full),
+                (NO_ROOM, "R frames", pushes && is_deepest),
             ]
+        }
+        Event::A { thread, env } => {
+            let over = match book.top(thread) {
+                Top::Nothing => None,
+                Top::Native => Some("A over native"),
+                Top::Attached => Some("A over attached"),
+                Top::Call { .. } => Some("A over call"),
+            };
+            vec![
+                (OUT_OF_STEP, over.unwrap_or_default(), over.is_some()),
+                (WRONG_ENV, "A changed", is_changed(thread, env)),
+                (WRONG_ENV, "A shared", is_shared(thread, env)),
+                (NO_ROOM, "A frames", book.frames(thread) == MOST_FRAMES),
+            ]
+        }
+        Event::D { thread } => {
+            let over = match book.top(thread) {
+                Top::Nothing => Some("D over nothing"),
+                Top::Native => Some("D over native"),
+                Top::Attached => None,
+                Top::Call { .. } => Some("D over call"),
+            };
+            vec![(OUT_OF_STEP, over.unwrap_or_default(), over.is_some())]
         }
         Event::K { class, superclass } => against_declaration(tables, class, superclass),
         Event::O {
@@ -551,6 +649,7 @@ pub fn grounds(tables: &Tables, event: &Event) -> Vec<(Refusal, &'static str)> {
     if book.is_closed() {
         grounds.retain(|ground| ground.0 != OUT_OF_STEP);
         let cause = match event {
+            Event::A { .. } | Event::D { .. } => "A or D after Z",
             Event::K { .. } => "K after Z",
             Event::O { .. } => "O after Z",
             _ => "after Z",
@@ -608,15 +707,16 @@ fn against_statement(
     ]
 }
 
-/// What makes the tables unfit: these faults of the book, or a short class table.
-fn fault(faults: &[Fault], is_short: bool) -> &'static str {
-    match faults {
+/// What makes the tables unfit: the faults of the book, or a short class table.
+fn fault(tables: &Tables) -> &'static str {
+    match tables.book.faults()[..] {
         [] => "classes",
-        _ if is_short => SEVERAL,
+        _ if tables.classes.is_short() => SEVERAL,
         [Fault::Short] => "short",
         [Fault::Lines] => "lines",
         [Fault::Items] => "items",
         [Fault::Frames] => "frames",
+        [Fault::Natives] if attached::makes_unfit(&tables.book) => "natives and attached",
         [Fault::Natives] => "natives",
         [Fault::ItemsWithoutFrame] => "no frame",
         [Fault::Monitors] => "monitors",

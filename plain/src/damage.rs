@@ -59,7 +59,7 @@ pub const NUMBERS: [&str; 45] = [
     "10000000000000000000000000000000000000000000000000000000000000005",
 ];
 
-const ODD_LINES: [&[u8]; 29] = [
+const ODD_LINES: [&[u8]; 33] = [
     b"\n",
     b"\r\n",
     b"\t\n",
@@ -81,6 +81,10 @@ const ODD_LINES: [&[u8]; 29] = [
     b"C\t1\t0\t4\t0\t0\t0\t0\n",
     b"R\t1\t4\t0\t0\n",
     b"A\t1\t100\n",
+    b"A\t1\n",
+    b"A\t1\t100\t5\n",
+    b"D\t1\n",
+    b"D\t1\t0\n",
     b"M\t8\t1\t2\t0\t0\n",
     b"K\t5\t1\n",
     b"K\t5\n",

@@ -19,6 +19,8 @@ pub fn edge_line(random: &mut Random) -> Vec<u8> {
             [thread, env].into_iter().chain(handles).collect()
         }
         b'X' => vec![thread, 0],
+        b'A' => vec![thread, env],
+        b'D' => vec![thread],
         b'C' => call_fields(thread, env, random),
         b'K' => vec![random.between(5, 20).into(), random.between(1, 20).into()],
         b'O' => {

@@ -32,7 +32,7 @@ pub struct Form {
     pub handles: usize,
 }
 
-pub static FORMS: [Form; 7] = [
+pub static FORMS: [Form; 9] = [
     Form {
         letter: b'N',
         fields: &[THREAD, ENV],
@@ -51,6 +51,16 @@ pub static FORMS: [Form; 7] = [
     Form {
         letter: b'R',
         fields: &[THREAD, FUNCTION, RESULT, PENDING],
+        handles: 0,
+    },
+    Form {
+        letter: b'A',
+        fields: &[THREAD, ENV],
+        handles: 0,
+    },
+    Form {
+        letter: b'D',
+        fields: &[THREAD],
         handles: 0,
     },
     Form {

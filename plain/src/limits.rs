@@ -22,7 +22,7 @@ pub const MOST_LINES: u32 = 1_000_000;
 pub const MOST_ITEMS: usize = 64;
 /// The most frames of a thread.
 pub const MOST_FRAMES: usize = 64;
-/// The room for new locals in a native's frame; the handles on its N line come on top.
+/// The room for new locals in the frame of a native or of an attached item; the handles on an N line come on top.
 pub const NEW_LOCALS: u32 = 16;
 
 /// The greatest number of a class, and so the numbers of a whole class table.

@@ -1,4 +1,4 @@
-//! A line of a trace: the seven events, the reader and the writer of one line.
+//! A line of a trace: the nine events, the reader and the writer of one line.
 
 use crate::facts::{known, PlaceKind, ResultKind, GLOBAL, LOCAL, WEAK};
 use crate::form::{form, MOST_NUMBERS};
@@ -37,6 +37,10 @@ pub enum Event {
         result: Field,
         pending: u32,
     },
+    /// A C thread attaches itself.
+    A { thread: u32, env: Handle },
+    /// It detaches itself.
+    D { thread: u32 },
     /// A class is declared, directly below its super.
     K { class: Class, superclass: Class },
     /// The class of a handle is stated.
@@ -81,6 +85,13 @@ impl Event {
                 function: function.try_into().ok()?,
                 result,
                 pending: pending.try_into().ok()?,
+            },
+            (b'A', &[thread, env]) => Event::A {
+                thread: thread.try_into().ok()?,
+                env: env.try_into().ok()?,
+            },
+            (b'D', &[thread]) => Event::D {
+                thread: thread.try_into().ok()?,
             },
             (b'K', &[class, superclass]) => Event::K {
                 class: class.try_into().ok()?,
@@ -140,6 +151,8 @@ impl Event {
                 let numbers = [thread.into(), function.into(), result, pending.into()];
                 (b'R', Numbers::of(numbers))
             }
+            Event::A { thread, env } => (b'A', Numbers::of([thread.into(), env.into()])),
+            Event::D { thread } => (b'D', Numbers::of([thread.into()])),
             Event::K { class, superclass } => {
                 (b'K', Numbers::of([class.into(), superclass.into()]))
             }
@@ -176,7 +189,12 @@ impl Event {
             Event::R {
                 function, result, ..
             } => is_result(known(function).result, result),
-            Event::X { .. } | Event::K { .. } | Event::O { .. } | Event::Z => true,
+            Event::X { .. }
+            | Event::A { .. }
+            | Event::D { .. }
+            | Event::K { .. }
+            | Event::O { .. }
+            | Event::Z => true,
         }
     }
 }

@@ -51,8 +51,10 @@ pub struct Profile {
     stale: u32,
     /// A native is entered in an open call.
     nested: u32,
-    /// A native returns rather than calls.
+    /// A native returns, or an attached thread detaches itself, rather than calls.
     left: u32,
+    /// A thread without open items attaches itself.
+    attached: u32,
     /// An N names all the handles it may.
     crowded: u32,
     /// Any other N names fewer than so many.
@@ -102,6 +104,7 @@ const MIXED: Profile = Profile {
     stale: 0,
     nested: 15,
     left: 8,
+    attached: 12,
     crowded: 5,
     handles: 4,
     classed: 5,
@@ -117,7 +120,7 @@ const MIXED: Profile = Profile {
     harm: Harm::None,
 };
 
-pub const PROFILES: [Profile; 21] = [
+pub const PROFILES: [Profile; 22] = [
     MIXED,
     Profile {
         name: "breaches",
@@ -292,6 +295,26 @@ pub const PROFILES: [Profile; 21] = [
         ..MIXED
     },
     Profile {
+        name: "polls",
+        usual_lines: (20, 200),
+        threads: (1, 4),
+        numbers: 6,
+        stale: 10,
+        nested: 20,
+        left: 25,
+        attached: 65,
+        classed: 0,
+        pending: 10,
+        favoured: 90,
+        functions: &[
+            6, 6, 19, 19, 20, 20, 20, 21, 23, 24, 24, 217, 217, 217, 218, 222, 223,
+        ],
+        refused: 65,
+        closed: 25,
+        refusals: &[4, 4, 4, 5, 5],
+        ..MIXED
+    },
+    Profile {
         name: "bytes",
         usual_lines: (1, 80),
         left: 20,
@@ -349,7 +372,7 @@ const FEW: Profile = Profile {
 };
 
 /// Profiles of short traces in which the same few things come up again and again.
-pub const DENSE: [Profile; 9] = [
+pub const DENSE: [Profile; 10] = [
     Profile {
         name: "locals",
         functions: &[6, 6, 6, 19, 19, 20, 20, 23, 23, 24, 26],
@@ -381,6 +404,14 @@ pub const DENSE: [Profile; 9] = [
         name: "held",
         pending: 30,
         functions: &[6, 17, 24, 217, 217, 218, 218],
+        ..FEW
+    },
+    Profile {
+        name: "polling",
+        left: 30,
+        attached: 70,
+        functions: &[6, 6, 19, 20, 24, 24, 217, 217, 218, 222, 223],
+        refusals: &[4, 4, 4, 5, 5, 6],
         ..FEW
     },
     Profile {
@@ -587,9 +618,11 @@ impl Maker<'_> {
             return self.class_event(thread);
         }
         match self.top(thread) {
+            Top::Nothing if self.random.percent(self.profile.attached) => self.attach(thread),
             Top::Nothing => self.enter(thread),
             Top::Native if self.random.percent(self.profile.left) => self.leave(thread),
-            Top::Native => self.call(thread),
+            Top::Attached if self.random.percent(self.profile.left) => Event::D { thread },
+            Top::Native | Top::Attached => self.call(thread),
             Top::Call { .. } if self.random.percent(self.profile.nested) => self.enter(thread),
             Top::Call { function, .. } => self.answer(thread, function),
         }
@@ -600,7 +633,7 @@ impl Maker<'_> {
         if self.profile.classed > 0 && self.random.percent(40) {
             return self.doubtful_class_event(thread);
         }
-        match self.random.below(8) {
+        match self.random.below(10) {
             0 => self.enter(thread),
             1 => self.leave(thread),
             2 => self.call(thread),
@@ -608,14 +641,19 @@ impl Maker<'_> {
                 let function = self.function(thread);
                 self.answer(thread, function)
             }
-            4 => self.enter_with_doubtful_env(thread),
+            4 => self.open_with_doubtful_env(thread),
             5 => self.enter_with_doubtful_handles(thread),
+            6 => self.attach(thread),
+            7 => Event::D { thread },
             _ => self.answer_with_alive_handle(thread),
         }
     }
 
-    fn enter_with_doubtful_env(&mut self, thread: u32) -> Event {
+    /// An N or an A.
+    fn open_with_doubtful_env(&mut self, thread: u32) -> Event {
         let (thread, env) = if self.random.percent(50) {
+            let closed = self.closed_thread().filter(|_| self.random.percent(70));
+            let thread = closed.unwrap_or(thread);
             (thread, self.other_env(thread))
         } else {
             let book = self.judge.tables().book;
@@ -624,12 +662,23 @@ impl Maker<'_> {
             let sharer = self.random.between(1, THREADS);
             (sharer, env_of(idle.unwrap_or(thread)))
         };
+        if self.random.percent(self.profile.attached.max(30)) {
+            return Event::A { thread, env };
+        }
         Event::N {
             thread,
             env,
             count: 0,
             handles: [0; MOST_HANDLES],
         }
+    }
+
+    /// A thread that has an env and no open items.
+    fn closed_thread(&mut self) -> Option<u32> {
+        let book = self.judge.tables().book;
+        let is_closed = |&thread: &u32| book.env(thread) != 0 && book.items(thread) == 0;
+        let closed: Vec<u32> = self.threads.iter().copied().filter(is_closed).collect();
+        (!closed.is_empty()).then(|| self.random.pick(&closed))
     }
 
     fn enter_with_doubtful_handles(&mut self, thread: u32) -> Event {
@@ -688,6 +737,13 @@ impl Maker<'_> {
             env: env_of(thread),
             count: named,
             handles,
+        }
+    }
+
+    fn attach(&self, thread: u32) -> Event {
+        Event::A {
+            thread,
+            env: env_of(thread),
         }
     }
 

@@ -8,7 +8,7 @@ pub const NO_LINE: Refusal = 1;
 pub const MALFORMED: Refusal = 2;
 pub const OUT_OF_RANGE: Refusal = 3;
 pub const OUT_OF_STEP: Refusal = 4;
-/// An N's env is not its thread's, or is another thread's.
+/// The env of an N or an A is not its thread's, or is another thread's.
 pub const WRONG_ENV: Refusal = 5;
 /// It makes a handle already alive, or names one twice.
 pub const ALREADY_ALIVE: Refusal = 6;

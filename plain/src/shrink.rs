@@ -50,7 +50,7 @@ fn drop_runs(lines: &mut Vec<Vec<u8>>, differs: &mut impl FnMut(&[u8]) -> bool) 
     }
 }
 
-/// Drops two lines of one thread together, as a C and its R or an N and its X are to be.
+/// Drops two lines of one thread together, as a C and its R, an N and its X or an A and its D are to be.
 fn drop_pairs(lines: &mut Vec<Vec<u8>>, differs: &mut impl FnMut(&[u8]) -> bool) {
     let mut first = lines.len();
     while first > 0 {
@@ -67,11 +67,12 @@ fn drop_pairs(lines: &mut Vec<Vec<u8>>, differs: &mut impl FnMut(&[u8]) -> bool)
     }
 }
 
-/// The next few lines that may answer a C or an N: of the same thread, R or X.
+/// The next few lines that may answer a C, an N or an A: of the same thread, R, X or D.
 fn partners(lines: &[Vec<u8>], first: usize) -> Vec<usize> {
     let answer = match lines[first].first() {
         Some(b'C') => b'R',
         Some(b'N') => b'X',
+        Some(b'A') => b'D',
         _ => return Vec::new(),
     };
     let thread = |line: &[u8]| line.split(|&byte| byte == b'\t').nth(1).map(Vec::from);
@@ -88,7 +89,9 @@ fn lower_threads(lines: &mut Vec<Vec<u8>>, differs: &mut impl FnMut(&[u8]) -> bo
             let (old, new) = (thread.to_string(), lower.to_string());
             let renamed = lines.iter().map(|line| {
                 let mut fields = fields_of(line);
-                let has_thread = line.first().is_some_and(|letter| b"NXCRO".contains(letter));
+                let has_thread = line
+                    .first()
+                    .is_some_and(|letter| b"NXCRADO".contains(letter));
                 if has_thread && fields.get(1).is_some_and(|field| *field == old.as_bytes()) {
                     fields[1] = new.clone().into_bytes();
                 }

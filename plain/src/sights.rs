@@ -153,18 +153,24 @@ impl Watch {
         }
         let book = self.judge.tables().book;
         let is_sharer = |other: &u32| match *event {
-            Event::N { thread, env, .. } => *other != thread && book.env(*other) == env,
+            Event::N { thread, env, .. } | Event::A { thread, env } => {
+                *other != thread && book.env(*other) == env
+            }
             _ => false,
         };
         let sharer = (1..=THREADS).find(is_sharer);
         let is_idle = sharer.is_some_and(|sharer| book.top(sharer) == Top::Nothing);
         let is_lower = sharer.is_some_and(|sharer| sharer < thread(event));
+        let entered = self.past.entered(thread(event));
         for &(other, cause) in against {
+            if other == refusal && cause.ends_with("changed") {
+                self.show(format!("{refusal}: {cause}, {entered}"));
+            }
             self.show(match cause {
                 _ if other != refusal => format!("{refusal} before {other}: {letter}"),
                 _ if cause.ends_with("after Z") => format!("{refusal}: {letter} after Z"),
-                "shared" => {
-                    format!("{refusal}: {letter} shared, sharer idle {is_idle}, lower {is_lower}")
+                "N shared" | "A shared" => {
+                    format!("{refusal}: {cause}, sharer idle {is_idle}, lower {is_lower}")
                 }
                 _ => format!("{refusal}: {letter} {cause} over {top}"),
             });
@@ -231,6 +237,8 @@ impl Watch {
                 result,
                 pending,
             } => self.answer(thread, function, result, pending),
+            Event::A { thread, .. } => self.attach(thread),
+            Event::D { thread } => self.detach(thread),
             Event::K { .. } | Event::O { .. } => {
                 let shown = self.classed.class_event(&self.judge.tables(), event);
                 self.sights.extend(shown);
@@ -251,6 +259,12 @@ impl Watch {
         let pending = tables.book.is_pending(thread);
         let is_first = tables.book.env(thread) == 0;
         let free = tables.references.rows.free();
+        let (lowest, entered) = (self.past.lowest(thread), self.past.entered(thread));
+        let within = match top {
+            "call" => format!("N over call, lowest {lowest}"),
+            _ => format!("N over {top}, {entered}"),
+        };
+        self.show(within);
         self.show(format!("N over {top}, pending {pending}, first {is_first}"));
         if handles.is_empty() || handles.len() == MOST_HANDLES {
             self.show(format!(
@@ -272,6 +286,33 @@ impl Watch {
         }
     }
 
+    fn attach(&mut self, thread: u32) {
+        let book = self.judge.tables().book;
+        let pending = book.is_pending(thread);
+        let monitors = few(book.monitors(thread) as usize);
+        let entered = self.past.entered(thread);
+        self.show(format!("A: pending {pending}"));
+        self.show(format!("A: {entered}"));
+        self.show(format!("A: {monitors} monitors"));
+    }
+
+    fn detach(&mut self, thread: u32) {
+        let frames = few(self.past.frames(thread).len());
+        let tables = self.judge.tables();
+        let own = Number::from(thread);
+        let locals = few(tables.references.rows.count(|row| row[THREAD] == own));
+        let others = tables.references.rows.has(|row| row[THREAD] != own);
+        let monitors = few(tables.book.monitors(thread) as usize);
+        let mut all = (1..=THREADS).filter(|&other| other != thread);
+        let others_monitors = all.any(|other| tables.book.monitors(other) > 0);
+        let (_, monitors_by) = self.past.of_thread(thread);
+        self.show(format!("D: {locals} locals, others {others}"));
+        self.show(format!("D: {locals} locals in {frames} frames"));
+        self.show(format!("D: {monitors} monitors, others {others_monitors}"));
+        self.show(format!("D: {monitors} monitors, {monitors_by}"));
+        self.critical("D", thread, false);
+    }
+
     fn call(&mut self, thread: u32, env: Handle, function: u32) {
         let facts = known(function);
         let (pending_allowed, critical_allowed) = (facts.allowed_pending, facts.allowed_critical);
@@ -285,7 +326,12 @@ impl Watch {
         let monitors = few(book.monitors(thread) as usize);
         let others_monitors = others(&|other| book.monitors(other) > 0);
         let (pending_by, monitors_by) = self.past.of_thread(thread);
+        let top = match book.top(thread) {
+            Top::Attached => "attached",
+            _ => "native",
+        };
         self.show(format!("C: own env {own_env}, another's {others_env}"));
+        self.show(format!("C over {top}: own env {own_env}"));
         self.show(format!(
             "C: pending {pending} {pending_by}, allowed {pending_allowed}"
         ));
@@ -445,7 +491,7 @@ impl Watch {
             let references = self.judge.tables().references;
             let is_ended = |&handle: &Handle| !references.is_alive(thread, handle);
             let ended = arguments.iter().any(is_ended);
-            shown.push(format!("R: over {over}, native of {count}"));
+            shown.push(format!("R: over {over}, {} of {count}", top.opened));
             shown.push(format!(
                 "R: over {over}, native, beside the outermost {nested:?}"
             ));
@@ -462,6 +508,8 @@ impl Watch {
         let (first, last) = (few(monitors(1)), few(monitors(THREADS)));
         let all = few((1..=THREADS).map(monitors).sum());
         let items = (1..=THREADS).any(|thread| tables.book.items(thread) > 0);
+        let is_attached = |thread| tables.book.top(thread) == Top::Attached;
+        let attached = (1..=THREADS).any(is_attached);
         let of_kind = |kind| few(tables.references.rows.count(|row| row[HANDLE] % 4 == kind));
         let (locals, globals, weaks) = (of_kind(LOCAL), of_kind(GLOBAL), of_kind(WEAK));
         self.show(format!("Z: {buffers} buffers, {critical} critical"));
@@ -470,12 +518,14 @@ impl Watch {
         ));
         self.show(format!("Z: {globals} globals, {weaks} weaks"));
         self.show(format!("Z: {locals} locals, items {items}"));
+        self.show(format!("Z: attached {attached}"));
     }
 
     fn top(&mut self, event: &Event) -> &'static str {
         match self.judge.tables().book.top(thread(event)) {
             Top::Nothing => "nothing",
             Top::Native => "native",
+            Top::Attached => "attached",
             Top::Call { .. } => "call",
         }
     }
@@ -493,6 +543,8 @@ fn thread(event: &Event) -> u32 {
         | Event::X { thread, .. }
         | Event::C { thread, .. }
         | Event::R { thread, .. }
+        | Event::A { thread, .. }
+        | Event::D { thread }
         | Event::O { thread, .. } => thread,
         Event::K { .. } | Event::Z => 0,
     }

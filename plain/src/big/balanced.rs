@@ -130,7 +130,7 @@ impl<W: Write> Maker<'_, W> {
             Top::Nothing => self.enter(thread),
             Top::Native if self.random.percent(left) => self.leave(thread),
             Top::Native if self.balance.chain > 0 => self.state_or_use(thread),
-            Top::Native => self.call(thread),
+            Top::Native | Top::Attached => self.call(thread),
             Top::Call { .. } if self.random.percent(nested) => self.enter(thread),
             Top::Call { function, .. } => self.answer(thread, function),
         }

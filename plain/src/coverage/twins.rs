@@ -14,7 +14,7 @@ use crate::refusal::{Refusal, NOT_ALIVE, WRONG_ENV};
 use crate::twin::{are_twins, HIGH};
 
 /// What is named beside a twin, or instead of one; null's twin is no null.
-pub const NAMED: [&str; 12] = [
+pub const NAMED: [&str; 14] = [
     "a handle is made beside",
     "a handle is used beside",
     "a handle is used instead",
@@ -25,6 +25,8 @@ pub const NAMED: [&str; 12] = [
     "a buffer is released instead",
     "an env is entered beside",
     "an env is entered instead",
+    "an env is attached beside",
+    "an env is attached instead",
     "an env is called with instead",
     "null",
 ];
@@ -49,10 +51,7 @@ pub fn of_accepted(tables: &Tables, event: &Event, findings: &Findings) -> Vec<&
             count,
             handles,
         } => {
-            let is_twin = |other| are_twins(tables.book.env(other), env);
-            let env = (1..=THREADS)
-                .any(is_twin)
-                .then_some("an env is entered beside");
+            let env = has_twin_env(tables, env).then_some("an env is entered beside");
             let made = handles[..count].iter();
             let made = made.filter(|&&handle| has_twin(tables, thread, handle));
             made.map(|_| "a handle is made beside").chain(env).collect()
@@ -70,7 +69,11 @@ pub fn of_accepted(tables: &Tables, event: &Event, findings: &Findings) -> Vec<&
             let column = in_thread(tables, thread, handle);
             beside.into_iter().chain(column).collect()
         }
-        Event::K { .. } | Event::Z => Vec::new(),
+        Event::A { env, .. } => {
+            let beside = has_twin_env(tables, env).then_some("an env is attached beside");
+            beside.into_iter().collect()
+        }
+        Event::D { .. } | Event::K { .. } | Event::Z => Vec::new(),
     }
 }
 
@@ -79,6 +82,9 @@ pub fn of_refused(tables: &Tables, event: &Event, refusal: Refusal) -> Vec<&'sta
     let instead = match *event {
         Event::N { thread, env, .. } if refusal == WRONG_ENV => {
             are_twins(tables.book.env(thread), env).then_some("an env is entered instead")
+        }
+        Event::A { thread, env } if refusal == WRONG_ENV => {
+            are_twins(tables.book.env(thread), env).then_some("an env is attached instead")
         }
         Event::O { thread, handle, .. } if refusal == NOT_ALIVE => {
             has_twin(tables, thread, handle).then_some("a class is stated instead")
@@ -190,6 +196,11 @@ fn of_answer(tables: &Tables, thread: u32, function: u32, made: Handle) -> Vec<&
         ResultKind::Nothing | ResultKind::Identity | ResultKind::Status => {}
     }
     seen
+}
+
+/// Whether a twin of an env is a thread's.
+fn has_twin_env(tables: &Tables, env: Handle) -> bool {
+    (1..=THREADS).any(|other| are_twins(tables.book.env(other), env))
 }
 
 /// Whether a twin of a handle is alive; of a local, in its thread.

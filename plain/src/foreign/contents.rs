@@ -384,6 +384,7 @@ fn small_thread(random: &mut Random, row: &mut [Word], number: u32, is_open: boo
     };
     row[ITEMS] = match row[FRAMES] {
         0 => 0,
+        63 | 64 if random.percent(20) => 0,
         _ => random.pick(&[0, 1, 1, 2, 2, 3, 4, 8, 63, 64, 64]),
     };
     for index in 0..row[FRAMES] as usize {
@@ -410,6 +411,43 @@ fn small_thread(random: &mut Random, row: &mut [Word], number: u32, is_open: boo
     }
     let natives = random.below(row[FRAMES].min(row[ITEMS]) as usize + 1);
     row[NATIVES] = native_marks(random, row[ITEMS] as usize, natives);
+    attach(random, row);
+}
+
+/// Gives the marked items of a thread functions that make them natives, or attached, or something like that in its low bits; the top item is marked more often.
+fn attach(random: &mut Random, row: &mut [Word]) {
+    const LIKE: [Word; 7] = [
+        OF_NATIVE,
+        OF_ATTACHED,
+        2,
+        4,
+        HIGH,
+        HIGH + OF_ATTACHED,
+        Word::MAX,
+    ];
+    let functions: &[Word] = random.pick(&[
+        &[OF_NATIVE],
+        &[OF_NATIVE, OF_NATIVE, OF_ATTACHED],
+        &[OF_ATTACHED],
+        &LIKE,
+    ]);
+    for index in 0..MOST_ITEMS {
+        if row[NATIVES] >> index & 1 == 1 && random.percent(80) {
+            row[FUNCTIONS + index] = random.pick(functions);
+        }
+    }
+    let lowest = row[NATIVES].trailing_zeros() as usize;
+    if let Some(top) = (row[ITEMS] as usize)
+        .checked_sub(1)
+        .filter(|&top| lowest <= top)
+    {
+        if random.percent(30) {
+            row[NATIVES] = row[NATIVES] & !(1 << lowest) | 1 << top;
+        }
+        if random.percent(50) {
+            row[FUNCTIONS + top] = random.pick(&LIKE);
+        }
+    }
 }
 
 /// Marks for so many natives among so many open items; above the items anything may stand.
@@ -472,6 +510,7 @@ fn too_many_natives(random: &mut Random, row: &mut [Word]) {
     let items = natives + random.below(calls + 1);
     row[ITEMS] = items as Word;
     row[NATIVES] = native_marks(random, items, natives);
+    attach(random, row);
 }
 
 /// Changes a number of the trace or of a thread, the columns with a meaning of their own more often.

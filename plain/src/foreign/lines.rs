@@ -100,10 +100,15 @@ impl Aim<'_, '_> {
             _ if choice < 7 => self.leave(thread, random),
             _ if choice < 10 => self.call(thread, random),
             _ if choice < 13 => self.answer(thread, a_function(random), random),
+            _ if choice < 15 => self.attach(thread, random),
+            _ if choice < 17 => Event::D { thread },
+            Top::Nothing if choice < 40 => self.attach(thread, random),
             Top::Nothing => self.enter(thread, random),
-            Top::Native if choice < 25 => self.leave(thread, random),
-            Top::Native => self.call(thread, random),
-            Top::Call { .. } if choice < 30 => self.enter(thread, random),
+            Top::Native if choice < 21 => Event::D { thread },
+            Top::Native if choice < 33 => self.leave(thread, random),
+            Top::Attached if choice < 35 => Event::D { thread },
+            Top::Native | Top::Attached => self.call(thread, random),
+            Top::Call { .. } if choice < 34 => self.enter(thread, random),
             Top::Call { function, .. } if facts(function).is_some() => {
                 self.answer(thread, function, random)
             }
@@ -125,6 +130,13 @@ impl Aim<'_, '_> {
             env: self.env(thread, random),
             count,
             handles,
+        }
+    }
+
+    fn attach(&self, thread: u32, random: &mut Random) -> Event {
+        Event::A {
+            thread,
+            env: self.env(thread, random),
         }
     }
 

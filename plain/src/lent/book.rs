@@ -13,7 +13,7 @@ pub const FRAMES: usize = 5;
 pub const CAPACITIES: usize = 6;
 pub const PUSHED: usize = CAPACITIES + MOST_FRAMES;
 pub const ITEMS: usize = PUSHED + MOST_FRAMES;
-/// A mark for each open item that is a native, the lowest item's the lowest bit.
+/// A mark for each open item that is a native or attached, the lowest item's the lowest bit.
 pub const NATIVES: usize = ITEMS + 1;
 pub const FUNCTIONS: usize = NATIVES + 1;
 pub const ASKED: usize = FUNCTIONS + MOST_ITEMS;
@@ -22,14 +22,16 @@ pub const ASKED: usize = FUNCTIONS + MOST_ITEMS;
 pub const WIDTH: usize = ASKED + MOST_ITEMS;
 pub const WHOLE: usize = (1 + THREADS as usize) * WIDTH;
 
-/// What is written as the function of a native.
-pub const NO_FUNCTION: Word = 0;
+/// What is written as the function of a native, and of an attached item.
+pub const OF_NATIVE: Word = 0;
+pub const OF_ATTACHED: Word = 1;
 
 /// The top of a thread's open items.
 #[derive(Clone, Copy, Debug, PartialEq, Eq)]
 pub enum Top {
     Nothing,
     Native,
+    Attached,
     /// A call's function, and max(n,0) of its C.
     Call {
         function: u32,
@@ -48,7 +50,7 @@ pub enum Fault {
     Items,
     /// Over 64 frames.
     Frames,
-    /// More natives than frames.
+    /// More natives than frames, attached items being counted as natives.
     Natives,
     /// Open items in a thread without a frame.
     ItemsWithoutFrame,
@@ -120,7 +122,7 @@ impl<'a> Book<'a> {
 
     // ---- a thread
 
-    /// All 64 bits of it; 0 before the first N.
+    /// All 64 bits of it; 0 before the first N or A.
     pub fn env(&self, thread: u32) -> Word {
         self.number(thread, ENV)
     }
@@ -144,6 +146,11 @@ impl<'a> Book<'a> {
 
     pub fn add_monitor(&mut self, thread: u32) {
         self.put(thread, MONITORS, self.monitors(thread) + 1);
+    }
+
+    /// None is left.
+    pub fn clear_monitors(&mut self, thread: u32) {
+        self.put(thread, MONITORS, 0);
     }
 
     pub fn take_monitor(&mut self, thread: u32) {
@@ -201,39 +208,57 @@ impl<'a> Book<'a> {
         self.number(thread, ITEMS) as usize
     }
 
-    /// Its mark says whether an item is a native, whatever its function.
-    fn is_native(&self, thread: u32, index: usize) -> bool {
+    pub fn top(&self, thread: u32) -> Top {
+        match self.items(thread) {
+            0 => Top::Nothing,
+            items => self.item(thread, items - 1),
+        }
+    }
+
+    /// What an item is; the lowest has index 0.
+    ///
+    /// A marked one is attached where all 64 bits of its function say so, and a native whatever else they say. Of a call's function, and
+    /// of what was asked, the lowest 32 bits count.
+    pub fn item(&self, thread: u32, index: usize) -> Top {
+        let function = self.function(thread, index);
+        match (self.is_marked(thread, index), function) {
+            (true, OF_ATTACHED) => Top::Attached,
+            (true, _) => Top::Native,
+            (false, _) => Top::Call {
+                function: function as u32,
+                asked: self.number(thread, ASKED + index) as u32,
+            },
+        }
+    }
+
+    /// The function of an item, all 64 bits of it.
+    pub fn function(&self, thread: u32, index: usize) -> Word {
+        self.number(thread, FUNCTIONS + index)
+    }
+
+    fn is_marked(&self, thread: u32, index: usize) -> bool {
         self.number(thread, NATIVES) >> index & 1 == 1
     }
 
-    /// Of a call's function, and of what was asked, the lowest 32 bits count.
-    pub fn top(&self, thread: u32) -> Top {
-        let items = self.items(thread);
-        if items == 0 {
-            return Top::Nothing;
-        }
-        if self.is_native(thread, items - 1) {
-            return Top::Native;
-        }
-        let function = self.number(thread, FUNCTIONS + items - 1);
-        let asked = self.number(thread, ASKED + items - 1);
-        Top::Call {
-            function: function as u32,
-            asked: asked as u32,
-        }
-    }
-
-    /// The natives among the open items, of which there are no more than a row has room for.
+    /// The natives and attached items among the open items, of which there are no more than a row has room for.
     fn natives(&self, thread: u32) -> Word {
         let items = self.number(thread, ITEMS).min(MOST_ITEMS as Word) as usize;
-        let natives = (0..items).filter(|&index| self.is_native(thread, index));
+        let natives = (0..items).filter(|&index| self.is_marked(thread, index));
         natives.count() as Word
     }
 
     pub fn push_native(&mut self, thread: u32) {
+        self.push_marked(thread, OF_NATIVE);
+    }
+
+    pub fn push_attached(&mut self, thread: u32) {
+        self.push_marked(thread, OF_ATTACHED);
+    }
+
+    fn push_marked(&mut self, thread: u32, function: Word) {
         let mark = 1 << self.items(thread);
         self.put(thread, NATIVES, self.number(thread, NATIVES) | mark);
-        self.push_item(thread, NO_FUNCTION, 0);
+        self.push_item(thread, function, 0);
     }
 
     pub fn push_call(&mut self, thread: u32, function: u32, asked: u32) {

@@ -55,6 +55,8 @@ impl<H: Handles, B: Buffers> Tables<'_, H, B> {
                 result,
                 pending,
             } => self.answer(thread, function, result, pending, &mut findings)?,
+            Event::A { thread, env } => self.attach(thread, env)?,
+            Event::D { thread } => self.detach(thread, &mut findings)?,
             Event::K { class, superclass } => self.declare(class, superclass)?,
             Event::O {
                 thread,
@@ -74,18 +76,10 @@ impl<H: Handles, B: Buffers> Tables<'_, H, B> {
 
     /// N: Java enters native.
     fn enter(&mut self, thread: u32, env: Handle, handles: &[Handle]) -> Result<(), Refusal> {
-        if self.book.top(thread) == Top::Native {
+        if let Top::Native | Top::Attached = self.book.top(thread) {
             return Err(OUT_OF_STEP);
         }
-        let own = self.book.env(thread);
-        if own != 0 && own != env {
-            return Err(WRONG_ENV);
-        }
-        for other in 1..=THREADS {
-            if other != thread && self.book.env(other) == env {
-                return Err(WRONG_ENV);
-            }
-        }
+        self.try_env(thread, env)?;
         for (index, &handle) in handles.iter().enumerate() {
             if handles[..index].contains(&handle) || self.references.is_alive(thread, handle) {
                 return Err(ALREADY_ALIVE);
@@ -106,6 +100,16 @@ impl<H: Handles, B: Buffers> Tables<'_, H, B> {
         let (frame, line) = (self.book.frames(thread), self.line_number());
         for &handle in handles {
             self.references.make(thread, handle, frame, line);
+        }
+        Ok(())
+    }
+
+    /// Refusal 5: an env is that of its thread's first N or A, and no two threads share one.
+    fn try_env(&self, thread: u32, env: Handle) -> Result<(), Refusal> {
+        let own = self.book.env(thread);
+        let is_others = |other| other != thread && self.book.env(other) == env;
+        if own != 0 && own != env || (1..=THREADS).any(is_others) {
+            return Err(WRONG_ENV);
         }
         Ok(())
     }
@@ -143,10 +147,10 @@ impl<H: Handles, B: Buffers> Tables<'_, H, B> {
         capacity: i32,
         findings: &mut Findings,
     ) -> Result<(), Refusal> {
-        if self.book.top(thread) != Top::Native {
+        if !matches!(self.book.top(thread), Top::Native | Top::Attached) {
             return Err(OUT_OF_STEP);
         }
-        // From a start only an N can be item 65; in a foreign book a native may be item 64.
+        // From a start only an N can be item 65; in a foreign book a native or an attached item may be item 64.
         if self.book.items(thread) == MOST_ITEMS {
             return Err(NO_ROOM);
         }
@@ -264,6 +268,45 @@ impl<H: Handles, B: Buffers> Tables<'_, H, B> {
             MONITOR_EXIT => self.book.take_monitor(thread),
             _ => {}
         }
+        Ok(())
+    }
+
+    /// A: a C thread attaches itself.
+    fn attach(&mut self, thread: u32, env: Handle) -> Result<(), Refusal> {
+        if self.book.top(thread) != Top::Nothing {
+            return Err(OUT_OF_STEP);
+        }
+        self.try_env(thread, env)?;
+        // It is the first item; only in a foreign book there are frames before it.
+        if self.book.frames(thread) == MOST_FRAMES {
+            return Err(NO_ROOM);
+        }
+
+        self.book.set_env(thread, env);
+        self.book.set_pending(thread, 0);
+        self.book.push_frame(thread, NEW_LOCALS, false);
+        self.book.push_attached(thread);
+        Ok(())
+    }
+
+    /// D: a C thread detaches itself.
+    fn detach(&mut self, thread: u32, findings: &mut Findings) -> Result<(), Refusal> {
+        if self.book.top(thread) != Top::Attached {
+            return Err(OUT_OF_STEP);
+        }
+
+        if self.pins.has_critical(thread) {
+            findings.add(3, 0, 0);
+        }
+        let monitors = self.book.monitors(thread);
+        if monitors > 0 {
+            findings.add(9, 0, monitors);
+        }
+
+        self.references.end_locals(thread);
+        self.book.set_frames(thread, 0);
+        self.book.clear_monitors(thread);
+        self.book.pop_item(thread);
         Ok(())
     }
 

@@ -208,7 +208,7 @@ impl Classed {
                 self.handles.insert(key, came);
                 self.last.insert(key, class.into());
             }
-            Event::X { .. } | Event::K { .. } | Event::Z => {}
+            Event::X { .. } | Event::A { .. } | Event::D { .. } | Event::K { .. } | Event::Z => {}
         }
     }
 

@@ -25,6 +25,9 @@ pub struct Past {
 
 #[derive(Clone, Default)]
 struct Thread {
+    /// Whether an N or an A gave it its env, and how its lowest item last ended.
+    env_by: Option<char>,
+    closed_by: Option<char>,
     pending: String,
     monitors: String,
     /// The lowest first.
@@ -59,7 +62,7 @@ impl Frame {
     }
 
     pub fn is_pushed(&self) -> bool {
-        self.opened != "native"
+        !["native", "attached"].contains(&&self.opened[..])
     }
 }
 
@@ -90,6 +93,20 @@ impl Past {
     pub fn of_thread(&self, thread: u32) -> (String, String) {
         let happened = self.threads.get(&thread).cloned().unwrap_or_default();
         (happened.pending, happened.monitors)
+    }
+
+    /// What gave it its env, and what last left it without open items.
+    pub fn entered(&self, thread: u32) -> String {
+        let happened = self.threads.get(&thread).cloned().unwrap_or_default();
+        let told = |by: Option<char>| by.map_or("nothing".into(), String::from);
+        let (env_by, closed_by) = (told(happened.env_by), told(happened.closed_by));
+        format!("env by {env_by}, closed by {closed_by}")
+    }
+
+    /// What the lowest frame is.
+    pub fn lowest(&self, thread: u32) -> &str {
+        let lowest = self.frames(thread).first();
+        lowest.map_or("nothing", |frame| &frame.opened)
     }
 
     pub fn frames(&self, thread: u32) -> &[Frame] {
@@ -137,7 +154,7 @@ impl Past {
         let after = lives(after);
         for row in &after {
             let might_end = match *event {
-                Event::X { .. } => true,
+                Event::X { .. } | Event::D { .. } => true,
                 Event::C {
                     function, places, ..
                 } => match function {
@@ -187,7 +204,11 @@ impl Past {
                 (was, is, _) if was > is => {
                     format!("released, {} left, condemned {condemned}", few(is))
                 }
-                (_, _, Event::X { .. }) if row[THREAD] == own || row[THREAD] == 0 => "X".into(),
+                (_, _, Event::X { .. } | Event::D { .. })
+                    if row[THREAD] == own || row[THREAD] == 0 =>
+                {
+                    letter(event).into()
+                }
                 (_, _, Event::C { places, .. }) if places[1] == row[BUFFER] => {
                     "not released".into()
                 }
@@ -203,15 +224,30 @@ impl Past {
         let depth = if own == 0 { 0 } else { after.book.frames(own) };
         let is_uncovered = happened.frames.len() > depth;
         happened.frames.truncate(depth);
+        if own != 0 && after.book.items(own) == 0 {
+            happened.closed_by = Some(letter(event));
+        }
         match *event {
             Event::N { count, handles, .. } => {
                 let capacity = after.book.capacity(own, depth);
+                happened.env_by.get_or_insert('N');
                 happened.pending = "by N".into();
                 happened.frames.push(Frame {
                     arguments: handles[..count].to_vec(),
                     ..Frame::new("native".into(), capacity, "by N".into())
                 });
             }
+            Event::A { .. } => {
+                let capacity = after.book.capacity(own, depth);
+                happened.env_by.get_or_insert('A');
+                happened.pending = "by A".into();
+                if after.book.monitors(own) > 0 {
+                    happened.monitors = "held before A".into();
+                }
+                let frame = Frame::new("attached".into(), capacity, "by A".into());
+                happened.frames.push(frame);
+            }
+            Event::D { .. } => happened.monitors = "by D".into(),
             Event::C { capacity, .. } => {
                 happened.calls += 1;
                 happened.open.push((happened.calls, capacity));

@@ -14,8 +14,8 @@ const PIECES: [&str; 20] = [
     "\t", "\t", "\t0", "\t1", "\t5", "\t8", "\t16", "\t19", "\t232", "\t-", "0", "1", "7", "-",
     "\n", "\r", " ", "N", "Z", "x",
 ];
-const BYTES: &[u8] = b"NXCRZKOAMnz\t\t\t\t\t0123456789--+ \n\r\0\xff";
-const LETTERS: &[u8] = b"NXCRZKO";
+const BYTES: &[u8] = b"NXCRZKOADMnz\t\t\t\t\t0123456789--+ \n\r\0\xff";
+const LETTERS: &[u8] = b"NXCRZKOAD";
 
 /// A line that is good, damaged, at an edge, several in one, or any bytes.
 pub fn line(random: &mut Random) -> Vec<u8> {
@@ -127,8 +127,10 @@ fn good(random: &mut Random) -> Handed {
         random.between(FIRST_FUNCTION, LAST_FUNCTION)
     };
     let facts = known(function);
-    match random.below(24) {
+    match random.below(28) {
         0 => Handed::End,
+        24..26 => Handed::Attach { thread, env },
+        26..28 => Handed::Detach { thread },
         20..22 => Handed::Declare {
             class: class(random),
             superclass: class(random),
@@ -238,6 +240,11 @@ fn spoil(handed: &mut Handed, random: &mut Random) {
                 3 => *status = narrow(random).cast_signed(),
                 _ => *pending = narrow(random),
             },
+            Handed::Attach { thread, env } => match random.below(2) {
+                0 => *thread = other_thread(random),
+                _ => *env = number(random),
+            },
+            Handed::Detach { thread } => *thread = other_thread(random),
             Handed::Declare { class, superclass } => match random.below(2) {
                 0 => *class = other_class(random),
                 _ => *superclass = other_class(random),

@@ -6,16 +6,16 @@ use crate::limits::{Class, Field, Handle, MOST_BYTES, MOST_HANDLES, THREADS};
 use crate::twin::{ADDRESS, HIGH};
 
 /// Of which all lines of up to four bytes are made.
-const SOME: [u8; 14] = *b"NXCRKOZ\t\n\r-019";
-/// Of which all lines of five bytes and an LF are made; X and K have good ones.
-const FEW: [u8; 8] = *b"XKZ\t\n-01";
+const SOME: [u8; 16] = *b"NXCRADKOZ\t\n\r-019";
+/// Of which all lines of five bytes and an LF are made; X, A, D and K have good ones.
+const FEW: [u8; 10] = *b"XADKZ\t\n-01";
 /// The functions that are tried, those that are none among them.
 const FUNCTIONS: u32 = 301;
 /// The most numbers that a letter is tried with.
 const MOST_COUNT: usize = 12;
 
 /// Good lines, written with spaces for tabs.
-const GOOD: [&str; 17] = [
+const GOOD: [&str; 21] = [
     "N 1 100",
     "N 16 18446744073709551615 5 4294967297 18446744073709551613",
     "N 1 100 1 5 9 13 17 21 25 29",
@@ -28,6 +28,10 @@ const GOOD: [&str; 17] = [
     "R 4 217 -1 1",
     "R 1 6 9 0",
     "R 1 165 18446744073709551614 1",
+    "A 1 100",
+    "A 16 18446744073709551615",
+    "D 1",
+    "D 16",
     "K 5 1",
     "K 4095 4094",
     "O 1 5 2",
@@ -283,8 +287,13 @@ pub fn handed() -> Vec<Handed> {
                 result: number,
             });
             all.push(call(thread, number, 19, [0; 3], 0));
+            all.push(Handed::Attach {
+                thread,
+                env: number,
+            });
         }
         all.push(answer(thread, 19, 0, 0, 0));
+        all.push(Handed::Detach { thread });
         for class in CLASSES {
             all.push(state(thread, 5, class));
         }

@@ -64,6 +64,8 @@ fn numbers_are_left_in_their_order_and_0_past_them() {
             b'R',
             &[4, 217, 0xffff_ffff_8000_0000, 0],
         ),
+        ("A 16 18446744073709551615", b'A', &[16, u64::MAX]),
+        ("D 16", b'D', &[16]),
         ("K 4095 5", b'K', &[4_095, 5]),
         (
             "O 16 18446744073709551615 4095",
@@ -98,6 +100,8 @@ fn what_is_read_is_what_the_writer_is_handed() {
         "C 3 300 26 0 0 0 -2147483648",
         "R 4 218 -1 1",
         "R 4 6 18446744073709551613 0",
+        "A 2 4294967296",
+        "D 2",
         "K 5 1",
         "O 1 0 2",
         "Z",
@@ -114,7 +118,11 @@ fn what_is_read_is_what_the_writer_is_handed() {
     assert_eq!(Handed::of(b'X', &[1; 3]), None);
     assert_eq!(Handed::of(b'K', &[1; 3]), None);
     assert_eq!(Handed::of(b'O', &[1; 2]), None);
-    assert_eq!(Handed::of(b'A', &[]), None);
+    assert_eq!(Handed::of(b'A', &[1; 1]), None);
+    assert_eq!(Handed::of(b'A', &[1; 3]), None);
+    assert_eq!(Handed::of(b'D', &[]), None);
+    assert_eq!(Handed::of(b'D', &[1; 2]), None);
+    assert_eq!(Handed::of(b'M', &[]), None);
     const HIGH: u64 = 1 << 32;
     for (letter, numbers) in [
         (b'N', &[HIGH + 1, 100][..]),
@@ -125,6 +133,8 @@ fn what_is_read_is_what_the_writer_is_handed() {
         (b'R', &[1, HIGH + 19, 0, 0]),
         (b'R', &[1, 19, HIGH - 1, 0]),
         (b'R', &[1, 19, 0, HIGH]),
+        (b'A', &[HIGH + 1, 100]),
+        (b'D', &[HIGH + 1]),
         (b'K', &[5, HIGH + 1]),
         (b'O', &[1, 5, HIGH + 2]),
     ] {

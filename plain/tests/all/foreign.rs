@@ -477,7 +477,7 @@ fn a_function_is_read_through_32_bits_and_a_native_by_its_mark() {
     lent.accepts("R 1 6 0 0");
     *lent.at(1, FUNCTIONS) = 6;
     lent.clone().accepts("X 1 0");
-    *lent.at(1, FUNCTIONS) = NO_FUNCTION;
+    *lent.at(1, FUNCTIONS) = OF_NATIVE;
     *lent.at(1, NATIVES) = !1;
     assert_eq!(lent.refuses("X 1 0"), 4);
     assert_eq!(lent.refuses("C 1 100 4 0 0 0 0"), 4);

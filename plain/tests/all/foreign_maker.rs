@@ -21,6 +21,7 @@ fn every_refusal_rule_place_and_kind_of_leak_comes_up_over_foreign_tables() {
         profiles.insert(foreign.profile);
         for _ in 0..10 {
             let line = line(&foreign.slices.tables(), &mut foreign.lines, &mut random);
+            coverage.look(&foreign.slices.tables(), &line);
             let stepped = foreign.slices.tested_step(&line);
             coverage.add(&foreign.slices.tables(), &line, &stepped);
         }
@@ -52,6 +53,9 @@ fn every_refusal_rule_and_place_comes_up_in_long_pieces_and_each_sort_of_piece()
         let ended = random.percent(50);
         let (mut out, mut far) = (vec![0; 50_000], [0; FAR]);
         let step = |line: &[u8]| {
+            if piece.len() >= LONG {
+                coverage.look(&foreign.slices.tables(), line);
+            }
             let stepped = foreign.slices.step(line);
             if piece.len() >= LONG {
                 coverage.add(&foreign.slices.tables(), line, &stepped);

@@ -43,12 +43,13 @@ fn assert_left(lent: &mut Slices) {
             own += 1 - *lent.at(row, PUSHED + index);
         }
         assert!(frames == 0 || *lent.at(row, PUSHED) == 0);
-        // Natives and open calls by turns, a native the lowest, each native with a frame of its own.
+        // Natives and open calls by turns, a native or an attached item the lowest, each of these with a frame of its own.
         for index in 0..items {
             let function = *lent.at(row, FUNCTIONS + index);
             let is_native = *lent.at(row, NATIVES) >> index & 1 == 1;
             assert_eq!(is_native, index % 2 == 0);
-            assert_eq!(function == NO_FUNCTION, is_native);
+            assert_eq!(function <= OF_ATTACHED, is_native);
+            assert!(index == 0 || function != OF_ATTACHED);
             assert!(is_native || (4..=232).contains(&function));
         }
         assert_eq!(items.div_ceil(2) as u64, own);

@@ -68,6 +68,14 @@ fn every_event_is_read() {
         })
     );
     assert_eq!(
+        read(b"A\t16\t18446744073709551615\n"),
+        Ok(Event::A {
+            thread: 16,
+            env: u64::MAX,
+        })
+    );
+    assert_eq!(read(b"D\t16\n"), Ok(Event::D { thread: 16 }));
+    assert_eq!(
         read(b"K\t4095\t5\n"),
         Ok(Event::K {
             class: 4_095,
@@ -141,6 +149,12 @@ fn field_counts_are_exact() {
         "C 1 100 4 0 0 0 0 0",
         "R 1 4 0",
         "R 1 4 0 0 0",
+        "A",
+        "A 1",
+        "A 1 100 5",
+        "D",
+        "D 1 100",
+        "D 1 0",
         "K",
         "K 5",
         "K 1 5 1",
@@ -151,6 +165,8 @@ fn field_counts_are_exact() {
     ] {
         assert_eq!(said(wrong), 2, "{wrong}");
     }
+    assert_eq!(said("A 1 100"), 0);
+    assert_eq!(said("D 1"), 0);
     assert_eq!(said("N 1 100"), 0);
     assert_eq!(said("N 1 100 1 5 9 13 17 21 25 29"), 0);
 }
@@ -159,6 +175,11 @@ fn field_counts_are_exact() {
 fn the_form_of_every_field_comes_before_any_range() {
     assert_eq!(said("N 17 01"), 2);
     assert_eq!(said("N 17 1"), 3);
+    assert_eq!(said("A 17 01"), 2);
+    assert_eq!(said("A 17 1"), 3);
+    assert_eq!(said("D 17"), 3);
+    assert_eq!(said("D 017"), 2);
+    assert_eq!(said("D 17 0"), 2);
     assert_eq!(said("R 1 4 5 -0"), 2);
     assert_eq!(said("C 0 0 0 0 0 0 x"), 2);
     assert_eq!(said("Z 17"), 2);
@@ -183,6 +204,8 @@ fn thirty_digits_are_a_number_out_of_range_and_nothing_wraps() {
             format!("X 1 {great}"),
             format!("X 1 -{great}"),
             format!("N 1 {great}"),
+            format!("A 1 {great}"),
+            format!("D {great}"),
             format!("N 1 1 {great}"),
             format!("C 1 {great} 4 0 0 0 0"),
             format!("C 1 1 64 {great} 0 0 0"),
@@ -214,6 +237,8 @@ fn threads_functions_statuses_and_classes_are_not_cut_to_32_bits() {
             format!("R 1 217 {} 0", high - 1),
             format!("R 1 217 {} 0", -high),
             format!("R 1 4 0 {}", high + 1),
+            format!("A {} 100", high + 1),
+            format!("D {}", high + 1),
             format!("K {} 1", high + 5),
             format!("K 5 {}", high + 1),
             format!("O {} 5 2", high + 1),
@@ -276,6 +301,9 @@ fn minus_one_is_a_number_in_every_field() {
         "R 1 6 -1 0",
         "R 1 165 -1 0",
         "R 1 4 0 -1",
+        "A -1 100",
+        "A 1 -1",
+        "D -1",
         "K -1 1",
         "K 5 -1",
         "O -1 5 2",
@@ -312,12 +340,13 @@ fn an_lf_inside_a_lent_line_is_2_unless_1_comes_first() {
 
 #[test]
 fn other_letters_are_2() {
-    for letter in (0..=255).filter(|letter| !b"NXCRKOZ".contains(letter)) {
+    for letter in (0..=255).filter(|letter| !b"NXCRADKOZ".contains(letter)) {
         assert_eq!(read(&[letter, b'\n']), Err(2));
         assert_eq!(read(&[letter, b'\t', b'1', b'\n']), Err(2));
     }
     for other in [
-        "n 1 100", "A 1 100", "D 1", "o 1 5 2", "k 5 1", "M 8 1", "NN 1 100", "KK 5 1", "ZZ",
+        "n 1 100", "a 1 100", "d 1", "o 1 5 2", "k 5 1", "M 8 1", "NN 1 100", "AA 1 100", "DD 1",
+        "KK 5 1", "ZZ",
     ] {
         assert_eq!(said(other), 2, "{other}");
     }
@@ -344,8 +373,9 @@ fn n_handles_are_local_kind_and_never_null() {
 }
 
 #[test]
-fn env_0_is_3_on_n_and_on_c() {
+fn env_0_is_3_on_n_on_a_and_on_c() {
     assert_eq!(said("N 1 0"), 3);
+    assert_eq!(said("A 1 0"), 3);
     assert_eq!(said("C 1 0 4 0 0 0 0"), 3);
 }
 
@@ -486,6 +516,15 @@ fn both_ends_of_all_ranges() {
         ("R 1 232 0 0", 0),
         ("R 1 233 0 0", 3),
         ("R 1 4 0 2", 3),
+        ("A 0 1", 3),
+        ("A 1 1", 0),
+        ("A 16 18446744073709551615", 0),
+        ("A 17 1", 3),
+        ("A 1 18446744073709551616", 3),
+        ("D 0", 3),
+        ("D 1", 0),
+        ("D 16", 0),
+        ("D 17", 3),
         ("K 0 1", 3),
         ("K 1 0", 3),
         ("K 1 1", 0),
@@ -525,6 +564,8 @@ fn the_writer_refuses_what_the_reader_would() {
         result,
         pending,
     };
+    let a = |thread, env| Event::A { thread, env };
+    let d = |thread| Event::D { thread };
     let k = |class, superclass| Event::K { class, superclass };
     let o = |thread, handle, class| Event::O {
         thread,
@@ -566,6 +607,13 @@ fn the_writer_refuses_what_the_reader_would() {
         r(217, i128::MIN, 0),
         r(4, 0, 2),
         r(3, 0, 0),
+        a(0, 1),
+        a(17, 1),
+        a(257, 1),
+        a(1, 0),
+        d(0),
+        d(17),
+        d(u32::MAX),
         k(0, 1),
         k(4_096, 1),
         k(5, 0),
@@ -658,7 +706,12 @@ fn any_event_the_writer_takes_is_read_back() {
         };
         let thread = random.between(0, 17);
         let function = random.between(0, 240);
-        let event = match random.below(6) {
+        let event = match random.below(8) {
+            6 => Event::A {
+                thread,
+                env: number(&mut random),
+            },
+            7 => Event::D { thread },
             4 => Event::K {
                 class: random.between(0, 4_096),
                 superclass: random.between(0, 4_096),
@@ -708,5 +761,5 @@ fn any_event_the_writer_takes_is_read_back() {
             Err(refusal) => assert_eq!(refusal, 3),
         }
     }
-    assert!(taken > 20_000);
+    assert!(taken > 20_000, "{taken}");
 }

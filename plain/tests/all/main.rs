@@ -1,11 +1,13 @@
 //! All tests of the plain judge, its makers of traces and its programs.
 
 mod acts;
+mod attached;
 mod called;
 mod classes;
 mod common;
 mod facts;
 mod foreign;
+mod foreign_attached;
 mod foreign_classes;
 mod foreign_maker;
 mod indexed;

@@ -8,6 +8,7 @@ use plain::coverage::Coverage;
 use plain::facts::FAMILIES;
 use plain::indexed::Indexes;
 use plain::judge::Judge;
+use plain::lent::book::Top;
 use plain::lent::lookup::{Buffers, Handles};
 use plain::lent::references::HANDLE;
 use plain::lent::rows::THREAD;
@@ -108,9 +109,10 @@ fn the_chosen_traces_show_all_that_the_candidates_show() {
     assert_eq!(shown(&chosen), shown(&candidates));
     assert_shown(&filled(), &shown(&chosen));
     assert_shown(&classed(), &shown(&chosen));
+    assert_shown(&attached(), &shown(&chosen));
     assert!(chosen.len() * 20 < candidates.len(), "{}", chosen.len());
     let lines: usize = chosen.iter().map(|made| made.lines().count()).sum();
-    assert!(lines < 6_500, "{lines}");
+    assert!(lines < 7_800, "{lines}");
 }
 
 #[test]
@@ -264,6 +266,114 @@ fn what_classes_show_comes_up() {
     let sights = |trace: Vec<u8>| sights(&trace, REFERENCE_ROWS, PIN_ROWS);
     let shown: BTreeSet<String> = traces.flat_map(sights).collect();
     assert_shown(&classed(), &shown);
+}
+
+/// What attached threads show: what they may follow, what they bring, and what is left of them.
+fn attached() -> Vec<String> {
+    let mut attached = Vec::new();
+    let mut add = |sight: String| attached.push(sight);
+    for (letter, tops) in [
+        ("A", ["native", "attached", "call"]),
+        ("D", ["nothing", "native", "call"]),
+    ] {
+        for top in tops {
+            add(format!("4: {letter} {letter} over {top} over {top}"));
+        }
+        add(format!("4: {letter} after Z"));
+    }
+    for letter in ["N", "X", "R"] {
+        add(format!("4: {letter} {letter} over attached over attached"));
+    }
+    for open in ["N over nothing", "A"] {
+        add(format!("{open}: env by nothing").replace("nothing:", "nothing,"));
+        for by in ["N", "A"] {
+            for close in ["X", "D"] {
+                let entered = format!("env by {by}, closed by {close}");
+                add(format!("{open}: {entered}").replace("nothing:", "nothing,"));
+            }
+        }
+    }
+    for letter in ["N", "A"] {
+        for idle in [false, true] {
+            add(format!("5: {letter} shared, sharer idle {idle}"));
+        }
+        for (by, close) in [("N", "X"), ("A", "D")] {
+            add(format!(
+                "5: {letter} changed, env by {by}, closed by {close}"
+            ));
+        }
+    }
+    for seen in [
+        "A: pending true",
+        "A: more monitors",
+        "C over attached: own env false",
+        "C: pending false by A",
+        "N over call, lowest attached",
+        "20: attached, of one frames",
+        "20: pushed true, below Some(false)",
+        "R: over false, attached",
+        "R: over true, attached",
+        "Z: attached true",
+        "D: no locals, others false",
+        "D: more locals, others true",
+        "D: more locals in more frames",
+        "D: no monitors, others true",
+        "D: one monitors",
+        "D: more monitors",
+        "D: one monitors, held before A",
+        "D: more monitors, held before A",
+        "D: no monitors, by D",
+        "D: not critical, others true",
+        "D: one critical",
+        "D: more critical",
+        "D: 2 findings",
+        "218: no monitors, by D",
+        "local alive false, ended by D, above false",
+        "local alive false, ended by D, above true",
+        "local alive true, not ended by D, of its thread false",
+        "global alive true, not ended by D",
+        "b: null false, one critical, D",
+        "N names ended by D",
+        "R makes ended by D",
+    ] {
+        add(seen.to_string());
+    }
+    attached
+}
+
+#[test]
+fn what_attached_threads_show_comes_up() {
+    let profiles = ["polls", "polling", "overflow"].map(|name| profile(name).unwrap());
+    let traces = profiles.into_iter().flat_map(|profile| {
+        (0..600).map(move |seed| make(profile, seed, 100, REFERENCE_ROWS, PIN_ROWS))
+    });
+    let sights = |trace: Vec<u8>| sights(&trace, REFERENCE_ROWS, PIN_ROWS);
+    assert_shown(&attached(), &traces.flat_map(sights).collect());
+}
+
+#[test]
+fn attached_threads_leave_the_others_most_of_the_room() {
+    let (mut entered, mut attached) = (0, 0);
+    for trace in made_traces(10) {
+        let mut judge = Judge::new(REFERENCE_ROWS, PIN_ROWS);
+        for line in trace.split_inclusive(|&byte| byte == b'\n') {
+            let idle = (1..=16).map(|thread| judge.tables().book.items(thread) == 0);
+            let idle: Vec<bool> = idle.collect();
+            if judge.step(line).is_err() {
+                break;
+            }
+            let mut opened = (1..=16).zip(idle).filter(|&(_, was_idle)| was_idle);
+            match opened.find_map(|(thread, _)| {
+                Some(judge.tables().book.top(thread)).filter(|top| *top != Top::Nothing)
+            }) {
+                Some(Top::Attached) => attached += 1,
+                Some(_) => entered += 1,
+                None => {}
+            }
+        }
+    }
+    let percent = 100 * attached / (attached + entered);
+    assert!((8..=25).contains(&percent), "{attached} of {entered}");
 }
 
 /// Each that is wanted starts one that is shown.

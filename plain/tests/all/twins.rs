@@ -281,7 +281,11 @@ fn cut(event: Event, sort: &str) -> Event {
             handle: named(handle),
             class,
         },
-        Event::K { .. } | Event::Z => event,
+        Event::A { thread, env } => Event::A {
+            thread,
+            env: of("envs of A", env).max(1),
+        },
+        Event::D { .. } | Event::K { .. } | Event::Z => event,
     }
 }
 
@@ -300,7 +304,7 @@ fn judgement(judge: &mut Judge, event: &Event) -> Result<Vec<(u8, u8)>, u8> {
 fn made_traces_tell_a_judge_that_cuts_values() {
     let mut told: BTreeMap<&str, u32> = BTreeMap::new();
     for trace in made_traces(6) {
-        for sort in ["envs", "handles", "identities", "buffers"] {
+        for sort in ["envs", "envs of A", "handles", "identities", "buffers"] {
             let mut judges = [(); 2].map(|()| Judge::new(REFERENCE_ROWS, PIN_ROWS));
             let lines = trace.split_inclusive(|&byte| byte == b'\n');
             let differs = |event: Event| {
