@@ -161,6 +161,7 @@ pub const PROFILES: [Profile; 22] = [
         nested: 10,
         left: 1,
         spoilt: 3,
+        attached: 30,
         pending: 2,
         favoured: 95,
         functions: &[6, 19, 19, 19, 19, 19, 19, 19, 19, 19, 19, 20, 25, 26],
@@ -176,6 +177,7 @@ pub const PROFILES: [Profile; 22] = [
         left: 3,
         handles: MOST_HANDLES + 1,
         spoilt: 3,
+        attached: 40,
         pending: 2,
         favoured: 95,
         functions: &[
@@ -206,6 +208,7 @@ pub const PROFILES: [Profile; 22] = [
         name: "critical",
         threads: (1, 3),
         numbers: 3,
+        attached: 25,
         favoured: 70,
         functions: &[222, 223, 223, 224, 225, 225],
         ..MIXED
@@ -213,6 +216,7 @@ pub const PROFILES: [Profile; 22] = [
     Profile {
         name: "monitors",
         threads: (1, 3),
+        attached: 25,
         favoured: 80,
         functions: &[217, 217, 218, 218],
         ..MIXED
@@ -375,6 +379,7 @@ const FEW: Profile = Profile {
 pub const DENSE: [Profile; 10] = [
     Profile {
         name: "locals",
+        attached: 25,
         functions: &[6, 6, 6, 19, 19, 20, 20, 23, 23, 24, 26],
         ..FEW
     },
@@ -402,6 +407,7 @@ pub const DENSE: [Profile; 10] = [
     },
     Profile {
         name: "held",
+        attached: 25,
         pending: 30,
         functions: &[6, 17, 24, 217, 217, 218, 218],
         ..FEW
@@ -424,6 +430,7 @@ pub const DENSE: [Profile; 10] = [
         stale: 0,
         nested: 3,
         left: 0,
+        attached: 35,
         crowded: 0,
         handles: MOST_HANDLES + 1,
         pending: 0,
@@ -651,9 +658,8 @@ impl Maker<'_> {
 
     /// An N or an A.
     fn open_with_doubtful_env(&mut self, thread: u32) -> Event {
-        let (thread, env) = if self.random.percent(50) {
-            let closed = self.closed_thread().filter(|_| self.random.percent(70));
-            let thread = closed.unwrap_or(thread);
+        let (thread, env) = if self.random.percent(75) {
+            let thread = self.closed_thread().unwrap_or(thread);
             (thread, self.other_env(thread))
         } else {
             let book = self.judge.tables().book;

@@ -384,7 +384,7 @@ fn small_thread(random: &mut Random, row: &mut [Word], number: u32, is_open: boo
     };
     row[ITEMS] = match row[FRAMES] {
         0 => 0,
-        63 | 64 if random.percent(20) => 0,
+        63 | 64 if random.percent(40) => 0,
         _ => random.pick(&[0, 1, 1, 2, 2, 3, 4, 8, 63, 64, 64]),
     };
     for index in 0..row[FRAMES] as usize {
@@ -441,11 +441,13 @@ fn attach(random: &mut Random, row: &mut [Word]) {
         .checked_sub(1)
         .filter(|&top| lowest <= top)
     {
-        if random.percent(30) {
+        let is_last = top + 1 == MOST_ITEMS;
+        if random.percent(if is_last { 70 } else { 30 }) {
             row[NATIVES] = row[NATIVES] & !(1 << lowest) | 1 << top;
         }
         if random.percent(50) {
-            row[FUNCTIONS + top] = random.pick(&LIKE);
+            let functions = random.pick(&[&[OF_ATTACHED][..], &LIKE]);
+            row[FUNCTIONS + top] = random.pick(functions);
         }
     }
 }

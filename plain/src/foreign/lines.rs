@@ -5,7 +5,7 @@ use crate::class::{OBJECT, THROWABLE};
 use crate::damage::{damage_bytes, damage_fields, odd_line};
 use crate::edge::edge_line;
 use crate::facts::*;
-use crate::lent::book::Top;
+use crate::lent::book::{Top, OF_NATIVE};
 use crate::lent::pins::{self, Pin, BUFFER, FAMILY};
 use crate::lent::references::{self, Reference, CLASS, HANDLE};
 use crate::lent::rows::{Rows, THREAD};
@@ -37,9 +37,13 @@ pub fn line(tables: &Tables, follow: &mut Vec<Vec<u8>>, random: &mut Random) -> 
 }
 
 fn damaged(tables: &Tables, random: &mut Random) -> Vec<u8> {
-    let mut lines = vec![aimed(tables, random)];
-    if random.percent(50) {
-        damage_fields(&mut lines, random);
+    let line = aimed(tables, random);
+    let mut lines = vec![line.clone()];
+    if line.contains(&b'\t') && random.percent(50) {
+        // What is damaged are lines of some letter, which may be another.
+        while lines[0] == line {
+            damage_fields(&mut lines, random);
+        }
     } else {
         damage_bytes(&mut lines, random);
     }
@@ -92,6 +96,12 @@ impl Aim<'_, '_> {
         self.tables.book.top(thread)
     }
 
+    /// Whether the top item has a function that no native has from a start.
+    fn is_odd(&self, thread: u32) -> bool {
+        let book = &self.tables.book;
+        book.function(thread, book.items(thread) - 1) != OF_NATIVE
+    }
+
     fn event(&self, thread: u32, random: &mut Random) -> Event {
         let choice = random.below(100);
         match self.top(thread) {
@@ -104,7 +114,7 @@ impl Aim<'_, '_> {
             _ if choice < 17 => Event::D { thread },
             Top::Nothing if choice < 40 => self.attach(thread, random),
             Top::Nothing => self.enter(thread, random),
-            Top::Native if choice < 21 => Event::D { thread },
+            Top::Native if choice < 20 || choice < 24 && self.is_odd(thread) => Event::D { thread },
             Top::Native if choice < 33 => self.leave(thread, random),
             Top::Attached if choice < 35 => Event::D { thread },
             Top::Native | Top::Attached => self.call(thread, random),
@@ -192,9 +202,9 @@ impl Aim<'_, '_> {
             ResultKind::Global => Field::from(handle / 4 * 4 + GLOBAL),
             ResultKind::Weak => Field::from(handle / 4 * 4 + WEAK),
             ResultKind::Identity => Field::from(handle / 4 * 4),
-            ResultKind::Buffer(_) => {
+            ResultKind::Buffer(family) => {
                 let buffer = random.between(0, 9).into();
-                let twin = twin_of(buffer, random);
+                let twin = twin_of(self.buffer(thread, family, random), random);
                 random.pick(&[buffer, buffer, buffer, twin]).into()
             }
         };
@@ -327,7 +337,9 @@ fn a_function(random: &mut Random) -> u32 {
         return random.between(FIRST_FUNCTION, LAST_FUNCTION);
     }
     if random.percent(45) {
-        return random.pick(&[11, 13, 13, 13, 13, 13, 31, 32, 64, 113, 164, 164, 168, 170]);
+        return random.pick(&[
+            11, 13, 13, 13, 13, 13, 13, 13, 13, 31, 32, 64, 113, 164, 164, 164, 168, 170,
+        ]);
     }
     random.pick(&[
         6, 19, 20, 20, 20, 21, 22, 22, 23, 23, 24, 26, 64, 104, 154, 165, 166, 170, 191, 218, 222,

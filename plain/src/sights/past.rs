@@ -148,7 +148,10 @@ impl Past {
         let happened = self.threads.entry(own).or_default();
         let act = match *event {
             Event::C { function, .. } => function.to_string(),
-            Event::X { .. } => format!("X of {} frames", few(happened.frames.len() - depth)),
+            Event::X { .. } | Event::D { .. } => {
+                let ended = few(happened.frames.len() - depth);
+                format!("{} of {ended} frames", letter(event))
+            }
             _ => letter(event).to_string(),
         };
         let after = lives(after);

@@ -15,7 +15,8 @@ const LEAVE: &str = "X 1 0";
 const OPEN: &str = "C 1 100 4 0 0 0 0";
 const RETURN: &str = "R 1 4 0 0";
 
-/// The get and the release of a critical buffer.
+/// The get of an ordinary buffer, and the get and the release of a critical one.
+const ORDINARY_GET: u32 = FAMILIES[0].0;
 const GET: u32 = FAMILIES[FIRST_CRITICAL].0;
 const RELEASE: u32 = FAMILIES[FIRST_CRITICAL].1;
 
@@ -117,12 +118,13 @@ fn after_d() -> Vec<(String, Vec<String>)> {
     all
 }
 
-/// D with so many critical buffers and monitors, got in an earlier native, in the attached item or in a native nested there, or by another thread alone; what is left of them.
+/// D with an ordinary buffer and so many critical ones and monitors, got in an earlier native, in the attached item or in a native nested there, or by another thread alone; what is left of them.
 fn judged() -> Vec<(String, Vec<String>)> {
     let mut all = Vec::new();
     for buffers in 0..=2 {
         for monitors in 0..=3 {
             let got = [
+                calls(&[(ORDINARY_GET, 0, 8)]),
                 calls(&vec![(GET, 0, 8); buffers]),
                 calls(&vec![(MONITOR_ENTER, 0, 0); monitors]),
             ]
@@ -232,10 +234,10 @@ fn pending() -> Vec<String> {
     lines
 }
 
-/// A native in a call of an attached thread ends its own locals alone.
+/// A native in a call of an attached thread ends its own locals alone; a call with another env before it.
 fn nested() -> Vec<String> {
     [
-        owned(&[ATTACH]),
+        owned(&[ATTACH, "C 1 101 4 0 0 0 0", RETURN]),
         calls(&[
             (NEW_LOCAL_REF, 0, 5),
             (PUSH_LOCAL_FRAME, 0, 0),
