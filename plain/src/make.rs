@@ -6,7 +6,7 @@ use crate::damage::{damage_bytes, damage_fields, disorder, odd_line};
 use crate::edge::edge_line;
 use crate::facts::*;
 use crate::judge::Judge;
-use crate::lent::book::Top;
+use crate::lent::book::{Book, Top};
 use crate::lent::lookup::{Buffers, Handles};
 use crate::lent::pins::{self, BUFFER, FAMILY};
 use crate::lent::references::{self, HANDLE};
@@ -301,11 +301,11 @@ pub const PROFILES: [Profile; 22] = [
     Profile {
         name: "polls",
         usual_lines: (20, 200),
-        threads: (1, 4),
+        threads: (2, 5),
         numbers: 6,
         stale: 10,
         nested: 20,
-        left: 25,
+        left: 30,
         attached: 65,
         classed: 0,
         pending: 10,
@@ -315,7 +315,7 @@ pub const PROFILES: [Profile; 22] = [
         ],
         refused: 65,
         closed: 25,
-        refusals: &[4, 4, 4, 5, 5],
+        refusals: &[4, 4, 4, 5, 5, 5],
         ..MIXED
     },
     Profile {
@@ -417,7 +417,9 @@ pub const DENSE: [Profile; 10] = [
         left: 30,
         attached: 70,
         functions: &[6, 6, 19, 20, 24, 24, 217, 217, 218, 222, 223],
-        refusals: &[4, 4, 4, 5, 5, 6],
+        refused: 65,
+        closed: 20,
+        refusals: &[4, 4, 4, 5, 5, 5, 5, 6],
         ..FEW
     },
     Profile {
@@ -640,6 +642,11 @@ impl Maker<'_> {
         if self.profile.classed > 0 && self.random.percent(40) {
             return self.doubtful_class_event(thread);
         }
+        let attached = self.thread_with(|book, thread| book.top(thread) == Top::Attached);
+        let thread = match attached {
+            Some(attached) if self.random.percent(self.profile.attached) => attached,
+            _ => thread,
+        };
         match self.random.below(10) {
             0 => self.enter(thread),
             1 => self.leave(thread),
@@ -658,15 +665,13 @@ impl Maker<'_> {
 
     /// An N or an A.
     fn open_with_doubtful_env(&mut self, thread: u32) -> Event {
-        let (thread, env) = if self.random.percent(75) {
-            let thread = self.closed_thread().unwrap_or(thread);
-            (thread, self.other_env(thread))
+        let closed = self
+            .thread_with(|book, thread| book.env(thread) != 0 && book.top(thread) == Top::Nothing);
+        let closed = closed.unwrap_or(thread);
+        let (thread, env) = if self.random.percent(60) {
+            (closed, self.other_env(closed))
         } else {
-            let book = self.judge.tables().book;
-            let is_idle = |&thread: &u32| book.top(thread) == Top::Nothing;
-            let idle = self.threads.iter().copied().find(is_idle);
-            let sharer = self.random.between(1, THREADS);
-            (sharer, env_of(idle.unwrap_or(thread)))
+            (self.random.between(1, THREADS), env_of(closed))
         };
         if self.random.percent(self.profile.attached.max(30)) {
             return Event::A { thread, env };
@@ -679,12 +684,12 @@ impl Maker<'_> {
         }
     }
 
-    /// A thread that has an env and no open items.
-    fn closed_thread(&mut self) -> Option<u32> {
+    /// One of the threads that are such, if there is any.
+    fn thread_with(&mut self, is_such: impl Fn(&Book, u32) -> bool) -> Option<u32> {
         let book = self.judge.tables().book;
-        let is_closed = |&thread: &u32| book.env(thread) != 0 && book.items(thread) == 0;
-        let closed: Vec<u32> = self.threads.iter().copied().filter(is_closed).collect();
-        (!closed.is_empty()).then(|| self.random.pick(&closed))
+        let threads = self.threads.iter().copied();
+        let such: Vec<u32> = threads.filter(|&thread| is_such(&book, thread)).collect();
+        (!such.is_empty()).then(|| self.random.pick(&such))
     }
 
     fn enter_with_doubtful_handles(&mut self, thread: u32) -> Event {
