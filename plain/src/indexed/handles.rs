@@ -169,10 +169,6 @@ impl Handles for IndexedHandles<'_> {
         self.index.highest[thread as usize] = first - 1;
     }
 
-    fn end_locals(&mut self, thread: u32) {
-        self.end_locals_from(thread, 1);
-    }
-
     fn locals_alive_in(&self, thread: u32, frame: usize) -> usize {
         self.index.frames[thread as usize][frame].alive as usize
     }

@@ -32,9 +32,6 @@ pub trait Handles {
     /// Ends the locals of the thread's frames from this one up.
     fn end_locals_from(&mut self, thread: u32, first: usize);
 
-    /// Ends all locals of the thread.
-    fn end_locals(&mut self, thread: u32);
-
     fn locals_alive_in(&self, thread: u32, frame: usize) -> usize;
 
     fn globals_and_weaks_alive(&self) -> usize;

@@ -56,12 +56,6 @@ impl Handles for References<'_> {
             .end_all(|row| row[THREAD] == thread && row[FRAME] >= first);
     }
 
-    /// Whatever its frame, a row of the thread is one of them.
-    fn end_locals(&mut self, thread: u32) {
-        let thread = Number::from(thread);
-        self.rows.end_all(|row| row[THREAD] == thread);
-    }
-
     fn locals_alive_in(&self, thread: u32, frame: usize) -> usize {
         let (thread, frame) = (Number::from(thread), frame as Number);
         self.rows

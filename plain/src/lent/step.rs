@@ -303,8 +303,7 @@ impl<H: Handles, B: Buffers> Tables<'_, H, B> {
             findings.add(9, 0, monitors);
         }
 
-        self.references.end_locals(thread);
-        self.book.set_frames(thread, 0);
+        self.end_frames_from(thread, 1);
         self.book.clear_monitors(thread);
         self.book.pop_item(thread);
         Ok(())

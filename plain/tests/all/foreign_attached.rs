@@ -83,14 +83,14 @@ fn items_left_by_d_without_a_frame_are_8() {
 }
 
 #[test]
-fn d_ends_every_used_row_of_its_thread_whatever_the_frame() {
+fn d_ends_the_rows_of_all_frames_of_its_thread() {
     let mut lent = attached();
     for (index, row) in [
-        [1, 5, 0, 7],
+        [1, 6, 3, 7],
         [1, 9, 1, 7],
         [1, 13, 64, 7],
         [1, 17, u64::MAX, 7],
-        [1, 6, 3, 7],
+        [1, 21, 0, 7],
         [2, 5, 1, 7],
         [0, 6, 0, 7],
         [HIGH + 1, 5, 1, 7],
@@ -106,14 +106,14 @@ fn d_ends_every_used_row_of_its_thread_whatever_the_frame() {
     let pins = (lent.pins.clone(), lent.pin_marks.clone());
     let rows = lent.rows.clone();
     assert_eq!(lent.accepts("D 1"), ["2 3 0 0"]);
-    assert_eq!(lent.marks, [0b1110_0000]);
+    assert_eq!(lent.marks, [0b1111_0000]);
     assert_eq!(
-        lent.rows[..5 * REFERENCE_NUMBERS],
-        [0; 5 * REFERENCE_NUMBERS]
+        lent.rows[..4 * REFERENCE_NUMBERS],
+        [0; 4 * REFERENCE_NUMBERS]
     );
     assert_eq!(
-        lent.rows[5 * REFERENCE_NUMBERS..],
-        rows[5 * REFERENCE_NUMBERS..]
+        lent.rows[4 * REFERENCE_NUMBERS..],
+        rows[4 * REFERENCE_NUMBERS..]
     );
     assert_eq!((lent.pins, lent.pin_marks), pins);
 }
