@@ -21,6 +21,12 @@ call-tight κs args = (tt, λ x y p q. by-rows-and-book x y (p []) (q []))
 pub declare-tight : Tight act.declare.declare.ended act.declare.declare.Reads.Asked act.declare.declare.Reads.Learnt
 declare-tight κs args = (tt, λ x y p q. by (λ (T : Tables). given (x .reply) (T .book, (T .classes, x .left .1 .1))) (p [] [] [] [] 0 0) (q [] [] [] [] 0 0))
 
+pub detach-book-tight : Tight act.detach.write_book.ended act.detach.write_book.Reads.Asked act.detach.write_book.Reads.Learnt
+detach-book-tight κs args = (tt, by-slice)
+
+pub detach-tight : Tight act.detach.detach.ended act.detach.detach.Reads.Asked act.detach.detach.Reads.Learnt
+detach-tight κs args = (tt, λ x y p q. by-references-and-book x y (p [] [] [] 0 0) (q [] [] [] 0 0))
+
 pub end-tight : Tight act.end.end.ended act.end.end.Reads.Asked act.end.end.Reads.Learnt
 end-tight κs args = (tt, λ x y p q. by (λ (T : Tables). given (x .reply) (T .book, tt)) (p [] [] [] [] [] 0 0) (q [] [] [] [] [] 0 0))
 

@@ -32,6 +32,9 @@ add-monitor-tight κs args = (tt, by-slice)
 pub take-monitor-tight : Tight book.take_monitor.ended book.take_monitor.Reads.Asked book.take_monitor.Reads.Learnt
 take-monitor-tight κs args = (tt, by-slice)
 
+pub drop-monitors-tight : Tight book.drop_monitors.ended book.drop_monitors.Reads.Asked book.drop_monitors.Reads.Learnt
+drop-monitors-tight κs args = (tt, by-slice)
+
 pub frames-of-tight : Tight book.frames_of.ended book.frames_of.Reads.Asked book.frames_of.Reads.Learnt
 frames-of-tight κs args = (tt, λ x y. by-reply-first x y)
 
@@ -49,6 +52,9 @@ push-frame-tight κs args = (tt, by-slice)
 
 pub leave-native-tight : Tight book.leave_native.ended book.leave_native.Reads.Asked book.leave_native.Reads.Learnt
 leave-native-tight κs args = (tt, by-slice)
+
+pub end-frames-tight : Tight book.end_frames.ended book.end_frames.Reads.Asked book.end_frames.Reads.Learnt
+end-frames-tight κs args = (tt, by-slice)
 
 pub pop-frame-tight : Tight book.pop_frame.ended book.pop_frame.Reads.Asked book.pop_frame.Reads.Learnt
 pop-frame-tight κs args = (tt, by-slice)

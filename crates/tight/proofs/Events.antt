@@ -7,6 +7,12 @@ use Rattle.events.specs.Outcome.{Outcome}
 use Rattle.tight.specs.Tight.{given, Tight}
 use Rattle.tight.proofs.Shapes.{by, by-reply, with-table, with-rows-and-book}
 
+pub attach-tight : Tight events.attach.attach.ended events.attach.attach.Reads.Asked events.attach.attach.Reads.Learnt
+attach-tight κs args = (
+  tt,
+  λ x y p q. by (λ (o : Outcome). given (o .answer) (with-table (o .left .references) (o .left .book, x .left .1 .1 .1))) (p [] [] []) (q [] [] []),
+)
+
 pub call-tight : Tight events.call.call.ended events.call.call.Reads.Asked events.call.call.Reads.Learnt
 call-tight κs args = (
   tt,
@@ -17,6 +23,15 @@ pub declare-tight : Tight events.declare.declare.ended events.declare.declare.Re
 declare-tight κs args = (
   tt,
   λ x y p q. by (λ (o : Outcome). given (o .answer) (o .left .book, (o .left .classes, x .left .1 .1))) (p [] [] [] [] 0 none 0) (q [] [] [] [] 0 none 0),
+)
+
+pub detach-tight : Tight events.detach.detach.ended events.detach.detach.Reads.Asked events.detach.detach.Reads.Learnt
+detach-tight κs args = (
+  tt,
+  λ x y p q.
+      by (λ (o : Outcome). given (o .answer) (with-table (o .left .references) (x .left .1 .1 .0, (x .left .1 .1 .1 .0, (o .left .book, x .left .1 .1 .1 .1 .1)))))
+      (p [] 0)
+      (q [] 0),
 )
 
 pub end-tight : Tight events.end.end.ended events.end.end.Reads.Asked events.end.end.Reads.Learnt

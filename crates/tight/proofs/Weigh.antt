@@ -3,6 +3,9 @@ use Rattle.weigh.proofs as weigh
 use Rattle.tight.specs.Tight.{Tight}
 use Rattle.tight.proofs.Shapes.{by-reply}
 
+pub attach-turn-tight : Tight weigh.attach.in_turn.ended weigh.attach.in_turn.Reads.Asked weigh.attach.in_turn.Reads.Learnt
+attach-turn-tight κs args = (tt, by-reply)
+
 pub call-refusal-tight : Tight weigh.call.refusal.ended weigh.call.refusal.Reads.Asked weigh.call.refusal.Reads.Learnt
 call-refusal-tight κs args = (tt, by-reply)
 
@@ -11,6 +14,12 @@ call-findings-tight κs args = (tt, by-reply)
 
 pub declare-refusal-tight : Tight weigh.declare.refusal.ended weigh.declare.refusal.Reads.Asked weigh.declare.refusal.Reads.Learnt
 declare-refusal-tight κs args = (tt, by-reply)
+
+pub detach-refusal-tight : Tight weigh.detach.refusal.ended weigh.detach.refusal.Reads.Asked weigh.detach.refusal.Reads.Learnt
+detach-refusal-tight κs args = (tt, by-reply)
+
+pub detach-findings-tight : Tight weigh.detach.findings.ended weigh.detach.findings.Reads.Asked weigh.detach.findings.Reads.Learnt
+detach-findings-tight κs args = (tt, by-reply)
 
 pub end-findings-tight : Tight weigh.end.findings.ended weigh.end.findings.Reads.Asked weigh.end.findings.Reads.Learnt
 end-findings-tight κs args = (tt, by-reply)
