@@ -134,6 +134,7 @@ static void trace(void)
 {
     /* as a 64-bit VM gives them; the two locals are equal in their lower 32 bits */
     const uint64_t env = 140102034691320u;
+    const uint64_t poll = 140102034703640u;
     const uint64_t arguments[WEIR_HANDLES] = {5, 4294967301u};
     uint8_t d[WEIR_LINE];
 
@@ -165,8 +166,14 @@ static void trace(void)
     /* PopLocalFrame with nothing to keep */
     emit(d, checked_call(d, 1, env, 20, 0, 0, 0, 0));
     emit(d, checked_return(d, 1, 20, 0, 0, 0));
-    /* back to Java with the local 5, and the end */
+    /* back to Java with the local 5 */
     emit(d, checked_leave(d, 1, 5));
+    /* thread 2 started in C: it attaches itself, calls FindClass and detaches itself */
+    emit(d, checked_attach(d, 2, poll));
+    emit(d, checked_call(d, 2, poll, 6, 0, 0, 0, 0));
+    emit(d, checked_return(d, 2, 6, 5, 0, 0));
+    emit(d, checked_detach(d, 2));
+    /* the end */
     emit(d, checked_end(d));
 }
 
