@@ -52,3 +52,4 @@ mod AgainCases
 mod LeakCases
 mod ClassCases
 mod AttachedCases
+mod DetachedCases
