@@ -2,7 +2,7 @@
 use Prim.Native.Nat.{ℕ, pred, _+_, _-_, _^_, min, max}
 use mathlib.Core.Bool.{Bool}
 use mathlib.Core.List.{List, [], _∷_, tail}
-use lib.Dec.{eqb, ltb}
+use lib.Dec.{ltb}
 use lib.Bits.{bitAnd, bitOr}
 use lib.ListN.{length, replicate}
 use Rattle.words.specs.Choice.{if_then_else_, one}

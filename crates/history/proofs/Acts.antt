@@ -8,7 +8,7 @@ use lib.IntN.{ℤ, pos}
 use lib.ListN.{length, drop}
 use Rattle.words.specs.Choice.{if_then_else_}
 use Rattle.facts.specs.Named.{PushLocalFrame, PopLocalFrame, EnsureLocalCapacity, MonitorEnter, MonitorExit}
-use Rattle.lines.specs.Line.{N, X, C, R, A, D, is-zero, above-zero}
+use Rattle.lines.specs.Line.{N, X, C, R, is-zero, above-zero}
 use Rattle.history.specs.Past.{History}
 use Rattle.history.specs.Items.{in-native, in-call, items, top-of, asked}
 use Rattle.history.specs.Frames.{Frame, entered, pushed, frames, depth, without-native, without-pushed}

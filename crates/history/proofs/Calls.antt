@@ -10,7 +10,7 @@ use lib.ListN.{length}
 use borrow.Author.Tests.{ltb-false}
 use Rattle.words.specs.Choice.{if_then_else_}
 use Rattle.facts.specs.Named.{PushLocalFrame, PopLocalFrame, EnsureLocalCapacity}
-use Rattle.lines.specs.Line.{Line, N, X, C, R, A, D, is-zero, above-zero}
+use Rattle.lines.specs.Line.{Line, N, X, C, R, is-zero, above-zero}
 use Rattle.history.specs.Past.{History}
 use Rattle.history.specs.Items.{Item, in-call, items, top-of, asked}
 use Rattle.history.specs.Frames.{Frame, entered, pushed, frames, without-native, without-pushed, depth}

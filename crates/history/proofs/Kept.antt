@@ -9,7 +9,7 @@ use lib.IntN.{ℤ}
 use lib.ListN.{length, drop}
 use Rattle.words.specs.Choice.{if_then_else_}
 use Rattle.facts.specs.Named.{PushLocalFrame, PopLocalFrame, EnsureLocalCapacity}
-use Rattle.lines.specs.Line.{Line, N, X, C, R, A, D, is-zero}
+use Rattle.lines.specs.Line.{Line, N, X, C, R, is-zero}
 use Rattle.history.specs.Past.{History, is-of}
 use Rattle.history.specs.Items.{items, top-of, asked}
 use Rattle.history.specs.Frames.{Frame, entered, pushed, frames, depth, without-native, without-pushed}

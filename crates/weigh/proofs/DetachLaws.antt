@@ -1,7 +1,7 @@
 -- The findings of D, one behind another. Assumes nothing.
 use Prim.Native.Nat.{ℕ}
 use mathlib.Core.Path.{_≡_, _∙_}
-use mathlib.Core.List.{[], _++_}
+use mathlib.Core.List.{[]}
 use lib.Dec.{ltb}
 use Rattle.history.specs.Breaches.{when}
 use Rattle.history.specs.Findings.{found}
