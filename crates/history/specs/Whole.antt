@@ -1,4 +1,4 @@
--- Lines between which a thread closes all that it opens. Assumes nothing.
+-- Lines between which a thread closes all that it opens, inside an open item, where A and D are out of step. Assumes nothing.
 use Prim.Native.Nat.{ℕ}
 use mathlib.Core.Path.{_≡_}
 use mathlib.Core.Bool.{false}
