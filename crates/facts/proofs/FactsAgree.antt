@@ -1,6 +1,6 @@
--- Document 01's table of functions, its marks and its buffer families, and document 02's places with a class, agree with each other, for every number. Assumes nothing.
+-- Document 01's table of functions, its marks and its buffer families, and document 02's places with a class and its identities, agree with each other, for every number. Assumes nothing.
 use mathlib.Core.Path.{_≡_, refl, ap, sym, _∙_}
-use mathlib.Core.Bool.{Bool, true, false, _||_, false≢true}
+use mathlib.Core.Bool.{Bool, true, false, not, _||_, false≢true}
 use mathlib.Core.List.{List, [], _∷_}
 use mathlib.Core.Logic.{_≢_}
 use Prim.Native.Nat.{ℕ, zero, suc, _<_}
@@ -12,14 +12,15 @@ use borrow.Author.Tests.{eqb-true, eq-eqb}
 use Rattle.words.specs.Choice.{one}
 use Rattle.words.specs.Lists.{any, count}
 use Rattle.facts.specs.Table.{lists, first-function, last-function, is-function, place, Row, table, fact-of, is-allowed-pending, is-allowed-critical, in-pair, families, family, is-critical}
-use Rattle.facts.specs.Results.{is-buffer-result, is-buffer-place}
+use Rattle.facts.specs.Results.{is-buffer-result, is-buffer-place, is-identity-place}
 use Rattle.facts.specs.Classes.{no-class, class-a, class-b}
-use Rattle.facts.specs.Letters.{place-letter, no-family}
+use Rattle.facts.specs.Identities.{wanted-of, writes-field}
+use Rattle.facts.specs.Letters.{place-letter, no-letter, wanted-letter, no-family}
 use Rattle.facts.specs.declared.Place.{Place}
 use Rattle.facts.specs.declared.Place.the-variants as Place
 use Rattle.facts.proofs.Letters.{place-back, one-back}
 use Rattle.facts.proofs.Each.{each, each-at}
-use Rattle.facts.proofs.Outside.{how-many, above-last, gets, releases, no-fact-outside, no-row-outside, not-pending-outside, not-critical-outside, no-family-outside, no-pair-outside, no-getter-outside, no-releaser-outside, no-class-a-outside, no-class-b-outside}
+use Rattle.facts.proofs.Outside.{how-many, above-last, gets, releases, no-fact-outside, no-row-outside, not-pending-outside, not-critical-outside, no-family-outside, no-pair-outside, no-getter-outside, no-releaser-outside, no-class-a-outside, no-class-b-outside, nothing-wanted-outside, writes-nothing-outside}
 
 -- ---- a test computed once over the functions holds for each
 
@@ -134,3 +135,24 @@ pub class-b-handles : (f : ℕ) → class-b f ≢ no-class → fact-of f .b ≡ 
 unfolding table fact-of class-b
 class-b-handles f =
     handle-there (class-b f) (fact-of f .b) (by-functions (λ f. has-handle (class-b f) (fact-of f .b)) refl (λ f e. rw (no-class-b-outside f e)) f)
+
+-- ---- identities
+
+-- a function is handed an identity exactly where one is wanted
+abbrev has-identity : ℕ → Bool
+has-identity f = is-identity-place (fact-of f .a) || is-identity-place (fact-of f .b) || is-identity-place (fact-of f .c)
+
+pub identities-wanted : (f : ℕ) → has-identity f ≡ not (eqb (wanted-letter (wanted-of f)) no-letter)
+unfolding table fact-of wanted-of
+identities-wanted =
+    same-tests has-identity (λ f. not (eqb (wanted-letter (wanted-of f)) no-letter)) refl
+    (λ f e. ap (λ x. is-identity-place (x .a) || is-identity-place (x .b) || is-identity-place (x .c)) (no-fact-outside f e) ∙ sym (ap (λ w. not (eqb (wanted-letter w) no-letter)) (nothing-wanted-outside f e)))
+
+-- what writes wants a field
+abbrev field-wanted : ℕ → Bool
+field-wanted f = eqb (wanted-letter (wanted-of f)) (code "f") || eqb (wanted-letter (wanted-of f)) (code "F")
+
+pub written-are-fields : (f : ℕ) → (not (writes-field f) || field-wanted f) ≡ true
+unfolding wanted-of writes-field
+written-are-fields =
+    by-functions (λ f. not (writes-field f) || field-wanted f) refl (λ f e. rw (writes-nothing-outside f e) refl)

@@ -4,7 +4,9 @@ use mathlib.Core.Bool.{Bool, true, false}
 use native.Mathlib.Omega.{arith}
 use Rattle.words.specs.Choice.{one}
 use Rattle.facts.specs.Table.{place, result}
-use Rattle.facts.specs.Letters.{place-letter, result-letter}
+use Rattle.facts.specs.Letters.{place-letter, result-letter, wanted-letter, wanted-in}
+use Rattle.facts.specs.declared.identities.Wanted.{Wanted}
+use Rattle.facts.specs.declared.identities.Wanted.the-variants as Wanted
 use Rattle.facts.specs.declared.Place.{Place}
 use Rattle.facts.specs.declared.Place.the-variants as Place
 use Rattle.facts.specs.declared.Result.{Result}
@@ -28,6 +30,15 @@ result-back Result.Identity = refl
 result-back Result.Buffer = refl
 result-back Result.Status = refl
 result-back Result.Nothing = refl
+
+pub wanted-back : (w : Wanted) → wanted-in (wanted-letter w) ≡ w
+wanted-back Wanted.ObjectMethod = refl
+wanted-back Wanted.StaticMethod = refl
+wanted-back Wanted.ObjectField = refl
+wanted-back Wanted.StaticField = refl
+wanted-back Wanted.AnyMethod = refl
+wanted-back Wanted.AnyField = refl
+wanted-back Wanted.Nothing = refl
 
 pub one-back : (t u : Bool) → one t ≡ one u → t ≡ u
 one-back true true e = refl

@@ -1,4 +1,4 @@
--- A number that is no function stands in no row, no list of marks and no family. Assumes nothing.
+-- A number that is no function stands in no row, no list of marks and no family, and wants no identity. Assumes nothing.
 use mathlib.Core.Path.{_≡_, refl, ap, sym, _∙_}
 use mathlib.Core.Bool.{Bool, true, false, _&&_, _||_, false≢true}
 use mathlib.Core.List.{List, [], _∷_}
@@ -11,7 +11,9 @@ use Rattle.words.specs.Choice.{within}
 use Rattle.words.specs.Lists.{any, count, place-of}
 use Rattle.facts.specs.Table.{Span, only, _to_, in-span, lists, first-function, last-function, is-function, Row, table, no-fact, find, fact-of, allowed-pending, is-allowed-pending, is-allowed-critical, Pair, _/_, in-pair, families, family}
 use Rattle.facts.specs.Classes.{no-class, class-a, class-b}
+use Rattle.facts.specs.Identities.{wanted-of, writes-field}
 use Rattle.facts.specs.Letters.{no-family}
+use Rattle.facts.specs.declared.identities.Wanted.the-variants as Wanted
 
 -- ---- tests
 
@@ -150,6 +152,22 @@ module _ (f : ℕ) (none : is-function f ≡ false) where
   pub no-class-b-outside : class-b f ≡ no-class
   unfolding class-b
   no-class-b-outside = rw (not-listed (only 11 ∷ only 32 ∷ 64 to 93 ∷ []) refl)
+
+  pub nothing-wanted-outside : wanted-of f ≡ Wanted.Nothing
+  unfolding wanted-of
+  nothing-wanted-outside =
+      rw (
+        not-listed (28 to 30 ∷ 34 to 93 ∷ []) refl,
+        not-listed (114 to 143 ∷ []) refl,
+        not-listed (95 to 112 ∷ []) refl,
+        not-listed (145 to 162 ∷ []) refl,
+        not-listed (only 9 ∷ []) refl,
+        not-listed (only 12 ∷ []) refl,
+      )
+
+  pub writes-nothing-outside : writes-field f ≡ false
+  unfolding writes-field
+  writes-nothing-outside = not-listed (104 to 112 ∷ 154 to 162 ∷ []) refl
 
 pub above-last : (f : ℕ) → last-function < f → is-function f ≡ false
 above-last f h = rw (le-leb first-function f (omega arith)) (lt-leb f last-function h)

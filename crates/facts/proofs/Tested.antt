@@ -11,13 +11,15 @@ use Rattle.words.specs.Choice.{one}
 use Rattle.facts.specs.Table.{place, result, Fact, fact-of, no-fact, is-function, family}
 use Rattle.facts.specs.Classes.{class-a, class-b}
 use Rattle.facts.specs.Places.{places-of}
-use Rattle.facts.specs.Letters.{no-letter, place-letter, result-letter, family-in, places-in, line-length, lines, in-lines, letter-at}
+use Rattle.facts.specs.Identities.{wanted-of, writes-field}
+use Rattle.facts.specs.Letters.{no-letter, place-letter, result-letter, family-in, places-in, wanted-in, wanted-letter, written-in, line-length, lines, in-lines, letter-at}
+use Rattle.facts.specs.declared.identities.Wanted.{Wanted}
 use Rattle.facts.specs.declared.Place.{Place}
 use Rattle.facts.specs.declared.places.Places.{Places}
 use Rattle.facts.specs.declared.Result.{Result}
-use Rattle.facts.proofs.Outside.{no-fact-outside, no-family-outside, no-class-a-outside, no-class-b-outside, above-last}
+use Rattle.facts.proofs.Outside.{no-fact-outside, no-family-outside, no-class-a-outside, no-class-b-outside, nothing-wanted-outside, writes-nothing-outside, above-last}
 use Rattle.facts.proofs.Each.{each, each-at}
-use Rattle.facts.proofs.Letters.{place-back, result-back, one-back}
+use Rattle.facts.proofs.Letters.{place-back, result-back, wanted-back, one-back}
 
 abbrev numbers : ℕ
 numbers = lines * line-length
@@ -75,3 +77,16 @@ module _ (t : List (List ℕ)) where
 
     pub family-there : agrees family-in family t ≡ true → {r : ℕ} → r ≡ family-in x → r ≡ family f
     family-there tested given = given ∙ ap family-in here ∙ at-every family-in family tested no-family-outside f
+
+    pub wanted-there : agrees (λ n. wanted-letter (wanted-in n)) (λ f. wanted-letter (wanted-of f)) t ≡ true → {r : Wanted} → r ≡ wanted-in x → r ≡ wanted-of f
+    wanted-there tested given =
+        given
+        ∙ ap wanted-in here
+        ∙ sym (wanted-back (wanted-in (letter-at t f)))
+        ∙ ap wanted-in (at-every (λ n. wanted-letter (wanted-in n)) (λ f. wanted-letter (wanted-of f)) tested (λ f e. ap wanted-letter (nothing-wanted-outside f e)) f)
+        ∙ wanted-back (wanted-of f)
+
+    pub written-there : agrees (λ n. one (written-in n)) (λ f. one (writes-field f)) t ≡ true → written-in x ≡ writes-field f
+    written-there tested =
+        ap written-in here
+        ∙ one-back (written-in (letter-at t f)) (writes-field f) (at-every (λ n. one (written-in n)) (λ f. one (writes-field f)) tested (λ f e. ap one (writes-nothing-outside f e)) f)

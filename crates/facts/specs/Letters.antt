@@ -1,6 +1,7 @@
 -- The facts of a function in document 01's letters, the classes of document 02 in letters of our own, and a letter for each row of places that both make; and the columns in which the code has them. Assumes nothing.
 use Prim.Native.Nat.{ℕ, _-_, _*_, _/_, _%_}
 use Prim.Native.Char.{code}
+use mathlib.Core.Bool.{Bool, _||_}
 use mathlib.Core.List.{List, []}
 use lib.Dec.{eqb, ltb}
 use lib.ListN.{length, getD}
@@ -8,6 +9,8 @@ use Rattle.words.specs.Choice.{if_then_else_}
 use Rattle.words.specs.Text.{bytes}
 use Rattle.facts.specs.Table.{place, families}
 use Rattle.facts.specs.Classes.{class, string, throwable, no-class}
+use Rattle.facts.specs.declared.identities.Wanted.{Wanted}
+use Rattle.facts.specs.declared.identities.Wanted.the-variants as Wanted
 use Rattle.facts.specs.declared.Place.{Place}
 use Rattle.facts.specs.declared.Place.the-variants as Place
 use Rattle.facts.specs.declared.places.Places.{Places}
@@ -87,6 +90,32 @@ places-in x =
     else if eqb x (code "S") then shape (bytes "rb- --")
     else if eqb x (code "T") then shape (bytes "rb- s-")
     else shape (bytes "--- --")
+
+-- what is wanted of an identity, and whether it is a field that is written
+abbrev pub wanted-in : ℕ → Wanted
+wanted-in x =
+    if eqb x (code "m") then Wanted.ObjectMethod
+    else if eqb x (code "M") then Wanted.StaticMethod
+    else if eqb x (code "f") then Wanted.ObjectField
+    else if eqb x (code "w") then Wanted.ObjectField
+    else if eqb x (code "F") then Wanted.StaticField
+    else if eqb x (code "W") then Wanted.StaticField
+    else if eqb x (code "a") then Wanted.AnyMethod
+    else if eqb x (code "b") then Wanted.AnyField
+    else Wanted.Nothing
+
+abbrev pub written-in : ℕ → Bool
+written-in x = eqb x (code "w") || eqb x (code "W")
+
+-- the letter of one that is not written
+abbrev pub wanted-letter : Wanted → ℕ
+wanted-letter Wanted.ObjectMethod = code "m"
+wanted-letter Wanted.StaticMethod = code "M"
+wanted-letter Wanted.ObjectField = code "f"
+wanted-letter Wanted.StaticField = code "F"
+wanted-letter Wanted.AnyMethod = code "a"
+wanted-letter Wanted.AnyField = code "b"
+wanted-letter Wanted.Nothing = no-letter
 
 -- ---- a column: a letter for each number from 0 on, eight to a line
 

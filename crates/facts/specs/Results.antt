@@ -56,3 +56,14 @@ is-buffer-place Place.WeakOrNull = false
 is-buffer-place Place.Identity = false
 is-buffer-place Place.Buffer = true
 is-buffer-place Place.Unused = false
+
+-- i
+abbrev pub is-identity-place : Place → Bool
+is-identity-place Place.Handle = false
+is-identity-place Place.HandleOrNull = false
+is-identity-place Place.LocalOrNull = false
+is-identity-place Place.GlobalOrNull = false
+is-identity-place Place.WeakOrNull = false
+is-identity-place Place.Identity = true
+is-identity-place Place.Buffer = false
+is-identity-place Place.Unused = false

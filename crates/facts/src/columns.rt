@@ -187,6 +187,41 @@ pub(crate) const FAMILY: Column = [
     *b"--------", // 232
 ];
 
+// What is wanted of an identity: `m` a method that is not static, `M` a static one, `f` `F` likewise a field, `w` `W` a field that is written; `a` any method,
+// `b` any field.
+pub(crate) const IDENTITY: Column = [
+    *b"--------", // 0
+    *b"-a--b---", // 8
+    *b"--------", // 16
+    *b"----mmm-", // 24
+    *b"--mmmmmm", // 32
+    *b"mmmmmmmm", // 40
+    *b"mmmmmmmm", // 48
+    *b"mmmmmmmm", // 56
+    *b"mmmmmmmm", // 64
+    *b"mmmmmmmm", // 72
+    *b"mmmmmmmm", // 80
+    *b"mmmmmm-f", // 88
+    *b"ffffffff", // 96
+    *b"wwwwwwww", // 104
+    *b"w-MMMMMM", // 112
+    *b"MMMMMMMM", // 120
+    *b"MMMMMMMM", // 128
+    *b"MMMMMMMM", // 136
+    *b"-FFFFFFF", // 144
+    *b"FFWWWWWW", // 152
+    *b"WWW-----", // 160
+    *b"--------", // 168
+    *b"--------", // 176
+    *b"--------", // 184
+    *b"--------", // 192
+    *b"--------", // 200
+    *b"--------", // 208
+    *b"--------", // 216
+    *b"--------", // 224
+    *b"--------", // 232
+];
+
 // A line of a column. Each arm reads at a place that the compiler knows, so that it lays the column down as constant data;
 // read at a place that it does not know, the column would be built anew on the stack at each look.
 fn line(t: Column, i: usize) -> [u8; LETTERS]

@@ -9,6 +9,7 @@ pub mod classes;
 mod columns; // columns.rt: the table of functions
 pub mod functions;
 pub mod handles;
+pub mod identities;
 pub mod places;
 pub mod results;
 

@@ -1,8 +1,8 @@
-// What a result or a place is of: a local, any handle, a buffer.
+// What a result or a place is of: a local, any handle, a buffer, an identity.
 use super::Place;
 use super::Result;
 ghost use mathlib.Core.Path.{_≡_};
-ghost use Rattle.facts.specs.Results.{is-local-result, is-handle-result, is-buffer-result, is-handle-place, is-buffer-place};
+ghost use Rattle.facts.specs.Results.{is-local-result, is-handle-result, is-buffer-result, is-handle-place, is-buffer-place, is-identity-place};
 
 pub fn is_local_result(k: Result) -> bool
     ensures { λ r. ⌜ r ≡ is-local-result k ⌝ }
@@ -72,6 +72,21 @@ pub fn is_buffer_place(p: Place) -> bool
         Place::WeakOrNull => false,
         Place::Identity => false,
         Place::Buffer => true,
+        Place::Unused => false,
+    }
+}
+
+pub fn is_identity_place(p: Place) -> bool
+    ensures { λ r. ⌜ r ≡ is-identity-place p ⌝ }
+{
+    match p {
+        Place::Handle => false,
+        Place::HandleOrNull => false,
+        Place::LocalOrNull => false,
+        Place::GlobalOrNull => false,
+        Place::WeakOrNull => false,
+        Place::Identity => true,
+        Place::Buffer => false,
         Place::Unused => false,
     }
 }
