@@ -11,7 +11,7 @@ use borrow.Author.Tests.{leb-true, lt-leb}
 use Rattle.words.specs.Choice.{if_then_else_}
 use Rattle.facts.specs.Table.{fact-of, is-function}
 use Rattle.numbers.specs.Signed.{largest-i32, is-i32}
-use Rattle.lines.specs.Line.{K, O, Line, N, X, C, R, A, D, Z, states, is-allowed, is-thread, above-zero, result-allows, largest, most-handles}
+use Rattle.lines.specs.Line.{K, O, M, Line, N, X, C, R, A, D, Z, states, is-allowed, is-thread, above-zero, result-allows, largest, most-handles}
 use Rattle.lines.specs.Forms.{letter-of, numbers-of}
 use Rattle.lines.specs.Reading.{says}
 use Rattle.lines.specs.Events.{gives-status, event-of, slots-of, meant}
@@ -67,6 +67,7 @@ told-again (D t) h = (refl, refl)
 told-again Z h = (refl, refl)
 told-again (states (K c s)) h = (refl, refl)
 told-again (states (O t v c)) h = (refl, refl)
+told-again (states (M x sort c static final)) h = (refl, refl)
 
 -- the writers take it for the same line
 pub written-again : (e : Line) → is-allowed e ≡ true → meant (handed (letter-of e) (length (numbers-of e)) (numbers-told e)) (handed-slots (letter-of e) (numbers-told e)) ≡ says e

@@ -8,7 +8,7 @@ use lib.IntN.{pos}
 use types.Run.{OneOf, miss}
 use denote.Enum.Declared.{tagOf}
 use Rattle.words.specs.Choice.{if_then_else_}
-use Rattle.lines.specs.Line.{K, O, Line, N, X, C, R, A, D, Z, states, above-zero}
+use Rattle.lines.specs.Line.{K, O, M, Line, N, X, C, R, A, D, Z, states, above-zero}
 use Rattle.lines.specs.Reading.{Read, says, refused}
 use Rattle.lines.specs.Events.{gives-status, event-of}
 use Rattle.lines.specs.declared.Event.the-variants as Event
@@ -29,11 +29,12 @@ event-refused (says (D t)) k h = let z : _≡_ {A = ℕ} 0 1 = cc in absurd (ome
 event-refused (says Z) k h = let z : _≡_ {A = ℕ} 0 1 = cc in absurd (omega arith)
 event-refused (says (states (K c s))) k h = let z : _≡_ {A = ℕ} 0 1 = cc in absurd (omega arith)
 event-refused (says (states (O t v c))) k h = let z : _≡_ {A = ℕ} 0 1 = cc in absurd (omega arith)
+event-refused (says (states (M x sort c static final))) k h = let z : _≡_ {A = ℕ} 0 1 = cc in absurd (omega arith)
 
 -- the tags of the events that are lines, all but the last
 abbrev pub line-tags : List ℕ
-line-tags = 0 ∷ 1 ∷ 2 ∷ 3 ∷ 4 ∷ 5 ∷ 6 ∷ 7 ∷ 8 ∷ []
+line-tags = 0 ∷ 1 ∷ 2 ∷ 3 ∷ 4 ∷ 5 ∷ 6 ∷ 7 ∷ 8 ∷ 9 ∷ []
 
 pub event-said : (x : Read) → OneOf line-tags (tagOf the-type (event-of x)) → (e : Line) × (x ≡ says e)
-event-said (refused j) w = absurd (miss line-tags 9 tt w)
+event-said (refused j) w = absurd (miss line-tags 10 tt w)
 event-said (says e) w = (e, refl)

@@ -8,7 +8,7 @@ use lib.Dec.{eqb, leb}
 use lib.IntN.{ℤ, pos, negsuc, natAbs}
 use lib.ListN.{length, length-append}
 use borrow.Author.Tests.{leb-true, eqb-true, not-true}
-use Rattle.words.specs.Choice.{if_then_else_}
+use Rattle.words.specs.Choice.{if_then_else_, within}
 use Rattle.words.specs.Lists.{any}
 use Rattle.words.specs.Text.{line-feed}
 use Rattle.numbers.specs.Decimal.{shown}
@@ -19,11 +19,11 @@ use Rattle.facts.specs.declared.Place.{Place}
 use Rattle.facts.specs.declared.Place.the-variants as Place
 use Rattle.facts.specs.declared.Result.{Result}
 use Rattle.facts.specs.declared.Result.the-variants as Result
-use Rattle.lines.specs.Line.{K, O, Line, N, X, C, R, A, D, Z, states, is-allowed, is-thread, is-env, is-value, is-class, is-argument, is-made, is-zero, kind, threads, classes, largest, longest, most-handles, place-allows, capacity-allows, value-allows, result-allows}
+use Rattle.lines.specs.Line.{K, O, M, Line, N, X, C, R, A, D, Z, states, is-allowed, is-thread, is-env, is-value, is-class, is-identity, is-sort, is-argument, is-made, is-zero, kind, threads, classes, largest, longest, most-handles, place-allows, capacity-allows, value-allows, result-allows}
 use Rattle.lines.specs.Forms.{most-fields, form-of, letter-of, numbers-of}
 use Rattle.lines.specs.Reading.{line-of}
 use Rattle.lines.specs.Writing.{tabbed, written}
-use Rattle.lines.proofs.Tests.{both, all3, all4, all7, neither}
+use Rattle.lines.proofs.Tests.{both, all3, all4, all5, all7, neither}
 use Rattle.lines.proofs.Formed.{within-high, most-few}
 use Rattle.lines.proofs.Numbered.{in-form-said, line-says}
 
@@ -133,6 +133,11 @@ allowed-fits (states (K c s)) h = let k = both (is-class c) (is-class s) h in (c
 allowed-fits (states (O t v c)) h =
     let k = all3 (is-thread t) (is-value v) (is-class c) h in
     (thread-fits t (k .0), (leb-true v largest (k .1), (class-fits c (k .2), tt)))
+allowed-fits (states (M x sort c static final)) h =
+    let k = all5 (is-identity x) (is-sort sort) (is-class c) (leb static 1) (leb final 1) h in (
+      within-high 1 largest x (both (within 1 largest x) (eqb (kind x) 0) (k .0) .0),
+      (omega (arith, within-high 1 2 sort (k .1)), (class-fits c (k .2), (omega (arith, leb-true static 1 (k .3)), (omega (arith, leb-true final 1 (k .4)), tt)))),
+    )
 
 pub few-numbers : (e : Line) → is-allowed e ≡ true → length (numbers-of e) ≤ most-fields
 unfolding line-of

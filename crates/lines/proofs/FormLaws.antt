@@ -11,17 +11,18 @@ use lib.IntN.{ℤ, pos}
 use lib.ListN.{length, getD, take, length-take, length-drop}
 use borrow.Author.Tests.{ne-eqb, eqb-true, leb-true}
 use Rattle.words.specs.Choice.{within}
+use Rattle.facts.specs.Identities.{method, field}
 use Rattle.words.specs.Lists.{any}
 use Rattle.facts.specs.Table.{fact-of, is-function, first-function, last-function}
 use Rattle.numbers.specs.Signed.{signed, is-i32}
-use Rattle.lines.specs.Line.{K, O, Line, N, X, C, R, A, D, Z, states, is-allowed, is-thread, is-env, is-value, is-class, is-argument, place-allows, capacity-allows, result-allows, threads, classes, most-handles}
+use Rattle.lines.specs.Line.{K, O, M, Line, N, X, C, R, A, D, Z, states, is-allowed, is-thread, is-env, is-value, is-class, is-identity, is-sort, is-argument, place-allows, capacity-allows, result-allows, threads, classes, most-handles}
 use Rattle.lines.specs.Forms.{most-fields, no-place, of-letter}
 use Rattle.lines.specs.Reading.{says, refused, if-allowed, line-of}
 use Rattle.lines.specs.Events.{gives-status, event-of}
 use Rattle.lines.specs.Sizes.{signed-at, numbers-in, right-count, line-in, named}
 use Rattle.lines.specs.declared.Event.{Event}
 use Rattle.lines.specs.declared.Event.the-variants as Event
-use Rattle.lines.proofs.Tests.{both, all3, all4, all7, and-false}
+use Rattle.lines.proofs.Tests.{both, all3, all4, all5, all7, and-false}
 use Rattle.lines.proofs.Listed.{of-length}
 use Rattle.lines.proofs.Formed.{within-low, within-high, within-one, no-count}
 use Rattle.lines.proofs.Numbered.{enter-numbers}
@@ -48,6 +49,7 @@ Narrow (D t) = t ≤ threads
 Narrow Z = Unit
 Narrow (states (K c s)) = (c ≤ classes) × (s ≤ classes)
 Narrow (states (O t h c)) = (t ≤ threads) × (c ≤ classes)
+Narrow (states (M x sort c static final)) = (sort ≤ field) × (c ≤ classes) × (static ≤ 1) × (final ≤ 1)
 
 pub narrow : (e : Line) → is-allowed e ≡ true → Narrow e
 narrow (N t env hs) h = within-high 1 threads t (all4 (is-thread t) (is-env env) (leb (length hs) most-handles) (not (any (λ (x : ℕ). not (is-argument x)) hs)) h .0)
@@ -65,6 +67,9 @@ narrow (states (K c s)) h = let k = both (is-class c) (is-class s) h in (within-
 narrow (states (O t v c)) h =
     let k = all3 (is-thread t) (is-value v) (is-class c) h in
     (within-high 1 threads t (k .0), within-high 1 classes c (k .2))
+narrow (states (M x sort c static final)) h =
+    let k = all5 (is-identity x) (is-sort sort) (is-class c) (leb static 1) (leb final 1) h in
+    (within-high method field sort (k .1), within-high 1 classes c (k .2), leb-true static 1 (k .3), leb-true final 1 (k .4))
 
 module _ (f : ℕ) where
   pub narrow-function : is-function f ≡ true → f ≤ last-function
@@ -145,6 +150,9 @@ declare-line minus vs = states (K (getD vs 0 0) (getD vs 1 0))
 abbrev pub state-line : Bool → List ℕ → Line
 state-line minus vs = states (O (getD vs 0 0) (getD vs 1 0) (getD vs 2 0))
 
+abbrev pub identify-line : Bool → List ℕ → Line
+identify-line minus vs = states (M (getD vs 0 0) (getD vs 1 0) (getD vs 2 0) (getD vs 3 0) (getD vs 4 0))
+
 enter-front : (n : ℕ) (minus : Bool) (vs : List ℕ) → length vs ≡ most-fields → within 2 most-fields n ≡ true
     → Front (code "N") n minus vs (enter-line n vs)
 unfolding of-letter signed-at
@@ -198,6 +206,11 @@ state-front : (minus : Bool) (vs : List ℕ) → length vs ≡ most-fields → F
 unfolding line-of of-letter signed-at
 state-front true = of-length 10 (λ vs. Front (code "O") 3 true vs (state-line true vs)) (λ _ _ _ _ _ _ _ _ _ _. refl)
 state-front false = of-length 10 (λ vs. Front (code "O") 3 false vs (state-line false vs)) (λ _ _ _ _ _ _ _ _ _ _. refl)
+
+identify-front : (minus : Bool) (vs : List ℕ) → length vs ≡ most-fields → Front (code "M") 5 minus vs (identify-line minus vs)
+unfolding line-of of-letter signed-at
+identify-front true = of-length 10 (λ vs. Front (code "M") 5 true vs (identify-line true vs)) (λ _ _ _ _ _ _ _ _ _ _. refl)
+identify-front false = of-length 10 (λ vs. Front (code "M") 5 false vs (identify-line false vs)) (λ _ _ _ _ _ _ _ _ _ _. refl)
 
 end-front : (minus : Bool) (vs : List ℕ) → Front (code "Z") 0 minus vs Z
 unfolding line-of of-letter signed-at
@@ -253,11 +266,15 @@ module _ (b n : ℕ) (minus : Bool) (vs : List ℕ) (ten : length vs ≡ most-fi
   unfolding of-letter
   state-in e = one-count (code "O") 3 (state-line minus vs) e (within-one 3 n (right-at e)) (state-front minus vs ten)
 
-  -- no other letter has a count
-  pub end-in : b ≢ code "N" → b ≢ code "X" → b ≢ code "C" → b ≢ code "R" → b ≢ code "A" → b ≢ code "D" → b ≢ code "K" → b ≢ code "O" → says Z ≡ line-in b n minus vs
+  pub identify-in : b ≡ code "M" → if-allowed (identify-line minus vs) ≡ line-in b n minus vs
   unfolding of-letter
-  end-in hn hx hc hr ha hd hk ho = go (eqb b (code "Z")) refl
+  identify-in e = one-count (code "M") 5 (identify-line minus vs) e (within-one 5 n (right-at e)) (identify-front minus vs ten)
+
+  -- no other letter has a count
+  pub end-in : b ≢ code "N" → b ≢ code "X" → b ≢ code "C" → b ≢ code "R" → b ≢ code "A" → b ≢ code "D" → b ≢ code "K" → b ≢ code "O" → b ≢ code "M" → says Z ≡ line-in b n minus vs
+  unfolding of-letter
+  end-in hn hx hc hr ha hd hk ho hm = go (eqb b (code "Z")) refl
     where
       go : (t : Bool) → eqb b (code "Z") ≡ t → says Z ≡ line-in b n minus vs
       go true e = let p = eqb-true b (code "Z") e in one-count (code "Z") 0 Z p (within-one 0 n (right-at p)) (end-front minus vs)
-      go false e = absurd (true≢false (sym right ∙ rw (ne-eqb b 78 hn, ne-eqb b 88 hx, ne-eqb b 67 hc, ne-eqb b 82 hr, ne-eqb b 65 ha, ne-eqb b 68 hd, ne-eqb b 75 hk, ne-eqb b 79 ho, e) (no-count n)))
+      go false e = absurd (true≢false (sym right ∙ rw (ne-eqb b 78 hn, ne-eqb b 88 hx, ne-eqb b 67 hc, ne-eqb b 82 hr, ne-eqb b 65 ha, ne-eqb b 68 hd, ne-eqb b 75 hk, ne-eqb b 79 ho, ne-eqb b 77 hm, e) (no-count n)))

@@ -14,7 +14,7 @@ use borrow.Author.Tests.{le-leb, lt-leb}
 use Rattle.words.specs.Choice.{if_then_else_}
 use Rattle.words.specs.Lists.{any}
 use Rattle.numbers.specs.Signed.{is-negative}
-use Rattle.lines.specs.Line.{K, O, Line, N, X, C, R, A, D, Z, states, above-zero}
+use Rattle.lines.specs.Line.{K, O, M, Line, N, X, C, R, A, D, Z, states, above-zero}
 use Rattle.lines.specs.Forms.{most-fields, form-of, numbers-of}
 use Rattle.lines.specs.Reading.{Read, says, refused, numbers, line-of, if-numbers}
 use Rattle.lines.specs.Writing.{lettered, written}
@@ -168,6 +168,7 @@ slots-said n vs (says (D t)) h = refl
 slots-said n vs (says Z) h = refl
 slots-said n vs (says (states (K c s))) h = refl
 slots-said n vs (says (states (O t k c))) h = refl
+slots-said n vs (says (states (M x sort c static final))) h = refl
 
 -- N names the handles after thread and env
 module _ (b n : ℕ) (minus : Bool) (vs : List ℕ) (ten : length vs ≡ most-fields) where

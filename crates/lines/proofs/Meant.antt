@@ -14,7 +14,7 @@ use Rattle.words.specs.Lists.{any}
 use Rattle.facts.specs.Table.{fact-of, is-function}
 use Rattle.facts.specs.declared.Result.{Result}
 use Rattle.facts.specs.declared.Result.the-variants as Result
-use Rattle.lines.specs.Line.{K, O, Line, N, X, C, R, A, D, Z, states, is-allowed, is-thread, is-env, is-argument, is-zero, is-made, result-allows, value-allows, above-zero, most-handles}
+use Rattle.lines.specs.Line.{K, O, M, Line, N, X, C, R, A, D, Z, states, is-allowed, is-thread, is-env, is-argument, is-zero, is-made, result-allows, value-allows, above-zero, most-handles}
 use Rattle.lines.specs.Reading.{says, refused}
 use Rattle.lines.specs.Events.{is-status, gives-status, event-of, padded, slots-of, not-zero, with-slots, meant}
 use Rattle.lines.specs.declared.Event.{Event}
@@ -98,6 +98,7 @@ meant-read (D t) h = rw h
 meant-read Z h = refl
 meant-read (states (K c s)) h = rw h
 meant-read (states (O t v c)) h = rw h
+meant-read (states (M x sort c static final)) h = rw h
 
 -- ---- reading what was written
 
@@ -160,6 +161,10 @@ read-meant (Event.Declare c s) hs e l h =
 read-meant (Event.State t v c) hs e l h =
     let k = with-slots-said 0 hs (states (O t v c)) e h in
     subst (Same (Event.State t v c) hs) (k .3)
+    (refl, no-handles hs l (k .1), k .2)
+read-meant (Event.Identify x sort c static final) hs e l h =
+    let k = with-slots-said 0 hs (states (M x sort c static final)) e h in
+    subst (Same (Event.Identify x sort c static final) hs) (k .3)
     (refl, no-handles hs l (k .1), k .2)
 read-meant Event.End hs e l h =
     let k = with-slots-said 0 hs Z e h in

@@ -13,8 +13,8 @@ use borrow.Author.Tests.{leb-true}
 use Rattle.words.specs.Choice.{if_then_else_, within}
 use Rattle.words.specs.Lists.{any}
 use Rattle.numbers.specs.Signed.{is-negative}
-use Rattle.lines.specs.Line.{K, O, Line, N, X, C, R, A, D, Z, states, is-allowed, is-thread, is-env, is-argument, above-zero, most-handles}
-use Rattle.lines.specs.Forms.{Form, most-fields, enter-form, leave-form, call-form, return-form, attach-form, detach-form, declare-form, state-form, end-form, forms, of-letter, form-of, letter-of, numbers-of}
+use Rattle.lines.specs.Line.{K, O, M, Line, N, X, C, R, A, D, Z, states, is-allowed, is-thread, is-env, is-argument, above-zero, most-handles}
+use Rattle.lines.specs.Forms.{Form, most-fields, enter-form, leave-form, call-form, return-form, attach-form, detach-form, declare-form, state-form, identify-form, end-form, forms, of-letter, form-of, letter-of, numbers-of}
 use Rattle.lines.specs.Reading.{says, refused, if-allowed, without, in-form, line-of}
 use Rattle.lines.proofs.Tests.{neither, all4}
 use Rattle.lines.proofs.Listed.{of-length}
@@ -103,6 +103,7 @@ line-says (D t) h = rw h
 line-says Z h = refl
 line-says (states (K c s)) h = rw h
 line-says (states (O t v c)) h = rw h
+line-says (states (M x sort c static final)) h = rw h
 
 -- ---- a line made of numbers is taken apart into them
 
@@ -140,6 +141,9 @@ declare-apart c s h = (refl, plain (c ∷ s ∷ []) h)
 state-apart : (t v c : ℤ) → Apart state-form (t ∷ v ∷ c ∷ [])
 state-apart t v c h = (refl, plain (t ∷ v ∷ c ∷ []) h)
 
+identify-apart : (x sort c static final : ℤ) → Apart identify-form (x ∷ sort ∷ c ∷ static ∷ final ∷ [])
+identify-apart x sort c static final h = (refl, plain (x ∷ sort ∷ c ∷ static ∷ final ∷ []) h)
+
 apart : (b : ℕ) (ns : List ℤ) → within (form-of b .least) (form-of b .most) (length ns) ≡ true → Apart (form-of b) ns
 apart =
     of-each (λ f. (ns : List ℤ) → within (f .least) (f .most) (length ns) ≡ true → Apart f ns) forms (
@@ -159,8 +163,11 @@ apart =
                   (
                     λ ns l. of-length 3 (Apart state-form) state-apart ns (within-one 3 (length ns) l),
                     (
-                      λ ns l. of-length 0 (Apart end-form) (λ h. (refl, refl)) ns (within-one 0 (length ns) l),
-                      tt,
+                      λ ns l. of-length 5 (Apart identify-form) identify-apart ns (within-one 5 (length ns) l),
+                      (
+                        λ ns l. of-length 0 (Apart end-form) (λ h. (refl, refl)) ns (within-one 0 (length ns) l),
+                        tt,
+                      ),
                     ),
                   ),
                 ),

@@ -17,7 +17,7 @@ use Rattle.words.specs.Text.{tab, line-feed}
 use Rattle.numbers.specs.Decimal.{number, shown}
 use Rattle.numbers.proofs.Back.{written-is-read, read-was-written}
 use Rattle.numbers.proofs.Bytes.{Parts, not-in-shown}
-use Rattle.lines.specs.Line.{K, O, Line, N, X, C, R, A, D, Z, states, is-allowed, longest}
+use Rattle.lines.specs.Line.{K, O, M, Line, N, X, C, R, A, D, Z, states, is-allowed, longest}
 use Rattle.lines.specs.Forms.{letter-of, numbers-of}
 use Rattle.lines.specs.Reading.{says, refused, fields, and-number, numbers, if-numbers, of-fields, read}
 use Rattle.lines.specs.Writing.{tabbed, written}
@@ -69,6 +69,7 @@ letter-plain (D t) = (refl, refl)
 letter-plain Z = (refl, refl)
 letter-plain (states (K c s)) = (refl, refl)
 letter-plain (states (O t h c)) = (refl, refl)
+letter-plain (states (M x sort c static final)) = (refl, refl)
 
 pub fields-written : (e : Line) → fields (content-of e) ≡ (letter-of e ∷ []) ∷ map shown (numbers-of e)
 fields-written e =

@@ -14,7 +14,7 @@ pub all4 : (a b c d : Bool) → (a && b && c && d) ≡ true → (a ≡ true) × 
 all4 true b c d h = let k = all3 b c d h in (refl, k .0, k .1, k .2)
 all4 false b c d h = absurd (false≢true h)
 
-all5 : (a b c d e : Bool) → (a && b && c && d && e) ≡ true → (a ≡ true) × (b ≡ true) × (c ≡ true) × (d ≡ true) × (e ≡ true)
+pub all5 : (a b c d e : Bool) → (a && b && c && d && e) ≡ true → (a ≡ true) × (b ≡ true) × (c ≡ true) × (d ≡ true) × (e ≡ true)
 all5 true b c d e h = let k = all4 b c d e h in (refl, k .0, k .1, k .2, k .3)
 all5 false b c d e h = absurd (false≢true h)
 

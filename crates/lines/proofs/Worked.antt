@@ -9,7 +9,7 @@ use lib.ListN.{length, replicate}
 use Rattle.words.specs.Text.{bytes, with-tabs}
 use Rattle.numbers.specs.Decimal.{read-on, digits, digits-in}
 use Rattle.facts.specs.Table.{table, fact-of}
-use Rattle.lines.specs.Line.{K, O, N, X, C, R, A, D, Z, states}
+use Rattle.lines.specs.Line.{K, O, M, N, X, C, R, A, D, Z, states}
 use Rattle.lines.specs.Forms.{of-letter}
 use Rattle.lines.specs.Reading.{Read, says, refused, fields, numbers, line-of, of-fields, read}
 use Rattle.lines.specs.Writing.{tabbed, written}
@@ -129,6 +129,24 @@ worked =
     ∷ "O 1 5 0\n" reads refused 3
     ∷ "O 1 5 4096\n" reads refused 3
     ∷ "O 1 5 -3\n" reads refused 3
+    ∷ "M 8 1 5 0 0\n" reads says (states (M 8 1 5 0 0))
+    ∷ "M 4 2 4095 1 1\n" reads says (states (M 4 2 4095 1 1))
+    ∷ "M 18446744073709551612 2 1 0 1\n" reads says (states (M 18446744073709551612 2 1 0 1))
+    ∷ "M 0 1 5 0 0\n" reads refused 3
+    ∷ "M 5 1 5 0 0\n" reads refused 3
+    ∷ "M 6 1 5 0 0\n" reads refused 3
+    ∷ "M 7 1 5 0 0\n" reads refused 3
+    ∷ "M -8 1 5 0 0\n" reads refused 3
+    ∷ "M 18446744073709551616 1 5 0 0\n" reads refused 3
+    ∷ "M 8 0 5 0 0\n" reads refused 3
+    ∷ "M 8 3 5 0 0\n" reads refused 3
+    ∷ "M 8 4294967297 5 0 0\n" reads refused 3
+    ∷ "M 8 1 0 0 0\n" reads refused 3
+    ∷ "M 8 1 4096 0 0\n" reads refused 3
+    ∷ "M 8 1 5 2 0\n" reads refused 3
+    ∷ "M 8 1 5 -1 0\n" reads refused 3
+    ∷ "M 8 1 5 0 2\n" reads refused 3
+    ∷ "M 8 1 5 0 4294967296\n" reads refused 3
     -- letter, field count and number form, before any range
     ∷ "X 01 5\n" reads refused 2
     ∷ "N 17 01\n" reads refused 2
@@ -151,6 +169,9 @@ worked =
     ∷ "O 1 5\n" reads refused 2
     ∷ "O 1 5 3 3\n" reads refused 2
     ∷ "O 17 5 -0\n" reads refused 2
+    ∷ "M 8 1 5 0\n" reads refused 2
+    ∷ "M 8 1 5 0 0 0\n" reads refused 2
+    ∷ "M 0 1 5 0 00\n" reads refused 2
     ∷ "X 1 5 \n" reads refused 2
     ∷ "X  5\n" reads refused 2
     ∷ "X 1 5\r\n" reads refused 2
@@ -188,9 +209,10 @@ pub written-lines : (written (N 1 100 (5 ∷ [])) ≡ with-tabs (bytes "N 1 100 
     × (written (D 16) ≡ with-tabs (bytes "D 16\n"))
     × (written (states (K 4095 1)) ≡ with-tabs (bytes "K 4095 1\n"))
     × (written (states (O 16 18446744073709551615 4095)) ≡ with-tabs (bytes "O 16 18446744073709551615 4095\n"))
+    × (written (states (M 18446744073709551612 2 4095 0 1)) ≡ with-tabs (bytes "M 18446744073709551612 2 4095 0 1\n"))
     × (written Z ≡ with-tabs (bytes "Z\n"))
 unfolding written tabbed digits digits-in
-written-lines = (refl, refl, refl, refl, refl, refl, refl, refl, refl)
+written-lines = (refl, refl, refl, refl, refl, refl, refl, refl, refl, refl)
 
 -- ---- lines as they are told to C
 
@@ -217,6 +239,7 @@ told =
     ∷ "D 16\n" tells Line (code "D") 1 and (16 ∷ 0 ∷ 0 ∷ 0 ∷ 0 ∷ 0 ∷ 0 ∷ 0 ∷ 0 ∷ 0 ∷ [])
     ∷ "K 5 1\n" tells Line (code "K") 2 and (5 ∷ 1 ∷ 0 ∷ 0 ∷ 0 ∷ 0 ∷ 0 ∷ 0 ∷ 0 ∷ 0 ∷ [])
     ∷ "O 16 18446744073709551615 4095\n" tells Line (code "O") 3 and (16 ∷ 18446744073709551615 ∷ 4095 ∷ 0 ∷ 0 ∷ 0 ∷ 0 ∷ 0 ∷ 0 ∷ 0 ∷ [])
+    ∷ "M 18446744073709551612 2 4095 0 1\n" tells Line (code "M") 5 and (18446744073709551612 ∷ 2 ∷ 4095 ∷ 0 ∷ 1 ∷ 0 ∷ 0 ∷ 0 ∷ 0 ∷ 0 ∷ [])
     ∷ "Z\n" tells Line (code "Z") 0 and replicate 10 0
     ∷ "N 1 100 1 5 9 13 17 21 25 29 33\n" tells Refused 2 and replicate 10 7
     ∷ "X 17 5\n" tells Refused 3 and replicate 10 7

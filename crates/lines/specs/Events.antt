@@ -11,7 +11,7 @@ use Rattle.words.specs.Lists.{any}
 use Rattle.facts.specs.Table.{fact-of}
 use Rattle.facts.specs.declared.Result.{Result}
 use Rattle.facts.specs.declared.Result.the-variants as Result
-use Rattle.lines.specs.Line.{K, O, Line, N, X, C, R, A, D, Z, states, if-N_then_else_, is-allowed, is-zero, above-zero, most-handles}
+use Rattle.lines.specs.Line.{K, O, M, Line, N, X, C, R, A, D, Z, states, if-N_then_else_, is-allowed, is-zero, above-zero, most-handles}
 use Rattle.lines.specs.Reading.{Read, says, refused}
 use Rattle.lines.specs.Writing.{written}
 use Rattle.lines.specs.declared.Event.{Event}
@@ -48,6 +48,7 @@ event-of (says (D t)) = Event.Detach t
 event-of (says Z) = Event.End
 event-of (says (states (K c s))) = Event.Declare c s
 event-of (says (states (O t h c))) = Event.State t h c
+event-of (says (states (M x sort c static final))) = Event.Identify x sort c static final
 
 abbrev pub padded : List ℕ → List ℕ
 padded hs = hs ++ replicate (most-handles - length hs) 0
@@ -80,6 +81,7 @@ meant (Event.Attach t env) hs = with-slots 0 hs (A t env)
 meant (Event.Detach t) hs = with-slots 0 hs (D t)
 meant (Event.Declare c s) hs = with-slots 0 hs (states (K c s))
 meant (Event.State t h c) hs = with-slots 0 hs (states (O t h c))
+meant (Event.Identify x sort c static final) hs = with-slots 0 hs (states (M x sort c static final))
 meant Event.End hs = with-slots 0 hs Z
 meant (Event.Refused k) hs = refused 3
 

@@ -6,7 +6,7 @@ use lib.Dec.{eqb}
 use lib.IntN.{ℤ, pos}
 use lib.ListN.{getD, drop}
 use Rattle.words.specs.Choice.{if_then_else_}
-use Rattle.lines.specs.Line.{K, O, Line, N, X, C, R, A, D, Z, states, above-zero}
+use Rattle.lines.specs.Line.{K, O, M, Line, N, X, C, R, A, D, Z, states, above-zero}
 
 pub record Form : Type 0 where
   pub letter : ℕ
@@ -59,11 +59,14 @@ declare-form = form (code "K") 2 2 no-place (λ ns. states (K (size-at ns 0) (si
 abbrev pub state-form : Form
 state-form = form (code "O") 3 3 no-place (λ ns. states (O (size-at ns 0) (size-at ns 1) (size-at ns 2)))
 
+abbrev pub identify-form : Form
+identify-form = form (code "M") 5 5 no-place (λ ns. states (M (size-at ns 0) (size-at ns 1) (size-at ns 2) (size-at ns 3) (size-at ns 4)))
+
 abbrev pub end-form : Form
 end-form = form (code "Z") 0 0 no-place (λ ns. Z)
 
 abbrev pub forms : List Form
-forms = enter-form ∷ leave-form ∷ call-form ∷ return-form ∷ attach-form ∷ detach-form ∷ declare-form ∷ state-form ∷ end-form ∷ []
+forms = enter-form ∷ leave-form ∷ call-form ∷ return-form ∷ attach-form ∷ detach-form ∷ declare-form ∷ state-form ∷ identify-form ∷ end-form ∷ []
 
 -- of a letter that no line has, no count is right
 abbrev pub no-form : ℕ → Form
@@ -89,6 +92,7 @@ letter-of (D t) = code "D"
 letter-of Z = code "Z"
 letter-of (states (K c s)) = code "K"
 letter-of (states (O t h c)) = code "O"
+letter-of (states (M x sort c static final)) = code "M"
 
 abbrev pub numbers-of : Line → List ℤ
 numbers-of (N t env hs) = pos t ∷ pos env ∷ map pos hs
@@ -100,3 +104,4 @@ numbers-of (D t) = pos t ∷ []
 numbers-of Z = []
 numbers-of (states (K c s)) = pos c ∷ pos s ∷ []
 numbers-of (states (O t h c)) = pos t ∷ pos h ∷ pos c ∷ []
+numbers-of (states (M x sort c static final)) = pos x ∷ pos sort ∷ pos c ∷ pos static ∷ pos final ∷ []

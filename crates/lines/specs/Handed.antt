@@ -28,6 +28,7 @@ handed letter n ws =
     else if eqb letter (code "D") then Event.Detach (at 0)
     else if eqb letter (code "K") then Event.Declare (at 0) (at 1)
     else if eqb letter (code "O") then Event.State (at 0) (at 1) (at 2)
+    else if eqb letter (code "M") then Event.Identify (at 0) (at 1) (at 2) (at 3) (at 4)
     else Event.End
 
 -- and the eight slots beside it

@@ -10,17 +10,20 @@ use Rattle.words.specs.Lists.{any}
 use Rattle.numbers.specs.Signed.{is-i32}
 use Rattle.facts.specs.Table.{fact-of, is-function}
 use Rattle.facts.specs.Named.{PushLocalFrame, EnsureLocalCapacity}
+use Rattle.facts.specs.Identities.{method, field}
 use Rattle.facts.specs.declared.Place.{Place}
 use Rattle.facts.specs.declared.Place.the-variants as Place
 use Rattle.facts.specs.declared.Result.{Result}
 use Rattle.facts.specs.declared.Result.the-variants as Result
 
--- what is stated of classes; it opens and closes nothing
+-- what is stated of classes and identities; it opens and closes nothing
 pub data Statement : Type 0 where
   -- declares a class: class super
   K : ℕ → ℕ → Statement
   -- the class of a handle: thread handle class
   O : ℕ → ℕ → ℕ → Statement
+  -- what an identity is: identity sort class static final
+  M : ℕ → ℕ → ℕ → ℕ → ℕ → Statement
 
 pub data Line : Type 0 where
   -- Java enters native: thread env, then 0 to 8 handles
@@ -154,6 +157,7 @@ module _ {ℓ} {B : Type ℓ} where
   if-K Z then f else d = d
   if-K states (K c s) then f else d = f c s
   if-K states (O t h c) then f else d = d
+  if-K states (M x sort c static final) then f else d = d
 
   infixr 1 if-O_then_else_
   abbrev pub if-O_then_else_ : Line → (ℕ → ℕ → ℕ → B) → B → B
@@ -166,6 +170,20 @@ module _ {ℓ} {B : Type ℓ} where
   if-O Z then f else d = d
   if-O states (K c s) then f else d = d
   if-O states (O t h c) then f else d = f t h c
+  if-O states (M x sort c static final) then f else d = d
+
+  infixr 1 if-M_then_else_
+  abbrev pub if-M_then_else_ : Line → (ℕ → ℕ → ℕ → ℕ → ℕ → B) → B → B
+  if-M N t env hs then f else d = d
+  if-M X t r then f else d = d
+  if-M C t env g a b c n then f else d = d
+  if-M R t g r p then f else d = d
+  if-M A t env then f else d = d
+  if-M D t then f else d = d
+  if-M Z then f else d = d
+  if-M states (K c s) then f else d = d
+  if-M states (O t h c) then f else d = d
+  if-M states (M x sort c static final) then f else d = f x sort c static final
 
 -- ---- ranges
 
@@ -203,6 +221,14 @@ is-value v = leb v largest
 
 abbrev pub is-class : ℕ → Bool
 is-class c = within 1 classes c
+
+-- nonzero with remainder 0
+abbrev pub is-identity : ℕ → Bool
+is-identity x = within 1 largest x && eqb (kind x) 0
+
+-- 1 method or 2 field
+abbrev pub is-sort : ℕ → Bool
+is-sort s = within method field s
 
 -- N handles are local kind; null arguments are left out
 abbrev pub is-argument : ℕ → Bool
@@ -268,3 +294,4 @@ is-allowed (D t) = is-thread t
 is-allowed Z = true
 is-allowed (states (K c s)) = is-class c && is-class s
 is-allowed (states (O t h c)) = is-thread t && is-value h && is-class c
+is-allowed (states (M x sort c static final)) = is-identity x && is-sort sort && is-class c && leb static 1 && leb final 1

@@ -52,6 +52,7 @@ slots-in (Event.Attach t env) n vs = padded []
 slots-in (Event.Detach t) n vs = padded []
 slots-in (Event.Declare c s) n vs = padded []
 slots-in (Event.State t h c) n vs = padded []
+slots-in (Event.Identify x sort c static final) n vs = padded []
 slots-in Event.End n vs = padded []
 slots-in (Event.Refused k) n vs = padded []
 

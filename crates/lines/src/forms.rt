@@ -10,8 +10,8 @@ ghost use mathlib.Core.Bool.{true};
 ghost use lib.ListN.{getD};
 ghost use Rattle.words.specs.Choice.{within};
 ghost use Rattle.numbers.specs.Signed.{signed};
-// `A` is taken in a contract.
-ghost use Rattle.lines.specs.Line.{K, O, N, X, C, R, A as line-A, D, states};
+// `A` and `M` are taken in a contract.
+ghost use Rattle.lines.specs.Line.{K, O, M as line-M, N, X, C, R, A as line-A, D, states};
 ghost use Rattle.lines.specs.Forms.{form-of};
 ghost use Rattle.lines.specs.Reading.{if-allowed};
 ghost use Rattle.lines.specs.Events.{event-of};
@@ -69,6 +69,11 @@ pub fn counts_of(letter: u8) -> Counts
         b'O' => Counts {
             least: 3,
             most: 3,
+            signed: NO_PLACE,
+        },
+        b'M' => Counts {
+            least: 5,
+            most: 5,
             signed: NO_PLACE,
         },
         b'Z' => Counts {
@@ -225,6 +230,27 @@ fn state(thread: Handle, handle: Handle, class: Handle) -> Event
     }
 }
 
+fn identify(
+    identity: Handle,
+    sort: Handle,
+    class: Handle,
+    isstatic: Handle,
+    isfinal: Handle,
+) -> Event
+    ensures { λ r. ⌜ r ≡ event-of (if-allowed (states (line-M identity sort class isstatic isfinal))) ⌝ }
+{
+    if !ranges::identify_allows(identity, sort, class, isstatic, isfinal) {
+        return Event::Refused(RANGE);
+    }
+    Event::Identify {
+        identity: identity,
+        sort: sort as u32,
+        class: class as u32,
+        isstatic: isstatic as u32,
+        isfinal: isfinal as u32,
+    }
+}
+
 // The event of a letter and n numbers: their sizes, and whether the one that may be below zero is.
 pub fn event_of(letter: u8, n: usize, minus: bool, v: [Handle; 10]) -> Event
     ensures { λ r. ⌜ r ≡ event-of (line-in letter n minus v) ⌝ }
@@ -241,6 +267,7 @@ pub fn event_of(letter: u8, n: usize, minus: bool, v: [Handle; 10]) -> Event
         b'D' => detach(v[0]),
         b'K' => declare(v[0], v[1]),
         b'O' => state(v[0], v[1], v[2]),
+        b'M' => identify(v[0], v[1], v[2], v[3], v[4]),
         _ => Event::End,
     }
 }

@@ -71,6 +71,13 @@ pub enum Event {
         handle: Handle,
         class: u32,
     },
+    Identify {
+        identity: Handle,
+        sort: u32,
+        class: u32,
+        isstatic: u32,
+        isfinal: u32,
+    },
     End,
     Refused(u8),
 }

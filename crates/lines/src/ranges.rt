@@ -8,6 +8,8 @@ use facts::handles::IDENTITY;
 use facts::handles::KINDS;
 use facts::handles::LOCAL;
 use facts::handles::WEAK;
+use facts::identities::FIELD;
+use facts::identities::METHOD;
 use numbers::Int;
 use words::Handle;
 use words::LARGEST;
@@ -18,8 +20,8 @@ ghost use lib.IntN.{pos};
 ghost use Rattle.words.specs.Lists.{any};
 ghost use Rattle.numbers.specs.Signed.{signed, is-i32};
 ghost use Rattle.facts.specs.Table.{fact-of, is-function};
-// `A` is taken in a contract.
-ghost use Rattle.lines.specs.Line.{K, O, N, X, C, R, A as line-A, D, states, is-allowed, is-thread, is-env, is-class, is-argument, is-made, value-allows, place-allows, capacity-allows, result-allows};
+// `A` and `M` are taken in a contract.
+ghost use Rattle.lines.specs.Line.{K, O, M as line-M, N, X, C, R, A as line-A, D, states, is-allowed, is-thread, is-env, is-class, is-identity, is-sort, is-argument, is-made, value-allows, place-allows, capacity-allows, result-allows};
 ghost use Rattle.lines.specs.Events.{is-status, gives-status};
 ghost use Rattle.lines.specs.Sizes.{named};
 
@@ -74,6 +76,18 @@ fn is_class(c: Handle) -> bool
     ensures { λ r. ⌜ r ≡ is-class c ⌝ }
 {
     (1 <= c) & (c <= CLASSES as Handle)
+}
+
+fn is_identity(x: Handle) -> bool
+    ensures { λ r. ⌜ r ≡ is-identity x ⌝ }
+{
+    (1 <= x) & (x <= LARGEST) & (x % KINDS == IDENTITY)
+}
+
+fn is_sort(s: Handle) -> bool
+    ensures { λ r. ⌜ r ≡ is-sort s ⌝ }
+{
+    (METHOD <= s) & (s <= FIELD)
 }
 
 fn is_argument(h: Handle) -> bool
@@ -245,4 +259,16 @@ pub(crate) fn state_allows(thread: Handle, handle: Handle, class: Handle) -> boo
     ensures { λ r. ⌜ r ≡ is-allowed (states (O thread handle class)) ⌝ }
 {
     is_thread(thread) & (handle <= LARGEST) & is_class(class)
+}
+
+pub(crate) fn identify_allows(
+    identity: Handle,
+    sort: Handle,
+    class: Handle,
+    isstatic: Handle,
+    isfinal: Handle,
+) -> bool
+    ensures { λ r. ⌜ r ≡ is-allowed (states (line-M identity sort class isstatic isfinal)) ⌝ }
+{
+    is_identity(identity) & is_sort(sort) & is_class(class) & (isstatic <= 1) & (isfinal <= 1)
 }

@@ -26,6 +26,7 @@ not-enter (Event.Attach t env) n vs ks h w = refl
 not-enter (Event.Detach t) n vs ks h w = refl
 not-enter (Event.Declare c s) n vs ks h w = refl
 not-enter (Event.State t k c) n vs ks h w = refl
+not-enter (Event.Identify x sort c static final) n vs ks h w = refl
 not-enter Event.End n vs ks h w = refl
 not-enter (Event.Refused k) n vs ks h w = refl
 
@@ -38,4 +39,4 @@ slots-spec =
     (λ c. let a = c .before .before .before .args in
     c .named .ensures ∙ sym (ap (λ (e : Event). slots-in e (a .n) (a .v)) (c .before .enum-told .given .1)))
     (λ c. let a = c .before .args in
-    not-enter (a .e) (a .n) (a .v) (1 ∷ 2 ∷ 3 ∷ 4 ∷ 5 ∷ 6 ∷ 7 ∷ 8 ∷ 9 ∷ []) tt (c .match .keys2)))
+    not-enter (a .e) (a .n) (a .v) (1 ∷ 2 ∷ 3 ∷ 4 ∷ 5 ∷ 6 ∷ 7 ∷ 8 ∷ 9 ∷ 10 ∷ []) tt (c .match .keys2)))

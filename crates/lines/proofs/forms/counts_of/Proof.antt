@@ -17,5 +17,6 @@ counts-of-spec =
     (λ c. unfold of-letter in rw (c .match .keys7))
     (λ c. unfold of-letter in rw (c .match .keys8))
     (λ c. unfold of-letter in rw (c .match .keys9))
+    (λ c. unfold of-letter in rw (c .match .keys10))
     (λ c. unfold of-letter in let r = c .match .rest in let b = c .before .args .letter in
-    rw (ne-eqb b 78 (r .0 .0 .0 .0 .0 .0 .0 .0 .1), ne-eqb b 88 (r .0 .0 .0 .0 .0 .0 .0 .1), ne-eqb b 67 (r .0 .0 .0 .0 .0 .0 .1), ne-eqb b 82 (r .0 .0 .0 .0 .0 .1), ne-eqb b 65 (r .0 .0 .0 .0 .1), ne-eqb b 68 (r .0 .0 .0 .1), ne-eqb b 75 (r .0 .0 .1), ne-eqb b 79 (r .0 .1), ne-eqb b 90 (r .1))))
+    rw (ne-eqb b 78 (r .0 .0 .0 .0 .0 .0 .0 .0 .0 .1), ne-eqb b 88 (r .0 .0 .0 .0 .0 .0 .0 .0 .1), ne-eqb b 67 (r .0 .0 .0 .0 .0 .0 .0 .1), ne-eqb b 82 (r .0 .0 .0 .0 .0 .0 .1), ne-eqb b 65 (r .0 .0 .0 .0 .0 .1), ne-eqb b 68 (r .0 .0 .0 .0 .1), ne-eqb b 75 (r .0 .0 .0 .1), ne-eqb b 79 (r .0 .0 .1), ne-eqb b 77 (r .0 .1), ne-eqb b 90 (r .1))))

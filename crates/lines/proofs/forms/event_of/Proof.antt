@@ -2,7 +2,7 @@
 use mathlib.Core.Path.{ap, sym, _∙_}
 use borrow.Author.Tests.{not-true, not-false}
 use Rattle.lines.specs.Events.{event-of}
-use Rattle.lines.proofs.FormLaws.{wrong-count, enter-right, enter-in, leave-in, call-in, return-in, attach-in, detach-in, declare-in, state-in, end-in}
+use Rattle.lines.proofs.FormLaws.{wrong-count, enter-right, enter-in, leave-in, call-in, return-in, attach-in, detach-in, declare-in, state-in, identify-in, end-in}
 use borrow.Author.Needs.{needs}
 use Rattle.lines.proofs.forms.event_of.Statement.{statement}
 use Rattle.lines.proofs.forms.event_of.Tie as tie
@@ -44,6 +44,12 @@ event-of-spec =
     (λ c. search needs)
     (λ c. search needs)
     (λ c κs. search needs)
+    (λ c. search needs)
+    (λ c. search needs)
+    (λ c. search needs)
+    (λ c. search needs)
+    (λ c. search needs)
+    (λ c κs. search needs)
     (λ c. let a = c .before .before .before .before .args in
     c .enter .ensures ∙ ap event-of (enter-in (a .letter) (a .n) (a .minus) (a .t4) (search needs) (sym (c .before .before .before .right-count .ensures) ∙ not-false (c .before .before .before .right-count .result) (c .before .before .if1 .left)) (c .before .match .keys1)))
     (λ c. let a = c .before .before .before .before .args in
@@ -60,6 +66,8 @@ event-of-spec =
     c .declare .ensures ∙ ap event-of (declare-in (a .letter) (a .n) (a .minus) (a .t4) (search needs) (sym (c .before .before .before .right-count .ensures) ∙ not-false (c .before .before .before .right-count .result) (c .before .before .if1 .left)) (c .before .match .keys7)))
     (λ c. let a = c .before .before .before .before .args in
     c .state .ensures ∙ ap event-of (state-in (a .letter) (a .n) (a .minus) (a .t4) (search needs) (sym (c .before .before .before .right-count .ensures) ∙ not-false (c .before .before .before .right-count .result) (c .before .before .if1 .left)) (c .before .match .keys8)))
+    (λ c. let a = c .before .before .before .before .args in
+    c .identify .ensures ∙ ap event-of (identify-in (a .letter) (a .n) (a .minus) (a .t4) (search needs) (sym (c .before .before .before .right-count .ensures) ∙ not-false (c .before .before .before .right-count .result) (c .before .before .if1 .left)) (c .before .match .keys9)))
     (λ c. let a = c .before .before .before .args in
     let r = c .match .rest in
-    ap event-of (end-in (a .letter) (a .n) (a .minus) (a .t4) (search needs) (sym (c .before .before .right-count .ensures) ∙ not-false (c .before .before .right-count .result) (c .before .if1 .left)) (r .0 .0 .0 .0 .0 .0 .0 .1) (r .0 .0 .0 .0 .0 .0 .1) (r .0 .0 .0 .0 .0 .1) (r .0 .0 .0 .0 .1) (r .0 .0 .0 .1) (r .0 .0 .1) (r .0 .1) (r .1))))
+    ap event-of (end-in (a .letter) (a .n) (a .minus) (a .t4) (search needs) (sym (c .before .before .right-count .ensures) ∙ not-false (c .before .before .right-count .result) (c .before .if1 .left)) (r .0 .0 .0 .0 .0 .0 .0 .0 .1) (r .0 .0 .0 .0 .0 .0 .0 .1) (r .0 .0 .0 .0 .0 .0 .1) (r .0 .0 .0 .0 .0 .1) (r .0 .0 .0 .0 .1) (r .0 .0 .0 .1) (r .0 .0 .1) (r .0 .1) (r .1))))
