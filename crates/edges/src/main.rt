@@ -90,6 +90,22 @@ fn put_event(e: Event, h: &[Handle; 8]) {
             handle,
             class,
         } => put_numbers(b" O", &[thread as Handle, handle, class as Handle]),
+        Event::Identify {
+            identity,
+            sort,
+            class,
+            isstatic,
+            isfinal,
+        } => put_numbers(
+            b" M",
+            &[
+                identity,
+                sort as Handle,
+                class as Handle,
+                isstatic as Handle,
+                isfinal as Handle,
+            ],
+        ),
         Event::End => put(b" Z"),
         Event::Refused(k) => put_number(k as Handle),
     }

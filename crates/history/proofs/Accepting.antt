@@ -9,7 +9,7 @@ use Rattle.lines.specs.Line.{Line, is-allowed}
 use Rattle.history.specs.Past.{History, thread-of, closed}
 use Rattle.history.specs.Items.{items, top-of}
 use Rattle.history.specs.Seen.{seen}
-use Rattle.history.specs.Acceptance.{Room, in-step, env-right, makes-anew, classes-right, names-alive, has-room, has-item-room, first-refusal, refusal}
+use Rattle.history.specs.Acceptance.{Room, in-step, env-right, makes-anew, classes-right, names-alive, has-room, has-identity-room, has-item-room, first-refusal, refusal}
 use Rattle.history.specs.Accepted.{Accepted, and-line}
 
 -- the tests of `refusal`
@@ -17,7 +17,7 @@ abbrev pub in-step-of : Line → History → Bool
 in-step-of e past = in-step e (top-of (items (thread-of e) past)) (closed past)
 
 abbrev pub has-room-of : Room → Line → History → Bool
-has-room-of room e past = has-room room (thread-of e) (seen (e ∷ past)) && has-item-room e (length (items (thread-of e) past))
+has-room-of room e past = has-room room (thread-of e) (seen (e ∷ past)) && has-identity-room room (e ∷ past) && has-item-room e (length (items (thread-of e) past))
 
 -- which number they give
 data Tested : Bool → Bool → Bool → Bool → Bool → Bool → ℕ → Type 0 where

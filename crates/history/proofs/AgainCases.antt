@@ -93,10 +93,10 @@ attached-calls =
     ∷ []
 
 -- three reference rows and no pin row
-called-again : replies (record { references = 3; pins = 0 }) [] (map line calls) ≡ map expected calls
+called-again : replies (record { references = 3; pins = 0; identities = 0 }) [] (map line calls) ≡ map expected calls
 unfolding replied
 called-again = refl
 
-attached-again : replies (record { references = 3; pins = 0 }) [] (map line attached-calls) ≡ map expected attached-calls
+attached-again : replies (record { references = 3; pins = 0; identities = 0 }) [] (map line attached-calls) ≡ map expected attached-calls
 unfolding replied
 attached-again = refl

@@ -11,7 +11,7 @@ use borrow.Author.Tests.{eqb-true, eqb-false, ne-eqb, eq-eqb, leb-true, leb-fals
 use Rattle.words.specs.Choice.{if_then_else_, one}
 use Rattle.words.specs.Lists.{count}
 use Rattle.facts.specs.Classes.{object, class, string, throwable, is-reserved, no-class}
-use Rattle.lines.specs.Line.{Line, N, X, C, R, A, D, Z, states, K, O, if-K_then_else_, classes, is-class, is-allowed}
+use Rattle.lines.specs.Line.{Line, N, X, C, R, A, D, Z, states, K, O, M, if-K_then_else_, classes, is-class, is-allowed}
 use Rattle.history.specs.Past.{History}
 use Rattle.history.specs.Seen.{seen}
 use Rattle.history.specs.Classes.{super-of, is-known, super, leads, most-looks}
@@ -53,6 +53,7 @@ declaring (D t) = another (D t) (λ past c. refl) (no-K (D t) refl)
 declaring Z = another Z (λ past c. refl) (no-K Z refl)
 declaring (states (K c s)) = declares c s
 declaring (states (O t h c)) = another (states (O t h c)) (λ past d. refl) (no-K (states (O t h c)) refl)
+declaring (states (M x sort c static final)) = another (states (M x sort c static final)) (λ past d. refl) (no-K (states (M x sort c static final)) refl)
 
 -- the super of the class that K declares, and of every other
 own-super : (c s : ℕ) (past : History) → super-of (states (K c s) ∷ past) c ≡ s

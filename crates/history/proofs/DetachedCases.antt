@@ -269,7 +269,9 @@ detached =
     ∷ [])
     -- ---- the card's poll loop
     ∷ (case "the poll loop keeps a class, a local, over a detach: 11" reads
-    "N 1 4096 5"
+    "M 400 1 1 0 0"
+    ∷ "M 404 1 1 0 0"
+    ∷ "N 1 4096 5"
     ∷ "C 1 4096 21 5 0 0 0" ∷ "R 1 21 6 0"
     ∷ "X 1 0"
     ∷ "A 2 8192"
@@ -287,8 +289,8 @@ detached =
     ∷ "Z"
     ∷ []
     prints
-    "14 11 1 9"
-    ∷ "end closed 23 0 1"
+    "16 11 1 9"
+    ∷ "end closed 25 0 1"
     ∷ [])
     ∷ []
 

@@ -16,7 +16,7 @@ use Rattle.history.specs.Acceptance.{Room}
 use Rattle.history.specs.Accepted.{Accepted}
 use Rattle.history.specs.Findings.{rules, places, found, of-line, findings}
 use Rattle.history.specs.declared.Finding.{Finding}
-use Rattle.history.specs.Paper.{Wrong, null-handle, null-identity, null-buffer, wrong-kind, dead-local, dead-shared, other-class, not-outstanding}
+use Rattle.history.specs.Paper.{Wrong, null-handle, null-identity, null-buffer, wrong-kind, dead-local, dead-shared, other-class, not-stated, not-wanted, final-written, not-outstanding}
 use Rattle.history.specs.Paper.{Broken, at-a, at-b, at-c, at-result, other-env, not-allowed, called-in-critical, no-monitor, not-pushed, left-in-critical, detached-in-critical, detached-with-monitors, overflow, buffers-left, monitors-left, handles-left}
 use Rattle.history.specs.Order.{Breached, Ordered, no-more, then-more}
 use Rattle.history.proofs.Tests.{either}
@@ -34,6 +34,9 @@ wrong-rule past t f fixed _ _ _ (wrong-kind p v nz k) = omega arith
 wrong-rule past t f fixed _ _ _ (dead-local p v hp fit k d) = omega arith
 wrong-rule past t f fixed _ _ _ (dead-shared p v hp fit k d) = omega arith
 wrong-rule past t f fixed _ _ _ (other-class p v hp fit o) = omega arith
+wrong-rule past t f fixed _ _ _ (not-stated v nz k n) = omega arith
+wrong-rule past t f fixed _ _ _ (not-wanted v s u l nz k i n) = omega arith
+wrong-rule past t f fixed _ _ _ (final-written v s u nz k i w o) = omega arith
 wrong-rule past t f fixed _ _ _ (not-outstanding v nz o) = omega arith
 
 broken-rule : (past : History) (e : Line) (rule place v : ℕ) → Broken past e rule place v → (1 ≤ rule) × (rule ≤ 11) × (place ≤ 3)

@@ -13,13 +13,15 @@ judgements =
     ∷ "C 1 100 170 5 0 0 0"
     ∷ []
     prints
-    "2 7 1 0"
+    "2 5 2 8"
+    ∷ "2 7 1 0"
     ∷ "4 7 2 0"
     ∷ "6 7 2 0"
-    ∷ "end open 6 0 3"
+    ∷ "end open 6 0 4"
     ∷ [])
     ∷ (case "null under o, l, g, w: none" reads
-    "N 1 100 5"
+    "M 8 2 1 0 0"
+    ∷ "N 1 100 5"
     ∷ "C 1 100 24 0 0 0 0" ∷ "R 1 24 0 0"
     ∷ "C 1 100 32 0 5 0 0" ∷ "R 1 32 0 0"
     ∷ "C 1 100 23 0 0 0 0" ∷ "R 1 23 0 0"
@@ -29,7 +31,7 @@ judgements =
     ∷ "X 1 0"
     ∷ []
     prints
-    "end open 14 0 0" ∷ [])
+    "end open 15 0 0" ∷ [])
     ∷ (case "a nonzero identity in a handle place: 4" reads
     "N 1 100 5"
     ∷ "C 1 100 24 8 12 0 0" ∷ "R 1 24 0 0"
@@ -109,8 +111,10 @@ judgements =
     prints
     "2 4 3 9"
     ∷ "2 10 2 6"
+    ∷ "4 5 2 8"
     ∷ "4 11 3 9"
-    ∷ "end open 6 0 3"
+    ∷ "6 5 2 8"
+    ∷ "end open 6 0 5"
     ∷ [])
     ∷ (case "buffers have each remainder" reads
     "N 1 100 5"

@@ -22,6 +22,8 @@ pub mod Kept
 pub mod Accepting
 pub mod Classes
 pub mod Stated
+pub mod Wanted
+pub mod Identities
 pub mod Stating
 pub mod Stacks
 pub mod Attached

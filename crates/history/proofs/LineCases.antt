@@ -38,7 +38,7 @@ lines =
     ∷ l "R 1 6 0 0" gives 0 ∷ l "R 1 6 0" gives 2 ∷ l "R 1 6 0 0 0" gives 2
     ∷ l "A 1 1" gives 0 ∷ l "A 1" gives 2 ∷ l "A" gives 2 ∷ l "A 1 1 5" gives 2 ∷ l "a 1 1" gives 2
     ∷ l "D 1" gives 0 ∷ l "D" gives 2 ∷ l "D 1 1" gives 2 ∷ l "d 1" gives 2
-    ∷ l "Z" gives 0 ∷ l "Z 0" gives 2 ∷ l "Z " gives 2 ∷ l "" gives 2 ∷ l "M 8 1 1 0 0" gives 2
+    ∷ l "Z" gives 0 ∷ l "Z 0" gives 2 ∷ l "Z " gives 2 ∷ l "" gives 2 ∷ l "M 8 1 1 0 0" gives 0
     ∷ l "K 5 1" gives 0 ∷ l "K 5" gives 2 ∷ l "K 5 1 1" gives 2 ∷ l "k 5 1" gives 2
     ∷ l "O 1 5 2" gives 0 ∷ l "O 1 5" gives 2 ∷ l "O 1 5 2 2" gives 2
     -- N has 0 to 8 handles

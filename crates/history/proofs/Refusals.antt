@@ -15,12 +15,13 @@ use Rattle.history.specs.Items.{Item, items}
 use Rattle.history.specs.Frames.{frames, depth}
 use Rattle.history.specs.Handles.{living}
 use Rattle.history.specs.Buffers.{outstanding}
+use Rattle.history.specs.Identities.{identities}
 use Rattle.history.specs.Seen.{seen}
-use Rattle.history.specs.Acceptance.{Room, env-right, makes-anew, classes-right, names-alive, has-room, has-item-room, deepest, everything, first-refusal, refusal}
+use Rattle.history.specs.Acceptance.{Room, env-right, makes-anew, classes-right, names-alive, has-room, has-identity-room, has-item-room, deepest, everything, first-refusal, refusal}
 use Rattle.history.specs.Accepted.{Accepted, at-start, and-line}
 use Rattle.history.specs.Bounds.{Bounded}
-use Rattle.history.specs.Refusals.{Wrong-env, Made-again, Wrong-class, Names-dead, Exceeds, handles, buffers, open-items, frames as frames-too, Given, four, five, six, nine, ten, seven, none}
-use Rattle.history.proofs.Tests.{and-left, and-right, all-three, true-not-false, never-true, never-false, eqb-self}
+use Rattle.history.specs.Refusals.{Wrong-env, Made-again, Wrong-class, Names-dead, Exceeds, handles, buffers, stated, open-items, frames as frames-too, Given, four, five, six, nine, ten, seven, none}
+use Rattle.history.proofs.Tests.{all-three, true-not-false, never-true, never-false, eqb-self}
 use Rattle.history.proofs.Counts.{count-all}
 use Rattle.history.proofs.Threads.{own-items, other-items, other-depth, thread-is}
 use Rattle.history.proofs.Accepting.{in-step-of, has-room-of, passed}
@@ -69,7 +70,7 @@ module _ (room : Room) where
       omega (arith, leb-true alive (room .references) x, leb-true out (room .pins) y, leb-true (depth t after) deepest z, count-all (living after), count-all (outstanding after))
 
   fits : (e : Line) (past : History) → ¬ Exceeds room past → has-room-of room e past ≡ true → ¬ Exceeds room (e ∷ past)
-  fits e past before h = go (room-says (e ∷ past) (thread-of e) (and-left rows opens h)) (and-right rows opens h)
+  fits e past before h = let (r, i, o) = all-three rows (has-identity-room room (e ∷ past)) opens h in go (room-says (e ∷ past) (thread-of e) r) i o
     where
       rows : Bool
       rows = has-room room (thread-of e) (seen (e ∷ past))
@@ -78,15 +79,16 @@ module _ (room : Room) where
       opens = has-item-room e (length (items (thread-of e) past))
 
       go : (length (living (e ∷ past)) ≤ room .references) × (length (outstanding (e ∷ past)) ≤ room .pins) × (depth (thread-of e) (e ∷ past) ≤ deepest)
-          → has-item-room e (length (items (thread-of e) past)) ≡ true → Exceeds room (e ∷ past) → ⊥
-      go fit one-more (handles k) = omega arith
-      go fit one-more (buffers k) = omega arith
-      go fit one-more (open-items t k) = at (is-of t e) refl
+          → has-identity-room room (e ∷ past) ≡ true → has-item-room e (length (items (thread-of e) past)) ≡ true → Exceeds room (e ∷ past) → ⊥
+      go fit few one-more (handles k) = omega arith
+      go fit few one-more (buffers k) = omega arith
+      go fit few one-more (stated k) = omega (arith, leb-true (length (identities (e ∷ past))) (room .identities) few)
+      go fit few one-more (open-items t k) = at (is-of t e) refl
         where
           at : (q : Bool) → is-of t e ≡ q → ⊥
           at true o = omega (arith, items-fit e past t (not-deeper past before t .0) one-more o)
           at false o = omega (arith, ap length (other-items t e past o), not-deeper past before t .0)
-      go fit one-more (frames-too t k) = at (is-of t e) refl
+      go fit few one-more (frames-too t k) = at (is-of t e) refl
         where
           at : (q : Bool) → is-of t e ≡ q → ⊥
           at true o = omega (arith, ap (λ (u : ℕ). depth u (e ∷ past)) (thread-is t e o))
@@ -94,9 +96,10 @@ module _ (room : Room) where
 
   -- after accepted lines nothing exceeds room, in no thread
   pub within-room : (past : History) → Accepted room past → ¬ Exceeds room past
-  unfolding living outstanding items frames through depth
+  unfolding living outstanding identities items frames through depth
   within-room _ at-start (handles k) = omega arith
   within-room _ at-start (buffers k) = omega arith
+  within-room _ at-start (stated k) = omega arith
   within-room _ at-start (open-items t k) = omega arith
   within-room _ at-start (frames-too t k) = omega arith
   within-room _ (and-line e past n a r k) x = fits e past (within-room past k) (passed room e past r .rooms) x
@@ -134,16 +137,17 @@ module _ (room : Room) where
   unfolding has-room seen depth
   no-room e past h =
       go (leb (count everything (living (e ∷ past))) (room .references)) refl (leb (count everything (outstanding (e ∷ past))) (room .pins)) refl
-      (leb (depth (thread-of e) (e ∷ past)) deepest) refl (has-item-room e (length (items (thread-of e) past))) refl h
+      (leb (depth (thread-of e) (e ∷ past)) deepest) refl (has-identity-room room (e ∷ past)) refl (has-item-room e (length (items (thread-of e) past))) refl h
     where
       go : (a : Bool) → leb (count everything (living (e ∷ past))) (room .references) ≡ a → (b : Bool) → leb (count everything (outstanding (e ∷ past))) (room .pins) ≡ b
-          → (c : Bool) → leb (depth (thread-of e) (e ∷ past)) deepest ≡ c → (d : Bool) → has-item-room e (length (items (thread-of e) past)) ≡ d
-          → (a && b && c && d) ≡ false → Exceeds room (e ∷ past)
-      go false ea b eb c ec d ed k = handles (omega (arith, leb-false (count everything (living (e ∷ past))) (room .references) ea, count-all (living (e ∷ past))))
-      go true ea false eb c ec d ed k = buffers (omega (arith, leb-false (count everything (outstanding (e ∷ past))) (room .pins) eb, count-all (outstanding (e ∷ past))))
-      go true ea true eb false ec d ed k = frames-too (thread-of e) (leb-false _ _ ec)
-      go true ea true eb true ec false ed k = no-item-room e past ed
-      go true ea true eb true ec true ed k = absurd (false≢true (sym k))
+          → (c : Bool) → leb (depth (thread-of e) (e ∷ past)) deepest ≡ c → (i : Bool) → has-identity-room room (e ∷ past) ≡ i
+          → (d : Bool) → has-item-room e (length (items (thread-of e) past)) ≡ d → (a && b && c && i && d) ≡ false → Exceeds room (e ∷ past)
+      go false ea b eb c ec i ei d ed k = handles (omega (arith, leb-false (count everything (living (e ∷ past))) (room .references) ea, count-all (living (e ∷ past))))
+      go true ea false eb c ec i ei d ed k = buffers (omega (arith, leb-false (count everything (outstanding (e ∷ past))) (room .pins) eb, count-all (outstanding (e ∷ past))))
+      go true ea true eb false ec i ei d ed k = frames-too (thread-of e) (leb-false _ _ ec)
+      go true ea true eb true ec false ei d ed k = stated (leb-false (length (identities (e ∷ past))) (room .identities) ei)
+      go true ea true eb true ec true ei false ed k = no-item-room e past ed
+      go true ea true eb true ec true ei true ed k = absurd (false≢true (sym k))
 
   pub room-is : (e : Line) (past : History) → Accepted room past → (has-room-of room e past ≡ false) ↔ Exceeds room (e ∷ past)
   room-is e past a = (no-room e past, λ x. never-true (has-room-of room e past) (λ h. fits e past (within-room past a) h x))

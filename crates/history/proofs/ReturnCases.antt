@@ -216,7 +216,10 @@ returns =
     ∷ "C 1 100 34 5 12 0 0"
     ∷ []
     prints
-    "end open 6 0 0" ∷ [])
+    "4 5 2 8"
+    ∷ "6 5 2 12"
+    ∷ "end open 6 0 2"
+    ∷ [])
     ∷ (case "a local is made in the thread's top frame" reads
     "N 1 100"
     ∷ "N 2 200"

@@ -13,12 +13,13 @@ use Rattle.lines.specs.Line.{Line}
 use Rattle.lines.specs.Reading.{Read, says, refused, read}
 use Rattle.history.specs.Past.{History, thread-of}
 use Rattle.history.specs.Items.{items}
+use Rattle.history.specs.Identities.{identities}
 use Rattle.history.specs.Seen.{Seen, seen}
-use Rattle.history.specs.Acceptance.{Room, env-right, makes-anew, classes-right, names-alive, has-room, has-item-room, everything, deepest, first-refusal, refusal}
+use Rattle.history.specs.Acceptance.{Room, env-right, makes-anew, classes-right, names-alive, has-room, has-identity-room, has-item-room, everything, deepest, first-refusal, refusal}
 use Rattle.history.specs.Replies.{most-lines, weighed, verdict}
 use Rattle.history.specs.Report.{go-on, run}
 use Rattle.history.specs.Runs.{Roomier}
-use Rattle.history.proofs.Tests.{all-three, and-left, and-right, and-both}
+use Rattle.history.proofs.Tests.{all-three, and-both}
 use Rattle.history.proofs.Accepting.{in-step-of, has-room-of}
 
 same-number : (step env anew classes alive less more : Bool) → (less ≡ true → more ≡ true) → first-refusal step env anew classes alive less ≢ 7
@@ -50,9 +51,13 @@ module _ (a b : Room) (r : Roomier a b) where
   refusal-more e past h =
       same-number (in-step-of e past) (env-right e (seen past)) (makes-anew e (seen past)) (classes-right e (seen past)) (names-alive e (seen past)) (has-room-of a e past) (has-room-of b e past)
       (λ k.
-      and-both (has-room b (thread-of e) (seen (e ∷ past))) (has-item-room e (length (items (thread-of e) past)))
-      (has-more (thread-of e) (seen (e ∷ past)) (and-left (has-room a (thread-of e) (seen (e ∷ past))) (has-item-room e (length (items (thread-of e) past))) k))
-      (and-right (has-room a (thread-of e) (seen (e ∷ past))) (has-item-room e (length (items (thread-of e) past))) k))
+      let opens : Bool = has-item-room e (length (items (thread-of e) past)) in
+      let (rows, stated, items-too) = all-three (has-room a (thread-of e) (seen (e ∷ past))) (has-identity-room a (e ∷ past)) opens k in
+      and-both (has-room b (thread-of e) (seen (e ∷ past)) && has-identity-room b (e ∷ past)) opens
+      (and-both (has-room b (thread-of e) (seen (e ∷ past))) (has-identity-room b (e ∷ past))
+      (has-more (thread-of e) (seen (e ∷ past)) rows)
+      (more-fits (length (identities (e ∷ past))) (a .identities) (b .identities) (r .identities) stated))
+      items-too)
       h
 
   weighed-more : (past : History) (x : Read) → weighed a past x ≢ refused 7 → weighed b past x ≡ weighed a past x

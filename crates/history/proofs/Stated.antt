@@ -13,7 +13,7 @@ use Rattle.words.specs.Lists.{any, count, of-first}
 use Rattle.facts.specs.Table.{table, fact-of}
 use Rattle.facts.specs.Classes.{class, no-class}
 use Rattle.facts.specs.Named.{GetObjectClass}
-use Rattle.lines.specs.Line.{Line, N, X, C, R, A, D, Z, states, K, O, if-O_then_else_, kind, is-thread, is-value, is-class, is-allowed, above-zero}
+use Rattle.lines.specs.Line.{Line, N, X, C, R, A, D, Z, states, K, O, M, if-O_then_else_, kind, is-thread, is-value, is-class, is-allowed, above-zero}
 use Rattle.history.specs.Past.{History, thread-of}
 use Rattle.history.specs.Frames.{depth}
 use Rattle.history.specs.Handles.{Alive, local, shared, is-local, is-shared, same-handle, makes, living}
@@ -89,6 +89,7 @@ class-next (D t) past x = refl
 class-next Z past x = refl
 class-next (states (K c s)) past x = refl
 class-next (states (O t h c)) past x = refl
+class-next (states (M y sort c static final)) past x = refl
 
 states-by : (e : Line) (x : Alive) → stating e x ≡ true → States e x (class-in-line e)
 states-by (N t env hs) x h = absurd (false≢true h)
@@ -99,6 +100,7 @@ states-by (A t env) x h = absurd (false≢true h)
 states-by (D t) x h = absurd (false≢true h)
 states-by Z x h = absurd (false≢true h)
 states-by (states (K c s)) x h = absurd (false≢true h)
+states-by (states (M y sort c static final)) x h = absurd (false≢true h)
 states-by (states (O t h c)) x k = go (names-means t h x k)
   where
     go : {v : ℕ} {x : Alive} → Means t v x → States (states (O t v c)) x c

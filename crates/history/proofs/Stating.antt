@@ -4,7 +4,7 @@ use mathlib.Core.Path.{_≡_, refl, sym}
 use mathlib.Core.Logic.{_↔_}
 use mathlib.Core.Bool.{Bool, true, false, not, _&&_, false≢true, and-false}
 use mathlib.Core.List.{_∷_}
-use Rattle.lines.specs.Line.{Line, Statement, N, X, C, R, A, D, Z, states, K, O}
+use Rattle.lines.specs.Line.{Line, Statement, N, X, C, R, A, D, Z, states, K, O, M}
 use Rattle.history.specs.Past.{History, closed}
 use Rattle.history.specs.Handles.{living}
 use Rattle.history.specs.Buffers.{outstanding}
@@ -14,7 +14,7 @@ use Rattle.history.specs.Classes.{super-of, is-known}
 use Rattle.history.specs.Below.{Known}
 use Rattle.history.specs.Acceptance.{Room, classes-right, names-alive}
 use Rattle.history.specs.Accepted.{Accepted}
-use Rattle.history.specs.Refusals.{Wrong-class, known-already, super-unknown, class-unknown, Names-dead, not-alive}
+use Rattle.history.specs.Refusals.{Wrong-class, known-already, super-unknown, class-unknown, identity-of-unknown, Names-dead, not-alive}
 use Rattle.history.proofs.Tests.{never-true, true-not-false}
 use Rattle.history.proofs.Classes.{known-are}
 use Rattle.history.proofs.Stated.{alive-named}
@@ -30,7 +30,7 @@ module _ (room : Room) (past : History) (so-far : Accepted room past) where
   not-known : (c : ℕ) → ¬ Known past c → is-known (super-of past) c ≡ false
   not-known c n = never-true (is-known (super-of past) c) (λ h. n (known-are room past so-far c .0 h))
 
-  -- K of a class declared or reserved; a super or stated class that is neither
+  -- K of a class declared or reserved; a super, a stated class or an identity's that is neither
   pub classes-are : (e : Line) → (classes-right e (seen past) ≡ false) ↔ Wrong-class past e
   unfolding classes-right seen
   classes-are (N t env hs) = (λ h. absurd (false≢true (sym h)), λ w. elim w [ ])
@@ -44,6 +44,10 @@ module _ (room : Room) (past : History) (so-far : Accepted room past) where
     where
       back : Wrong-class past (states (O t h c)) → is-known (super-of past) c ≡ false
       back (class-unknown _ _ _ n) = not-known c n
+  classes-are (states (M x sort c static final)) = (λ k. identity-of-unknown x sort c static final (unknown c k), back)
+    where
+      back : Wrong-class past (states (M x sort c static final)) → is-known (super-of past) c ≡ false
+      back (identity-of-unknown _ _ _ _ _ n) = not-known c n
   classes-are (states (K c s)) = (go (is-known (super-of past) c) refl (is-known (super-of past) s) refl, back)
     where
       go : (a : Bool) → is-known (super-of past) c ≡ a → (b : Bool) → is-known (super-of past) s ≡ b → (not a && b) ≡ false → Wrong-class past (states (K c s))
@@ -67,6 +71,7 @@ names-are past (A t env) = (λ h. absurd (false≢true (sym h)), λ w. elim w [ 
 names-are past (D t) = (λ h. absurd (false≢true (sym h)), λ w. elim w [ ])
 names-are past Z = (λ h. absurd (false≢true (sym h)), λ w. elim w [ ])
 names-are past (states (K c s)) = (λ h. absurd (false≢true (sym h)), λ w. elim w [ ])
+names-are past (states (M x sort c static final)) = (λ h. absurd (false≢true (sym h)), λ w. elim w [ ])
 names-are past (states (O t h c)) = (
   λ k. not-alive t h c (λ x m l. true-not-false (handle-alive t h (seen past)) (alive-named past t h .1 (x, m, l)) k),
   back,

@@ -7,6 +7,7 @@ use Rattle.words.specs.Lists.{joined}
 use Rattle.words.specs.Text.{bytes, with-tabs, line-feed}
 use Rattle.facts.specs.Table.{table, fact-of, is-allowed-pending, is-allowed-critical, family, is-critical}
 use Rattle.facts.specs.Classes.{class-a, class-b}
+use Rattle.facts.specs.Identities.{wanted-of, writes-field}
 use Rattle.numbers.specs.Decimal.{digits-in, digits, read-on}
 use Rattle.lines.specs.Line.{Line}
 use Rattle.lines.specs.Forms.{of-letter}
@@ -19,6 +20,7 @@ use Rattle.history.specs.Capacities.{capacities}
 use Rattle.history.specs.Buffers.{pin, gets, releases, outstanding}
 use Rattle.history.specs.Thread.{pending, monitors, env-of}
 use Rattle.history.specs.Statements.{names, class-stated}
+use Rattle.history.specs.Identities.{identity-of, identities}
 use Rattle.history.specs.Classes.{super-of, super, leads, class-fits}
 use Rattle.history.specs.Seen.{seen, handle-alive}
 use Rattle.history.specs.Acceptance.{Room, in-step, env-right, made-by, makes-anew, classes-right, names-alive, has-room, refusal}
@@ -37,18 +39,23 @@ pub record Case : Type 0 where
   pub input : List ℕ
   pub report : List ℕ
 
--- the program lends 1,024 reference and 256 pin rows
+-- the program lends 1,024 reference and 256 pin rows, and room for 1,024 identities
 abbrev pub program : Room
-program = record { references = 1024; pins = 256 }
+program = record { references = 1024; pins = 256; identities = 1024 }
 
 infixr 1 case_reads_prints_
 abbrev pub case_reads_prints_ : String → List String → List String → Case
 case name reads input prints report = record { name = name; room = program; input = typed input; report = typed report }
 
--- the case, where so many reference and pin rows are lent
+-- the case, where so many reference and pin rows are lent, and no room for identities
 abbrev pub lent : ℕ → ℕ → Case → Case
 lent references pins c =
-    record { name = c .name; room = record { references = references; pins = pins }; input = c .input; report = c .report }
+    record { name = c .name; room = record { references = references; pins = pins; identities = 0 }; input = c .input; report = c .report }
+
+-- the case, where there is room for so many identities
+abbrev pub with-places : ℕ → Case → Case
+with-places identities c =
+    record { name = c .name; room = record { references = c .room .references; pins = c .room .pins; identities = identities }; input = c .input; report = c .report }
 
 -- the case, where the input's last LF is missing
 abbrev pub unended : Case → Case
@@ -86,12 +93,12 @@ the-18th = "C 1 100 6 0 0 0 0" ∷ "R 1 6 169 0" ∷ []
 
 -- the number 4 to 7, 9 or 10 given to a line after a history, or 0
 unfoldable pub refused-by : Room → Line → History → ℕ
-unfolding table fact-of family is-critical through closed items frames depth makes deletes ends living alive-in capacities pin gets releases outstanding pending monitors env-of names class-stated super-of seen in-step env-right made-by makes-anew classes-right names-alive has-room refusal
+unfolding table fact-of family is-critical through closed items frames depth makes deletes ends living alive-in capacities pin gets releases outstanding pending monitors env-of names class-stated super-of identity-of identities seen in-step env-right made-by makes-anew classes-right names-alive has-room refusal
 refused-by = refusal
 
 -- the reply to a line after calls, which stand newest first
 unfoldable pub replied : Room → List (List ℕ) → List ℕ → Reply
-unfolding refused-by is-allowed-pending is-allowed-critical read-on fields numbers line-of of-letter of-fields read handle-rule kind-rule place-rule handle-alive super leads class-fits class-a class-b is-there rule-at in-critical overflows call-rule end-rule detach-rule line-rule breach of-line verdict reply heard
+unfolding refused-by is-allowed-pending is-allowed-critical read-on fields numbers line-of of-letter of-fields read handle-rule kind-rule place-rule handle-alive super leads class-fits class-a class-b wanted-of writes-field is-there rule-at in-critical overflows call-rule end-rule detach-rule line-rule breach of-line verdict reply heard
 replied room before bs = reply room (heard room before) bs
 
 -- the report

@@ -7,12 +7,13 @@ use lib.Dec.{eqb, leb, ltb}
 use lib.ListN.{length}
 use Rattle.words.specs.Choice.{if_then_else_}
 use Rattle.words.specs.Lists.{any}
-use Rattle.lines.specs.Line.{Line, if-opens_then_else_, if-N_then_else_, if-X_then_else_, if-C_then_else_, if-R_then_else_, if-A_then_else_, if-D_then_else_, if-K_then_else_, if-O_then_else_}
+use Rattle.lines.specs.Line.{Line, if-opens_then_else_, if-N_then_else_, if-X_then_else_, if-C_then_else_, if-R_then_else_, if-A_then_else_, if-D_then_else_, if-K_then_else_, if-O_then_else_, if-M_then_else_}
 use Rattle.history.specs.Past.{History, thread-of, closed}
 use Rattle.history.specs.Items.{Item, items, top-of, is-empty, is-native, is-attached, native-or-attached, is-call, is-call-of}
 use Rattle.history.specs.Handles.{Alive, makes, same-handle}
 use Rattle.history.specs.Thread.{all-threads}
 use Rattle.history.specs.Classes.{is-known}
+use Rattle.history.specs.Identities.{identities}
 use Rattle.history.specs.Seen.{Seen, seen, is-alive, handle-alive}
 
 -- ---- 4: out of step
@@ -53,12 +54,13 @@ twice (x ∷ xs) = any (same-handle x) xs || twice xs
 unfoldable pub makes-anew : Line → Seen → Bool
 makes-anew e v = not (any (λ (x : Alive). is-alive (same-handle x) v) (made-by e v)) && not (twice (made-by e v))
 
--- ---- 9: K of a class declared or reserved; a super or stated class that is neither
+-- ---- 9: K of a class declared or reserved; a super, a stated class or an identity's that is neither
 
 unfoldable pub classes-right : Line → Seen → Bool
 classes-right e v =
     if-K e then (λ c s. not (is-known (v .super) c) && is-known (v .super) s)
     else if-O e then (λ t h c. is-known (v .super) c)
+    else if-M e then (λ x sort c static final. is-known (v .super) c)
     else true
 
 -- ---- 10: O on a handle not alive
@@ -66,12 +68,13 @@ classes-right e v =
 unfoldable pub names-alive : Line → Seen → Bool
 names-alive e v = if-O e then (λ t h c. handle-alive t h v) else true
 
--- ---- 7: after it the alive handles, the outstanding buffers, or a thread's items or frames would exceed room
+-- ---- 7: after it the alive handles, the outstanding buffers, the identities stated, or a thread's items or frames would exceed room
 
--- the rows lent
+-- the rows lent, and the places for identities
 pub record Room : Type 0 where
   pub references : ℕ
   pub pins : ℕ
+  pub identities : ℕ
 
 -- each thread has at most 64 open items and 64 frames
 abbrev pub deepest : ℕ
@@ -86,6 +89,10 @@ has-room room t after =
     leb (after .handles everything) (room .references)
     && leb (after .buffers everything) (room .pins)
     && leb (length (after .frames t)) deepest
+
+-- of a known identity there is one more M, and no identity more
+abbrev pub has-identity-room : Room → History → Bool
+has-identity-room room past = leb (length (identities past)) (room .identities)
 
 -- only N, A and C open an item; before the line `n` are open
 abbrev pub has-item-room : Line → ℕ → Bool
@@ -114,4 +121,4 @@ refusal room e past =
     (makes-anew e (seen past))
     (classes-right e (seen past))
     (names-alive e (seen past))
-    (has-room room (thread-of e) (seen (e ∷ past)) && has-item-room e (length (items (thread-of e) past)))
+    (has-room room (thread-of e) (seen (e ∷ past)) && has-identity-room room (e ∷ past) && has-item-room e (length (items (thread-of e) past)))

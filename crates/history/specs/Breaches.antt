@@ -8,8 +8,9 @@ use lib.ListN.{length}
 use Rattle.words.specs.Choice.{if_then_else_}
 use Rattle.facts.specs.Table.{fact-of, is-allowed-pending, is-allowed-critical}
 use Rattle.facts.specs.Named.{PopLocalFrame, MonitorExit}
-use Rattle.facts.specs.Results.{is-local-result, is-handle-place, is-buffer-place}
+use Rattle.facts.specs.Results.{is-local-result, is-handle-place, is-buffer-place, is-identity-place}
 use Rattle.facts.specs.Classes.{no-class, class-a, class-b}
+use Rattle.facts.specs.Identities.{wanted-of, suits, writes-field}
 use Rattle.facts.specs.declared.Place.{Place}
 use Rattle.facts.specs.declared.Place.the-variants as Place
 use Rattle.lines.specs.Line.{Line, if-X_then_else_, if-C_then_else_, if-R_then_else_, if-D_then_else_, if-Z_then_else_, kind, above-zero}
@@ -20,13 +21,14 @@ use Rattle.history.specs.Buffers.{pin, same-pin, critical-of}
 use Rattle.history.specs.Classes.{class-fits}
 use Rattle.history.specs.Seen.{Seen, is-outstanding, handle-alive}
 use Rattle.history.specs.Acceptance.{everything}
+use Rattle.history.specs.declared.Identity.{Identity}
 
 abbrev pub when : Bool → ℕ → Option ℕ
 when true n = some n
 when false n = none
 
--- ---- the places a b c: the rule that a value breaks, the first that fits; `there` tells whether what it names is alive or outstanding, `fits`
--- whether its stated class is right there
+-- ---- the places a b c: the rule that a value breaks, the first that fits; `there` tells whether what it names is alive or outstanding, or
+-- stated as it is wanted, `fits` whether its stated class is right there, or it is no final field that is written
 
 -- wrong kind: 4; local not alive in this thread: 11; global or weak not alive: 10; a live handle of a wrong class: 4
 unfoldable pub handle-rule : ℕ → Bool → Bool → Option ℕ
@@ -40,6 +42,10 @@ handle-rule h there fits =
 unfoldable pub kind-rule : ℕ → ℕ → Bool → Bool → Option ℕ
 kind-rule k h there fits = if eqb h 0 then none else if eqb (kind h) k then handle-rule h there fits else some 4
 
+-- an identity that is not stated, or of another sort or flag: 5; a final field written: 6
+abbrev pub identity-rule : Bool → Bool → Option ℕ
+identity-rule there fits = if there then when (not fits) 6 else some 5
+
 -- null where r, i or b stands: 7; buffer not outstanding in its family (and thread, if critical): 8
 unfoldable pub place-rule : Place → ℕ → Bool → Bool → Option ℕ
 place-rule Place.Unused h there fits = none
@@ -48,23 +54,32 @@ place-rule Place.HandleOrNull h there fits = if eqb h 0 then none else handle-ru
 place-rule Place.LocalOrNull h there fits = kind-rule 1 h there fits
 place-rule Place.GlobalOrNull h there fits = kind-rule 2 h there fits
 place-rule Place.WeakOrNull h there fits = kind-rule 3 h there fits
-place-rule Place.Identity h there fits = if eqb h 0 then some 7 else when (not (eqb (kind h) 0)) 4
+place-rule Place.Identity h there fits = if eqb h 0 then some 7 else if eqb (kind h) 0 then identity-rule there fits else some 4
 place-rule Place.Buffer h there fits = if eqb h 0 then some 7 else when (not there) 8
+
+-- what is stated of an identity is what function f wants
+abbrev pub is-wanted : ℕ → Identity → Bool
+is-wanted f x = suits (wanted-of f) (x .sort) (x .isstatic)
+
+-- function f does not write a final field
+abbrev pub may-take : ℕ → Identity → Bool
+may-take f x = not (writes-field f && eqb (x .isfinal) 1)
 
 -- the value at a place of function f, called by thread t
 unfoldable pub is-there : Place → ℕ → ℕ → ℕ → Seen → Bool
 is-there p t f h v =
     if is-handle-place p then handle-alive t h v
     else if is-buffer-place p then is-outstanding (same-pin (pin t f h)) v
+    else if is-identity-place p then is-wanted f (v .identity h)
     else false
 
 -- where a class is fixed: what is stated of the handle is that class, or below it, or nothing
-abbrev pub fits-here : ℕ → ℕ → ℕ → Seen → Bool
-fits-here fixed t h v = class-fits (v .super) fixed (v .class t h)
+abbrev pub fits-here : ℕ → Place → ℕ → ℕ → ℕ → Seen → Bool
+fits-here fixed p t f h v = if is-identity-place p then may-take f (v .identity h) else class-fits (v .super) fixed (v .class t h)
 
 -- where class `fixed` is fixed, or none
 abbrev pub rule-here : ℕ → Place → ℕ → ℕ → ℕ → Seen → Option ℕ
-rule-here fixed p t f h v = place-rule p h (is-there p t f h v) (fits-here fixed t h v)
+rule-here fixed p t f h v = place-rule p h (is-there p t f h v) (fits-here fixed p t f h v)
 
 -- places 1 to 3 are a b c; X's result is place 1 of kind `o`
 abbrev pub place-at : Line → ℕ → Place

@@ -10,6 +10,7 @@ pub mod Thread
 pub mod Lives
 pub mod Below
 pub mod Stated
+pub mod Identified
 pub mod Paper
 pub mod Order
 -- from a start: refusal by refusal-is, heard-accepted
@@ -27,6 +28,8 @@ pub mod Leaks
 pub mod Classes
 -- from a start: class-stated by class-is
 pub mod Statements
+-- from a start: identity-of by identity-is; identities by identities-are, identities-once
+pub mod Identities
 -- from a start: seen by told-all
 pub mod Seen
 pub mod Breaches

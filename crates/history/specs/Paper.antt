@@ -23,6 +23,7 @@ use Rattle.history.specs.Thread.{all-threads, pending, monitors, env-of}
 use Rattle.history.specs.Lives.{Lives, Local-lives, Means}
 use Rattle.history.specs.Below.{At-or-below}
 use Rattle.history.specs.Stated.{Stated}
+use Rattle.history.specs.Identified.{Identified, Suits, Writes}
 
 -- ---- what is outstanding
 
@@ -84,6 +85,12 @@ pub data Wrong (past : History) (t f fixed : ℕ) : Place → ℕ → ℕ → Ty
   dead-shared : (p : Place) (v : ℕ) → Handle-place p → ¬ Wrong-kind p v → 2 ≤ kind v → ¬ Lives (shared v) past → Wrong past t f fixed p v 10
   -- a live handle whose stated class is not the fixed class or below it: 4
   other-class : (p : Place) (v : ℕ) → Handle-place p → ¬ Wrong-kind p v → Of-other-class past t v fixed → Wrong past t f fixed p v 4
+  -- an identity used must have been stated, else rule 5
+  not-stated : (v : ℕ) → v ≢ 0 → kind v ≡ 0 → ((sort static final : ℕ) → ¬ Identified v sort static final past) → Wrong past t f fixed Place.Identity v 5
+  -- another sort or flag than the function wants is rule 5 too
+  not-wanted : (v sort static final : ℕ) → v ≢ 0 → kind v ≡ 0 → Identified v sort static final past → ¬ Suits f sort static → Wrong past t f fixed Place.Identity v 5
+  -- a function that writes, on a final field: 6
+  final-written : (v sort static : ℕ) → v ≢ 0 → kind v ≡ 0 → Identified v sort static 1 past → Suits f sort static → Writes f → Wrong past t f fixed Place.Identity v 6
   -- buffer not outstanding in its family (and thread, if critical): 8
   not-outstanding : (v : ℕ) → v ≢ 0 → ¬ Outstanding (pin t f v) past → Wrong past t f fixed Place.Buffer v 8
 

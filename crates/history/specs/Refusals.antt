@@ -5,7 +5,7 @@ use mathlib.Core.Logic.{_≢_}
 use mathlib.Core.List.{List, [], _∷_, List·Memᴰ}
 use lib.IntN.{ℤ}
 use lib.ListN.{length}
-use Rattle.lines.specs.Line.{Line, Statement, N, X, C, R, A, D, Z, states, K, O}
+use Rattle.lines.specs.Line.{Line, Statement, N, X, C, R, A, D, Z, states, K, O, M}
 use Rattle.history.specs.Past.{History}
 use Rattle.history.specs.Items.{Item, in-native, in-call, attached, items}
 use Rattle.history.specs.Frames.{depth}
@@ -13,6 +13,7 @@ use Rattle.history.specs.Handles.{Alive, local, shared, living}
 use Rattle.history.specs.Buffers.{outstanding}
 use Rattle.history.specs.Thread.{all-threads, env-of}
 use Rattle.history.specs.Acceptance.{Room}
+use Rattle.history.specs.Identities.{identities}
 use Rattle.history.specs.Lives.{Makes, Lives, Local-lives, Means}
 use Rattle.history.specs.Below.{Known}
 
@@ -35,7 +36,7 @@ pub data In-turn (past : History) : Line → Type 0 where
   attached-calls : (t env f a b c : ℕ) (n : ℤ) (below : List Item) → items t past ≡ attached ∷ below → In-turn past (C t env f a b c n)
   -- Z may come with items open
   run-ends : In-turn past Z
-  -- K and O are in step anywhere before Z
+  -- K, O and M are in step anywhere before Z
   anywhere : (s : Statement) → In-turn past (states s)
 
 pub record In-step (past : History) (e : Line) : Type 0 where
@@ -68,23 +69,25 @@ pub data Made-again (past : History) : Line → Type 0 where
   shared-again : (e : Line) (h : ℕ) → Makes past e (shared h) → Lives (shared h) past → Made-again past e
   named-twice : (t env : ℕ) (hs : List ℕ) → Twice hs → Made-again past (N t env hs)
 
--- ---- K of a class declared or reserved; a super or stated class that is neither
+-- ---- K of a class declared or reserved; a super, a stated class or an identity's that is neither
 
 pub data Wrong-class (past : History) : Line → Type 0 where
   known-already : (c s : ℕ) → Known past c → Wrong-class past (states (K c s))
   super-unknown : (c s : ℕ) → ¬ Known past s → Wrong-class past (states (K c s))
   class-unknown : (t h c : ℕ) → ¬ Known past c → Wrong-class past (states (O t h c))
+  identity-of-unknown : (x sort c static final : ℕ) → ¬ Known past c → Wrong-class past (states (M x sort c static final))
 
 -- ---- O on a handle not alive: a local in this thread, a global or weak for any
 
 pub data Names-dead (past : History) : Line → Type 0 where
   not-alive : (t h c : ℕ) → ((x : Alive) → Means t h x → ¬ Lives x past) → Names-dead past (states (O t h c))
 
--- ---- the alive handles, the outstanding buffers, or a thread's items or frames exceed room
+-- ---- the alive handles, the outstanding buffers, the identities stated, or a thread's items or frames exceed room
 
 pub data Exceeds (room : Room) (past : History) : Type 0 where
   handles : room .references < length (living past) → Exceeds room past
   buffers : room .pins < length (outstanding past) → Exceeds room past
+  stated : room .identities < length (identities past) → Exceeds room past
   -- each thread has at most 64 open items and 64 frames
   open-items : (t : ℕ) → 64 < length (items t past) → Exceeds room past
   frames : (t : ℕ) → 64 < depth t past → Exceeds room past
@@ -98,11 +101,11 @@ pub data Given (room : Room) (past : History) (e : Line) : ℕ → Type 0 where
   five : In-step past e → Wrong-env past e → Given room past e 5
   -- it makes a handle already alive (a local: in that thread), or N names one twice
   six : In-step past e → ¬ Wrong-env past e → Made-again past e → Given room past e 6
-  -- K of a class declared or reserved, a super or stated class that is neither
+  -- K of a class declared or reserved, a super, a stated class or an identity's that is neither
   nine : In-step past e → ¬ Wrong-env past e → ¬ Made-again past e → Wrong-class past e → Given room past e 9
   -- O on a handle not alive
   ten : In-step past e → ¬ Wrong-env past e → ¬ Made-again past e → ¬ Wrong-class past e → Names-dead past e → Given room past e 10
-  -- after it the alive handles, the outstanding buffers, or a thread's items or frames would exceed room
+  -- after it the alive handles, the outstanding buffers, the identities stated, or a thread's items or frames would exceed room
   seven : In-step past e → ¬ Wrong-env past e → ¬ Made-again past e → ¬ Wrong-class past e → ¬ Names-dead past e → Exceeds room (e ∷ past)
       → Given room past e 7
   none : In-step past e → ¬ Wrong-env past e → ¬ Made-again past e → ¬ Wrong-class past e → ¬ Names-dead past e → ¬ Exceeds room (e ∷ past)

@@ -30,10 +30,11 @@ pub data Runs (room : Room) : List (List ℕ) → List (List ℕ) → Run → Ty
 pub record Roomier (a b : Room) : Type 0 where
   pub references : a .references ≤ b .references
   pub pins : a .pins ≤ b .pins
+  pub identities : a .identities ≤ b .identities
 
--- the program lends 1,024 reference and 256 pin rows
+-- the program lends 1,024 reference and 256 pin rows, and room for 1,024 identities
 abbrev pub program-room : Room
-program-room = record { references = 1024; pins = 256 }
+program-room = record { references = 1024; pins = 256; identities = 1024 }
 
 -- a line as document 01 prints it, a space for a tab
 abbrev pub line : String → List ℕ

@@ -11,9 +11,11 @@ use Rattle.history.specs.Frames.{Frame, frames}
 use Rattle.history.specs.Handles.{Alive, is-local, is-shared, living}
 use Rattle.history.specs.Statements.{names, class-stated}
 use Rattle.history.specs.Classes.{super-of}
+use Rattle.history.specs.Identities.{identity-of}
 use Rattle.history.specs.Capacities.{capacities}
 use Rattle.history.specs.Buffers.{Pin, outstanding}
 use Rattle.history.specs.Thread.{all-threads, pending, monitors, env-of}
+use Rattle.history.specs.declared.Identity.{Identity}
 
 pub record Seen : Type 0 where
   -- of each thread
@@ -31,6 +33,8 @@ pub record Seen : Type 0 where
   pub class : ℕ → ℕ → ℕ
   -- the super declared of a class, 0 where none is
   pub super : ℕ → ℕ
+  -- what is stated of an identity
+  pub identity : ℕ → Identity
   -- Z was one of the lines
   pub closed : Bool
 
@@ -47,6 +51,7 @@ seen past =
       buffers = λ test. count test (outstanding past);
       class = λ t h. of-first (names t h) (class-stated past) (living past);
       super = super-of past;
+      identity = identity-of past;
       closed = closed past;
     }
 

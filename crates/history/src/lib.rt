@@ -8,3 +8,10 @@ pub struct Finding {
     pub place: u32,
     pub thing: Handle,
 }
+
+// What is stated of an identity: its sort, 0 where nothing is, and whether it is static and final.
+pub struct Identity {
+    pub sort: u64,
+    pub isstatic: u64,
+    pub isfinal: u64,
+}

@@ -14,7 +14,7 @@ use borrow.Author.Needs.{sfits-of}
 use Rattle.numbers.proofs.Minus.{minus-is, minus-fits}
 use Rattle.words.specs.Choice.{if_then_else_}
 use Rattle.words.specs.Lists.{any}
-use Rattle.lines.specs.Line.{K, O, Line, N, X, C, R, A, D, Z, states, longest, most-handles, is-allowed, is-zero}
+use Rattle.lines.specs.Line.{K, O, M, Line, N, X, C, R, A, D, Z, states, longest, most-handles, is-allowed, is-zero}
 use Rattle.lines.specs.Reading.{Read, says, refused}
 use Rattle.lines.specs.Writing.{written}
 use Rattle.lines.specs.Events.{gives-status, not-zero, with-slots, meant, wrote}
@@ -73,6 +73,7 @@ meant-short d (Event.Attach t env) hs = slots-short d 0 hs (A t env)
 meant-short d (Event.Detach t) hs = slots-short d 0 hs (D t)
 meant-short d (Event.Declare c s) hs = slots-short d 0 hs (states (K c s))
 meant-short d (Event.State t h c) hs = slots-short d 0 hs (states (O t h c))
+meant-short d (Event.Identify x sort c static final) hs = slots-short d 0 hs (states (M x sort c static final))
 meant-short d Event.End hs = slots-short d 0 hs Z
 meant-short d (Event.Refused k) hs = refused-short d 3
 

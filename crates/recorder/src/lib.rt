@@ -3,7 +3,7 @@ use lines::Event;
 use lines::Wrote;
 use words::Handle;
 ghost use mathlib.Core.Path.{_≡_};
-ghost use Rattle.lines.specs.declared.Event.the-variants.{Enter, Leave, Call, Return, Attach, Detach, Declare, State, End};
+ghost use Rattle.lines.specs.declared.Event.the-variants.{Enter, Leave, Call, Return, Attach, Detach, Declare, State, Identify, End};
 ghost use Rattle.lines.specs.Events.{meant, wrote, left};
 ghost use Rattle.recorder.specs.Told.{told, no-handles};
 
@@ -166,6 +166,32 @@ pub extern "C" fn weir_state(d: &mut [u8], thread: u32, handle: Handle, class: u
             thread: thread,
             handle: handle,
             class: class,
+        },
+        &[0; 8],
+    )
+}
+
+// M: states what an identity is.
+#[no_mangle]
+pub extern "C" fn weir_identify(
+    d: &mut [u8],
+    identity: Handle,
+    sort: u32,
+    class: u32,
+    isstatic: u32,
+    isfinal: u32,
+) -> i32
+    ensures { λ r. ⌜ r ≡ told (wrote (meant (Identify identity sort class isstatic isfinal) no-handles) (now (d .entry))) ⌝ }
+    ensures { λ _. ⌜ now (d .exit) ≡ left (meant (Identify identity sort class isstatic isfinal) no-handles) (now (d .entry)) ⌝ }
+{
+    tell(
+        d,
+        Event::Identify {
+            identity: identity,
+            sort: sort,
+            class: class,
+            isstatic: isstatic,
+            isfinal: isfinal,
         },
         &[0; 8],
     )

@@ -13,7 +13,7 @@ use denote.Enum.Declared.{tagOf}
 use borrow.Author.Tests.{leb-true, ne-eqb}
 use Rattle.words.specs.Choice.{if_then_else_}
 use Rattle.numbers.specs.Signed.{is-negative}
-use Rattle.lines.specs.Line.{K, O, Line, N, X, C, R, A, D, Z, states, is-allowed, is-zero, most-handles}
+use Rattle.lines.specs.Line.{K, O, M, Line, N, X, C, R, A, D, Z, states, is-allowed, is-zero, most-handles}
 use Rattle.lines.specs.Forms.{most-fields, of-letter}
 use Rattle.lines.specs.Reading.{Read, says, refused, if-allowed, line-of}
 use Rattle.lines.specs.Writing.{lettered}
@@ -107,6 +107,7 @@ apart-meant (Event.Attach t env) hs l = split (are-empty 0 hs) (A t env) (λ _. 
 apart-meant (Event.Detach t) hs l = split (are-empty 0 hs) (D t) (λ _. refl)
 apart-meant (Event.Declare c s) hs l = split (are-empty 0 hs) (states (K c s)) (λ _. refl)
 apart-meant (Event.State t h c) hs l = split (are-empty 0 hs) (states (O t h c)) (λ _. refl)
+apart-meant (Event.Identify x sort c static final) hs l = split (are-empty 0 hs) (states (M x sort c static final)) (λ _. refl)
 apart-meant Event.End hs l = split (are-empty 0 hs) Z (λ _. refl)
 apart-meant (Event.Refused k) hs l = refl
 

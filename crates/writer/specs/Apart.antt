@@ -37,5 +37,6 @@ apart (Event.Attach t env) hs = taken (code "A") 2 false (t ∷ env ∷ 0 ∷ 0 
 apart (Event.Detach t) hs = taken (code "D") 1 false (t ∷ 0 ∷ 0 ∷ 0 ∷ 0 ∷ 0 ∷ 0 ∷ 0 ∷ 0 ∷ 0 ∷ []) (are-empty 0 hs)
 apart (Event.Declare c s) hs = taken (code "K") 2 false (c ∷ s ∷ 0 ∷ 0 ∷ 0 ∷ 0 ∷ 0 ∷ 0 ∷ 0 ∷ 0 ∷ []) (are-empty 0 hs)
 apart (Event.State t h c) hs = taken (code "O") 3 false (t ∷ h ∷ c ∷ 0 ∷ 0 ∷ 0 ∷ 0 ∷ 0 ∷ 0 ∷ 0 ∷ []) (are-empty 0 hs)
+apart (Event.Identify x sort c static final) hs = taken (code "M") 5 false (x ∷ sort ∷ c ∷ static ∷ final ∷ 0 ∷ 0 ∷ 0 ∷ 0 ∷ 0 ∷ []) (are-empty 0 hs)
 apart Event.End hs = taken (code "Z") 0 false (0 ∷ 0 ∷ 0 ∷ 0 ∷ 0 ∷ 0 ∷ 0 ∷ 0 ∷ 0 ∷ 0 ∷ []) (are-empty 0 hs)
 apart (Event.Refused k) hs = taken 0 0 false (0 ∷ 0 ∷ 0 ∷ 0 ∷ 0 ∷ 0 ∷ 0 ∷ 0 ∷ 0 ∷ 0 ∷ []) false

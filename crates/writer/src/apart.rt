@@ -160,6 +160,25 @@ pub(crate) fn take_apart(e: Event, h: [Handle; 8]) -> Taken
                 good: are_empty(h, 0),
             }
         }
+        Event::Identify {
+            identity,
+            sort,
+            class,
+            isstatic,
+            isfinal,
+        } => {
+            let s = sort as Handle;
+            let k = class as Handle;
+            let u = isstatic as Handle;
+            let v = isfinal as Handle;
+            Taken {
+                letter: b'M',
+                count: 5,
+                minus: false,
+                values: [identity, s, k, u, v, 0, 0, 0, 0, 0],
+                good: are_empty(h, 0),
+            }
+        }
         Event::End => Taken {
             letter: b'Z',
             count: 0,

@@ -59,6 +59,12 @@ take-apart-spec =
     (λ c. search needs)
     (λ c κs. search needs)
     (λ c. search needs)
+    (λ c. search needs)
+    (λ c. search needs)
+    (λ c. search needs)
+    (λ c. search needs)
+    (λ c κs. search needs)
+    (λ c. search needs)
     (λ c κs. search needs)
     (λ c. search needs)
     (λ c. let a = c .before .before .before .before .args in
@@ -100,8 +106,13 @@ take-apart-spec =
     let e = c .before .before .e8 in
     ap (λ (b : Bool). taken 79 3 false (e .given .0 .0 ∷ e .given .0 .1 .0 ∷ e .given .0 .1 .1 .0 ∷ 0 ∷ 0 ∷ 0 ∷ 0 ∷ 0 ∷ 0 ∷ 0 ∷ []) b) (c .are-empty8 .ensures)
     ∙ sym (ap (λ (x : Event). apart x (a .t2)) (e .given .1)))
+    (λ c. let a = c .before .before .before .before .args in
+    let e = c .before .before .e9 in
+    let f = e .given .0 in
+    ap (λ (b : Bool). taken 77 5 false (f .0 ∷ f .1 .0 ∷ f .1 .1 .0 ∷ f .1 .1 .1 .0 ∷ f .1 .1 .1 .1 .0 ∷ 0 ∷ 0 ∷ 0 ∷ 0 ∷ 0 ∷ []) b) (c .are-empty9 .ensures)
+    ∙ sym (ap (λ (x : Event). apart x (a .t2)) (e .given .1)))
     (λ c. let a = c .before .before .before .args in
-    ap (λ (b : Bool). taken 90 0 false (0 ∷ 0 ∷ 0 ∷ 0 ∷ 0 ∷ 0 ∷ 0 ∷ 0 ∷ 0 ∷ 0 ∷ []) b) (c .are-empty9 .ensures)
+    ap (λ (b : Bool). taken 90 0 false (0 ∷ 0 ∷ 0 ∷ 0 ∷ 0 ∷ 0 ∷ 0 ∷ 0 ∷ 0 ∷ 0 ∷ []) b) (c .are-empty10 .ensures)
     ∙ sym (ap (λ (x : Event). apart x (a .t2)) (c .before .enum-told .given .1)))
     (λ c. let a = c .before .before .args in
     sym (ap (λ (x : Event). apart x (a .t2)) (c .enum-told2 .given .1))))
