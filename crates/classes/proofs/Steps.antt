@@ -6,14 +6,14 @@ use mathlib.Core.List.{List, _++_, append-nil}
 use native.Mathlib.Nat.{not-suc-le-zero}
 use native.Mathlib.Omega.{arith}
 use borrow.Author.Fill.{fill-none, fill-more}
-use borrow.Author.Tests.{leb-true, lt-leb, eqb-true, eqb-false, eq-eqb, ne-eqb, not-true, not-false}
+use borrow.Author.Tests.{leb-true, eq-eqb, ne-eqb}
 use lib.Dec.{eqb, leb}
 use lib.ListN.{length, getD, set, replicate, drop, List·getD-eq-default}
 use lib.Seq.{drop-length}
 use Rattle.words.specs.Choice.{within}
-use Rattle.facts.specs.Classes.{object, throwable, is-reserved}
-use Rattle.lines.specs.Line.{classes, is-class}
-use Rattle.lines.proofs.Tests.{both, neither, and-false}
+use Rattle.facts.specs.Classes.{object, is-reserved}
+use Rattle.lines.specs.Line.{is-class}
+use Rattle.lines.proofs.Tests.{both}
 use Rattle.history.specs.Classes.{is-known, super, leads, most-looks, class-fits}
 use Rattle.classes.specs.Supers.{super-in, with-super, classes-cleared}
 
@@ -70,18 +70,18 @@ fill-all a a₀ n e k l g =
 -- ---- a chain of supers, whoever declared them
 
 module _ (declared : ℕ → ℕ) where
-  module _ (c : ℕ) (r : Bool) (e : r ≡ is-reserved c) where
-    pub above-declared : (s : ℕ) → not r ≡ true → s ≡ declared c → s ≡ super declared c
+  module _ (c : ℕ) where
+    pub above-root : is-reserved c ≡ true → c ≡ object → 0 ≡ super declared c
     unfolding super
-    above-declared s n es = rw (sym e ∙ not-true r n) es
+    above-root y z = rw (y, eq-eqb c object z) refl
 
-    pub above-root : not r ≡ false → c ≡ object → 0 ≡ super declared c
+    pub above-reserved : is-reserved c ≡ true → (c ≡ object → ⊥) → object ≡ super declared c
     unfolding super
-    above-root n z = rw (sym e ∙ not-false r n, eq-eqb c object z) refl
+    above-reserved y z = rw (y, ne-eqb c object z) refl
 
-    pub above-reserved : not r ≡ false → (c ≡ object → ⊥) → object ≡ super declared c
+    pub above-declared : (s : ℕ) → is-reserved c ≡ false → s ≡ declared c → s ≡ super declared c
     unfolding super
-    above-reserved n z = rw (sym e ∙ not-false r n, ne-eqb c object z) refl
+    above-declared s n e = rw n e
 
   -- n looks are left
   module _ (c k : ℕ) where
@@ -115,21 +115,3 @@ module _ (declared : ℕ → ℕ) where
     pub fits-led : (b : Bool) → (eqb fixed 0 || eqb stated 0) ≡ false → b ≡ leads declared most-looks stated fixed → b ≡ class-fits declared fixed stated
     unfolding class-fits
     fits-led b n e = rw n e
-
--- ---- a number over all classes
-
-module _ (cs : List ℕ) (fixed stated : ℕ) (over : classes < stated) where
-  has-none : 0 ≡ super (super-in cs) stated
-  has-none = above-declared (super-in cs) stated (is-reserved stated) refl 0 (rw (over-within object throwable (omega arith)) refl) (no-super cs stated (over-within 1 classes over))
-    where
-      over-within : (a b : ℕ) → b < stated → within a b stated ≡ false
-      over-within a b l = rw (lt-leb stated b l, and-false (leb a stated)) refl
-
-  led-nowhere : (eqb fixed 0 || eqb stated 0) ≡ false → (q : Bool) → eqb stated fixed ≡ q → q ≡ leads (super-in cs) most-looks stated fixed
-  led-nowhere n true e = lead-here (super-in cs) stated fixed most-looks (omega arith) (eqb-true stated fixed e)
-  led-nowhere n false e =
-      lead-ends (super-in cs) 0 fixed (most-looks - 1) (λ z. eqb-false fixed 0 (neither (eqb fixed 0) (eqb stated 0) n .0) (sym z)) refl
-      ∙ lead-next (super-in cs) stated fixed most-looks 0 (omega arith) (eqb-false stated fixed e) (λ z. omega arith) has-none
-
-  pub fits-over : (eqb fixed 0 || eqb stated 0) ≡ false → eqb stated fixed ≡ class-fits (super-in cs) fixed stated
-  fits-over n = fits-led (super-in cs) fixed stated (eqb stated fixed) n (led-nowhere n (eqb stated fixed) refl)

@@ -1,2 +1,3 @@
 -- believed
 pub mod Supers
+pub mod Identities

@@ -1,6 +1,9 @@
-// The lent class table: a number for each class, its super, or 0 where it is not declared; class c stands at index c - 1.
+// The lent class table: a number for each class, its super, or 0 where it is not declared; class c stands at index c - 1. The identities stand behind.
+pub mod identities;
+
 use facts::classes::NO_CLASS;
 use facts::classes::OBJECT;
+use facts::classes::THROWABLE;
 use facts::classes::is_reserved;
 use lines::ranges::CLASSES;
 use rows::Number;
@@ -8,52 +11,58 @@ ghost use mathlib.Core.Path.{_≡_};
 ghost use Rattle.history.specs.Classes.{is-known, super, leads, most-looks, class-fits};
 ghost use Rattle.classes.specs.Supers.{is-short, super-in, with-super, classes-cleared};
 
-// A class's number. It is no handle: the table has 32 bits for it, a row as many as for each of its numbers.
-pub type Class = u32;
+// The classes that have a name, as wide as the table's numbers.
+const NONE: Number = NO_CLASS as Number;
+
+const ROOT: Number = OBJECT as Number;
+
+const LAST_RESERVED: Number = THROWABLE as Number;
+
+const LAST: Number = CLASSES as Number;
 
 // No chain of classes is longer.
 const MOST_LOOKS: u32 = 4096;
 
 // It has no number for each class.
-pub fn is_short(table: &[Class]) -> bool
+pub fn is_short(table: &[Number]) -> bool
     ensures { λ r. ⌜ r ≡ is-short (now (table .entry)) ⌝ }
 {
     table.len() < CLASSES as usize
 }
 
 // The super declared of class c; a number that is no class has none.
-fn super_of(table: &[Class], c: Class) -> Class
+fn super_of(table: &[Number], c: Number) -> Number
     ensures { λ r. ⌜ r ≡ super-in (now (table .entry)) c ⌝ }
 {
-    if (1 <= c) & (c <= CLASSES) {
+    if (1 <= c) & (c <= LAST) {
         let at = c as usize - 1;
         if at < table.len() {
             return table[at];
         }
-        return NO_CLASS;
+        return NONE;
     }
-    NO_CLASS
+    NONE
 }
 
 // A class declared or reserved.
-pub fn is_known(table: &[Class], c: Class) -> bool
+pub fn is_known(table: &[Number], c: u32) -> bool
     ensures { λ r. ⌜ r ≡ is-known (super-in (now (table .entry))) c ⌝ }
 {
-    is_reserved(c) | (super_of(table, c) != NO_CLASS)
+    is_reserved(c) | (super_of(table, c as Number) != NONE)
 }
 
 // The class right above class c: of the reserved ones 2 to 4 are under 1, the root.
-fn above(table: &[Class], c: Class) -> Class
+fn above(table: &[Number], c: Number) -> Number
     ensures { λ r. ⌜ r ≡ super (super-in (now (table .entry))) c ⌝ }
 {
-    if !is_reserved(c) {
-        return super_of(table, c);
+    if (ROOT <= c) & (c <= LAST_RESERVED) {
+        return if c == ROOT { NONE } else { ROOT };
     }
-    if c == OBJECT { NO_CLASS } else { OBJECT }
+    super_of(table, c)
 }
 
 // From class c a chain of supers leads to class k, or it is class k.
-fn leads(table: &[Class], c: Class, k: Class) -> bool
+fn leads(table: &[Number], c: Number, k: Number) -> bool
     ensures { λ r. ⌜ r ≡ leads (super-in (now (table .entry))) most-looks c k ⌝ }
 {
     let mut at = c;
@@ -62,7 +71,7 @@ fn leads(table: &[Class], c: Class, k: Class) -> bool
         if at == k {
             return true;
         }
-        if at == NO_CLASS {
+        if at == NONE {
             return false;
         }
         at = above(table, at);
@@ -71,30 +80,27 @@ fn leads(table: &[Class], c: Class, k: Class) -> bool
     false
 }
 
-// The stated class, a row's number, is the fixed one or below it; where none is fixed, or none stated, there is nothing to judge. A number over all classes has no super.
-pub fn fits(table: &[Class], fixed: Class, stated: Number) -> bool
+// The stated class, a row's number, is the fixed one or below it; where none is fixed, or none stated, there is nothing to judge.
+pub fn fits(table: &[Number], fixed: u32, stated: Number) -> bool
     ensures { λ r. ⌜ r ≡ class-fits (super-in (now (table .entry))) fixed stated ⌝ }
 {
-    if (fixed == NO_CLASS) | (stated == NO_CLASS as Number) {
+    if (fixed == NO_CLASS) | (stated == NONE) {
         return true;
     }
-    if stated > CLASSES as Number {
-        return stated == fixed as Number;
-    }
-    leads(table, stated as Class, fixed)
+    leads(table, stated, fixed as Number)
 }
 
 // Class c has this super; nothing where the table has no number for it.
-pub fn declare(table: &mut [Class], c: Class, superclass: Class)
+pub fn declare(table: &mut [Number], c: u32, superclass: u32)
     ensures { λ _. ⌜ now (table .exit) ≡ with-super (now (table .entry)) c superclass ⌝ }
 {
     if (1 <= c) & (c as usize <= table.len()) {
-        table[c as usize - 1] = superclass;
+        table[c as usize - 1] = superclass as Number;
     }
 }
 
 // A start: all numbers are 0.
-pub fn clear(table: &mut [Class])
+pub fn clear(table: &mut [Number])
     ensures { λ _. ⌜ now (table .exit) ≡ classes-cleared (now (table .entry)) ⌝ }
 {
     let mut i = 0;

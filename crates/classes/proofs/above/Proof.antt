@@ -8,8 +8,7 @@ pub above-spec : {M : Type 1} → statement M
 above-spec =
     tie.close
     (tie.spec
+    (λ c. above-root _ _ (c .before .if1 .taken) (c .if2 .taken))
+    (λ c. above-reserved _ _ (c .before .if1 .taken) (c .if2 .left))
     (λ c κs. search needs)
-    (λ c κs. search needs)
-    (λ c. above-declared _ _ _ (c .before .before .is-reserved .ensures) _ (c .before .if1 .taken) (c .super-of .ensures))
-    (λ c. above-root _ _ _ (c .before .before .is-reserved .ensures) (c .before .if1 .left) (c .if2 .taken))
-    (λ c. above-reserved _ _ _ (c .before .before .is-reserved .ensures) (c .before .if1 .left) (c .if2 .left)))
+    (λ c. above-declared _ _ _ (c .before .if1 .left) (c .super-of .ensures)))
