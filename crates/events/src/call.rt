@@ -1,7 +1,6 @@
 // C: weighed; where it is accepted, what it does.
 use answers::Answer;
 use book::Top;
-use classes::Class;
 use rows::Number;
 use words::Handle;
 ghost use mathlib.Core.Path.{_≡_};
@@ -18,7 +17,7 @@ pub fn call(
     pins: &mut [Number],
     pinmarks: &mut [u64],
     book: &mut [u64],
-    classes: &[Class],
+    classes: &[Number],
     top: Top,
     many: u32,
     line: u32,

@@ -1,6 +1,5 @@
 // O: weighed; where it is accepted, the class of its handle is stated.
 use answers::Answer;
-use classes::Class;
 use rows::Number;
 use words::Handle;
 ghost use mathlib.Core.Path.{_≡_};
@@ -16,7 +15,7 @@ pub fn state(
     rows: &mut [Number],
     marks: &[u64],
     book: &mut [u64],
-    classes: &[Class],
+    classes: &[Number],
     t: u32,
     h: Handle,
     c: u32,

@@ -1,6 +1,5 @@
 // The judge for C and Rust: a start and one step over lent slices, the findings as numbers; a piece of many lines, the findings as bytes; the list of leaks; and a whole trace with its report.
 use answers::Answer;
-use classes::Class;
 use history::Finding;
 use leaks::Listed;
 use rows::Number;
@@ -43,7 +42,7 @@ pub extern "C" fn weir_start(
     pins: &mut [Number],
     pinmarks: &mut [u64],
     book: &mut [u64],
-    classes: &mut [Class],
+    classes: &mut [Number],
 )
     ensures { λ _. ⌜ tables (now (rows .exit)) (now (marks .exit)) (now (pins .exit)) (now (pinmarks .exit)) (now (book .exit)) (now (classes .exit)) ≡ start-of (tables (now (rows .entry)) (now (marks .entry)) (now (pins .entry)) (now (pinmarks .entry)) (now (book .entry)) (now (classes .entry))) ⌝ }
 {
@@ -98,7 +97,7 @@ pub extern "C" fn weir_step(
     pins: &mut [Number],
     pinmarks: &mut [u64],
     book: &mut [u64],
-    classes: &mut [Class],
+    classes: &mut [Number],
     found: &mut [Handle],
 ) -> i32
     ensures { λ r. ⌜ tells r (tables (now (rows .exit)) (now (marks .exit)) (now (pins .exit)) (now (pinmarks .exit)) (now (book .exit)) (now (classes .exit))) (now (found .exit)) ≡ step-told (tables (now (rows .entry)) (now (marks .entry)) (now (pins .entry)) (now (pinmarks .entry)) (now (book .entry)) (now (classes .entry))) (now (line .entry)) (now (found .entry)) ⌝ }
@@ -147,7 +146,7 @@ pub extern "C" fn weir_piece(
     pins: &mut [Number],
     pinmarks: &mut [u64],
     book: &mut [u64],
-    classes: &mut [Class],
+    classes: &mut [Number],
     out: &mut [u8],
     far: &mut [u64],
 ) -> i32
@@ -221,7 +220,7 @@ pub extern "C" fn weir_judge(
     pins: &mut [Number],
     pinmarks: &mut [u64],
     book: &mut [u64],
-    classes: &mut [Class],
+    classes: &mut [Number],
     out: &mut [u8],
 ) -> usize
     ensures { λ r. ⌜ judges r (tables (now (rows .exit)) (now (marks .exit)) (now (pins .exit)) (now (pinmarks .exit)) (now (book .exit)) (now (classes .exit))) (now (out .exit)) ≡ judged (whole-outcome (tables (now (rows .entry)) (now (marks .entry)) (now (pins .entry)) (now (pinmarks .entry)) (now (book .entry)) (now (classes .entry))) (now (trace .entry)) (now (out .entry))) ⌝ }

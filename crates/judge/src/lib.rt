@@ -3,7 +3,6 @@ pub mod items;
 
 use answers::Answer;
 use book::Top;
-use classes::Class;
 use lines::Event;
 use rows::Number;
 use words::Handle;
@@ -26,7 +25,7 @@ pub fn start(
     pins: &mut [Number],
     pinmarks: &mut [u64],
     book: &mut [u64],
-    classes: &mut [Class],
+    classes: &mut [Number],
 )
     ensures { λ _. ⌜ tables (now (rows .exit)) (now (marks .exit)) (now (pins .exit)) (now (pinmarks .exit)) (now (book .exit)) (now (classes .exit)) ≡ start-of (tables (now (rows .entry)) (now (marks .entry)) (now (pins .entry)) (now (pinmarks .entry)) (now (book .entry)) (now (classes .entry))) ⌝ }
 {
@@ -37,7 +36,7 @@ pub fn start(
 }
 
 // 8 where the book is not fit or the class table is short, then 1 for line 1,000,001; else 0.
-pub fn refused_by_tables(book: &[u64], classes: &[Class]) -> u8
+pub fn refused_by_tables(book: &[u64], classes: &[Number]) -> u8
     ensures { λ r. ⌜ ((rs ms ps ns : List ℕ) → r ≡ by-tables (tables rs ms ps ns (now (book .entry)) (now (classes .entry)))) ⌝ }
 {
     if book::unfit(book) | classes::is_short(classes) {
@@ -66,7 +65,7 @@ fn on_event(
     pins: &mut [Number],
     pinmarks: &mut [u64],
     book: &mut [u64],
-    classes: &mut [Class],
+    classes: &mut [Number],
     top: Top,
     many: u32,
     line: u32,
@@ -169,7 +168,7 @@ pub fn step(
     pins: &mut [Number],
     pinmarks: &mut [u64],
     book: &mut [u64],
-    classes: &mut [Class],
+    classes: &mut [Number],
 ) -> Answer
     ensures { λ r. ⌜ leaves r (tables (now (rows .exit)) (now (marks .exit)) (now (pins .exit)) (now (pinmarks .exit)) (now (book .exit)) (now (classes .exit))) ≡ step-outcome (tables (now (rows .entry)) (now (marks .entry)) (now (pins .entry)) (now (pinmarks .entry)) (now (book .entry)) (now (classes .entry))) (now (line .entry)) ⌝ }
 {

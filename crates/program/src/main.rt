@@ -5,7 +5,6 @@ mod listing; // listing.rt: the leaks
 mod streams; // streams.rt: standard input and standard output
 
 use arguments::Asked;
-use classes::Class;
 use libc::STDERR_FILENO;
 use libc::STDIN_FILENO;
 use libc::STDOUT_FILENO;
@@ -234,7 +233,7 @@ fn judge_all(
     pins: &mut [Number; PIN_NUMBERS],
     pinmarks: &mut [u64; PIN_MARKS],
     book: &mut [u64; BOOK_NUMBERS],
-    classes: &mut [Class; CLASS_NUMBERS],
+    classes: &mut [Number; CLASS_NUMBERS],
     out: &mut [u8; BUFFER],
 ) -> Streams
     requires { ⌜ length (now buf) ≡ buffer-size ⌝ }

@@ -1,9 +1,8 @@
 // C: weighed by the guides; where it is accepted, what it does to rows, guides and book.
-use crate::kept;
-use crate::kept_pins;
 use answers::Answer;
 use book::Top;
-use classes::Class;
+use crate::kept;
+use crate::kept_pins;
 use facts::Place;
 use rows::Number;
 use words::Handle;
@@ -97,7 +96,7 @@ pub(crate) fn call(
     pinmarks: &mut [u64],
     pinguide: &mut [u64],
     book: &mut [u64],
-    classes: &[Class],
+    classes: &[Number],
     top: Top,
     many: u32,
     line: u32,

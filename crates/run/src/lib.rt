@@ -13,7 +13,6 @@ mod state;
 mod step;
 
 use answers::Answer;
-use classes::Class;
 use pieces::Next;
 use report::MOST_SHOWN;
 use rows::Number;
@@ -125,7 +124,7 @@ fn heard(way: Way, answer: Answer, input: &[u8], ended: bool, out: &mut [u8]) ->
 const SHORT: usize = 4096;
 
 // A piece of so many bytes is judged by scans; so is any where the book is not fit, since it stops at its first line.
-fn is_scanned(n: usize, book: &[u64], classes: &[Class]) -> bool
+fn is_scanned(n: usize, book: &[u64], classes: &[Number]) -> bool
     ensures { λ r. ⌜ ((rs ms ps ns : List ℕ) → r ≡ false → by-tables (tables rs ms ps ns (now (book .entry)) (now (classes .entry))) ≡ 8 → ⊥) ⌝ }
 {
     if n < SHORT {
@@ -168,7 +167,7 @@ fn run_by_scans(
     pins: &mut [Number],
     pinmarks: &mut [u64],
     book: &mut [u64],
-    classes: &mut [Class],
+    classes: &mut [Number],
     out: &mut [u8],
 ) -> Passed
     ensures { λ r. ⌜ leaves r (tables (now (rows .exit)) (now (marks .exit)) (now (pins .exit)) (now (pinmarks .exit)) (now (book .exit)) (now (classes .exit))) (now (out .exit)) ≡ piece-outcome ended (tables (now (rows .entry)) (now (marks .entry)) (now (pins .entry)) (now (pinmarks .entry)) (now (book .entry)) (now (classes .entry))) (now (input .entry)) (now (out .entry)) ⌝ }
@@ -192,7 +191,7 @@ fn run_by_guides(
     pins: &mut [Number],
     pinmarks: &mut [u64],
     book: &mut [u64],
-    classes: &mut [Class],
+    classes: &mut [Number],
     out: &mut [u8],
 ) -> Passed
     requires { ⌜ (by-tables (tables (now rows) (now marks) (now pins) (now pinmarks) (now book) (now classes)) ≡ 8 → ⊥) ⌝ }
@@ -234,7 +233,7 @@ pub fn run_lines(
     pins: &mut [Number],
     pinmarks: &mut [u64],
     book: &mut [u64],
-    classes: &mut [Class],
+    classes: &mut [Number],
     out: &mut [u8],
 ) -> Passed
     ensures { λ r. ⌜ leaves r (tables (now (rows .exit)) (now (marks .exit)) (now (pins .exit)) (now (pinmarks .exit)) (now (book .exit)) (now (classes .exit))) (now (out .exit)) ≡ piece-outcome ended (tables (now (rows .entry)) (now (marks .entry)) (now (pins .entry)) (now (pinmarks .entry)) (now (book .entry)) (now (classes .entry))) (now (input .entry)) (now (out .entry)) ⌝ }

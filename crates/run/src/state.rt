@@ -1,6 +1,5 @@
 // O: weighed by the guide; where it is accepted, the class of its handle is stated.
 use answers::Answer;
-use classes::Class;
 use rows::Number;
 use words::Handle;
 ghost use mathlib.Core.Path.{_≡_};
@@ -19,7 +18,7 @@ pub(crate) fn state(
     marks: &[u64],
     guide: &[u64],
     book: &mut [u64],
-    classes: &[Class],
+    classes: &[Number],
     t: u32,
     h: Handle,
     c: u32,

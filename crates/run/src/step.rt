@@ -1,4 +1,6 @@
 // One line of the trace over tables that have guides.
+use answers::Answer;
+use book::Top;
 use crate::attach;
 use crate::call;
 use crate::detach;
@@ -7,9 +9,6 @@ use crate::fit;
 use crate::leave;
 use crate::returns;
 use crate::state;
-use answers::Answer;
-use book::Top;
-use classes::Class;
 use judge::items;
 use lines::Event;
 use rows::Number;
@@ -47,7 +46,7 @@ fn on_event(
     pinmarks: &mut [u64],
     pinguide: &mut [u64],
     book: &mut [u64],
-    classes: &mut [Class],
+    classes: &mut [Number],
     top: Top,
     many: u32,
     line: u32,
@@ -169,7 +168,7 @@ pub(crate) fn step(
     pinmarks: &mut [u64],
     pinguide: &mut [u64],
     book: &mut [u64],
-    classes: &mut [Class],
+    classes: &mut [Number],
     touched: &mut u32,
 ) -> Answer
     requires { ⌜ Guides (table (now rows) (now marks)) (now guide) × PinGuides (table (now pins) (now pinmarks)) (now pinguide) × Fit-but (tables (now rows) (now marks) (now pins) (now pinmarks) (now book) (now classes)) (now touched) ⌝ }

@@ -22,12 +22,13 @@ use Rattle.history.specs.Replies.{most-lines}
 use Rattle.history.specs.Classes.{is-known}
 use Rattle.history.specs.Breaches.{in-critical}
 use Rattle.classes.specs.Supers.{super-in}
+use Rattle.classes.specs.Identities.{identity-room, place-of}
 use Rattle.book.specs.Threads.{thread-in, env-elsewhere, all-monitors}
 use Rattle.tables.specs.Tables.{tables, alive-of, handles-in, buffers-in, seen-in}
 use Rattle.tables.proofs.RowCounts.{alive-most, counted-all, counted-most}
 use Rattle.sight.specs.declared.spot.Spot.{Spot}
 use Rattle.sight.specs.Spots.{handle-spot, place-spot}
-use Rattle.sight.specs.Sights.{call-sight, leave-sight, some-alive, enter-sight, detach-sight, end-sight, declare-sight, state-sight}
+use Rattle.sight.specs.Sights.{call-sight, leave-sight, some-alive, enter-sight, detach-sight, end-sight, declare-sight, state-sight, identify-sight}
 
 -- ---- C and X
 
@@ -115,3 +116,8 @@ module _ (rs ms ps ns d cs : List ℕ) where
       → record { known = x; alive = y .there; row = y .row } ≡ state-sight (tables rs ms ps ns d cs) t h c
   unfolding state-sight handle-spot seen-in
   state-seen t h c x y ex ey i = record { known = ex i; alive = ey ps ns d cs i .there; row = ey ps ns d cs i .row }
+
+  pub identify-seen : (x c k n : ℕ) (q : Bool) → q ≡ is-known (super-in cs) c → k ≡ place-of cs x → n ≡ identity-room cs
+      → record { known = q; place = k; fits = ltb k n } ≡ identify-sight (tables rs ms ps ns d cs) x c
+  unfolding identify-sight seen-in
+  identify-seen x c k n q eq ek en i = record { known = eq i; place = ek i; fits = ltb (ek i) (en i) }

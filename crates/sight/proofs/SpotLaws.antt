@@ -1,6 +1,6 @@
 -- What the code looked up at a place is what stands there. Assumes nothing.
 use Prim.Native.Nat.{ℕ, _%_}
-use mathlib.Core.Path.{_≡_, refl, sym, ap, _∙_}
+use mathlib.Core.Path.{_≡_, refl, sym, ap, ap₂, _∙_}
 use mathlib.Core.Bool.{Bool, true, false, not, _&&_, _||_, false≢true}
 use mathlib.Core.List.{List}
 use native.Mathlib.Decide.{ℕ-discrete}
@@ -8,9 +8,12 @@ use borrow.Author.Tests.{eq-eqb, ne-eqb, not-true, not-false}
 use lib.Dec.{eqb, ltb}
 use Rattle.words.specs.Choice.{if_then_else_}
 use Rattle.facts.specs.Table.{family, is-critical}
-use Rattle.facts.specs.Results.{is-handle-place, is-buffer-place}
+use Rattle.facts.specs.Results.{is-handle-place, is-buffer-place, is-identity-place}
 use Rattle.facts.specs.Classes.{no-class}
+use Rattle.facts.specs.Identities.{wanted-of, suits, writes-field}
+use Rattle.facts.specs.declared.identities.Wanted.{Wanted}
 use Rattle.facts.specs.declared.Place.{Place}
+use Rattle.facts.specs.declared.Place.the-variants as Place
 use Rattle.lines.specs.Line.{kind}
 use Rattle.lines.proofs.Tests.{neither, or-true}
 use Rattle.rows.specs.Table.{Table, table, room, found}
@@ -20,12 +23,14 @@ use Rattle.history.specs.Handles.{is-local, is-shared}
 use Rattle.history.specs.Buffers.{pin, same-pin}
 use Rattle.history.specs.Classes.{class-fits}
 use Rattle.history.specs.Seen.{handle-alive}
-use Rattle.history.specs.Breaches.{is-there, fits-here}
+use Rattle.history.specs.Breaches.{is-there}
+use Rattle.history.specs.declared.Identity.{Identity}
 use Rattle.classes.specs.Supers.{super-in}
+use Rattle.classes.specs.Identities.{identity-in}
 use Rattle.tables.specs.Tables.{Tables, tables, handles-in, buffers-in, class-in, seen-in}
 use Rattle.tables.proofs.Sights.{local-found, no-local-found, shared-found, no-handle-class, local-class, no-local-class, shared-class, own-found, no-own-found, ordinary-found}
 use Rattle.sight.specs.declared.spot.Spot.{Spot}
-use Rattle.sight.specs.Spots.{spot, nowhere, local-spot, shared-spot, handle-row, handle-spot, buffer-spot, place-row, place-spot}
+use Rattle.sight.specs.Spots.{spot, nowhere, local-spot, shared-spot, handle-row, class-here, handle-spot, buffer-spot, identity-spot, place-row, place-fits, place-spot}
 
 -- thread 0 has nothing of its own
 of-own : (t : ℕ) (b d : Bool) → ((t ≡ 0 → ⊥) → b ≡ d) → (t ≡ 0 → false ≡ d) → (not (eqb t 0) && b) ≡ d
@@ -107,11 +112,11 @@ module _ (T : Tables) (fixed t h : ℕ) (x : Spot) (e : x ≡ handle-spot no-cla
   there-is b q = sym (ap (λ (s : Spot). s .there) e) ∙ q
 
   -- nothing is judged where no class is fixed, or the handle is not there
-  nothing-judged : (eqb fixed 0 || not (x .there)) ≡ true → true ≡ fits-here fixed t h (seen-in T)
+  nothing-judged : (eqb fixed 0 || not (x .there)) ≡ true → true ≡ class-here fixed T t h
   unfolding class-fits seen-in
   nothing-judged = go (eqb fixed 0) refl
     where
-      go : (b : Bool) → eqb fixed 0 ≡ b → (b || not (x .there)) ≡ true → true ≡ fits-here fixed t h (seen-in T)
+      go : (b : Bool) → eqb fixed 0 ≡ b → (b || not (x .there)) ≡ true → true ≡ class-here fixed T t h
       go true z q = rw z refl
       go false z q = rw (sym (class-nowhere T t h (there-is false (not-true (x .there) q)))) (sym (rw (or-true (eqb fixed 0)) refl))
 
@@ -149,17 +154,41 @@ module _ (ps ns : List ℕ) (t f b k r n : ℕ) (e : k ≡ family f) (o : Bool) 
   unfolding buffer-spot seen-in
   ordinary-at c er j = spot (ordinary-found (table ps ns) t f b k r n e o i c er en j) (owner 0 (rw (sym i ∙ c) refl) er j) true
 
+-- ---- an identity
+
+pub identity-at : (rs ms ps ns b cs : List ℕ) (f x : ℕ) (i : Identity) (w : Wanted) (there writes : Bool) → i ≡ identity-in cs x → w ≡ wanted-of f
+    → there ≡ suits w (i .sort) (i .isstatic) → writes ≡ writes-field f
+    → spot there 0 (not (writes && eqb (i .isfinal) 1)) ≡ identity-spot (tables rs ms ps ns b cs) f x
+unfolding identity-spot seen-in
+identity-at rs ms ps ns b cs f x i w there writes ei ew et er j =
+    spot ((et ∙ ap₂ (λ (v : Wanted) (y : Identity). suits v (y .sort) (y .isstatic)) ew ei) j) 0 (not (er j && eqb (ei j .isfinal) 1))
+
 -- ---- by the place
+
+buffer-no-identity : (p : Place) → is-buffer-place p ≡ true → is-identity-place p ≡ false
+buffer-no-identity Place.Handle h = refl
+buffer-no-identity Place.HandleOrNull h = refl
+buffer-no-identity Place.LocalOrNull h = refl
+buffer-no-identity Place.GlobalOrNull h = refl
+buffer-no-identity Place.WeakOrNull h = refl
+buffer-no-identity Place.Identity h = absurd (false≢true h)
+buffer-no-identity Place.Buffer h = refl
+buffer-no-identity Place.Unused h = refl
 
 module _ (fixed : ℕ) (p : Place) (T : Tables) (t f h : ℕ) (x : Spot) where
   pub handle-place-at : is-handle-place p ≡ true → x ≡ handle-spot fixed T t h → x ≡ place-spot fixed p T t f h
-  unfolding place-spot handle-spot is-there place-row
+  unfolding place-spot handle-spot is-there place-row place-fits
   handle-place-at y q = rw y q
 
   pub buffer-place-at : is-handle-place p ≡ false → is-buffer-place p ≡ true → x ≡ buffer-spot T t f h → x ≡ place-spot fixed p T t f h
-  unfolding place-spot buffer-spot is-there place-row
-  buffer-place-at n y q = rw (n, y) q
+  unfolding place-spot buffer-spot is-there place-row place-fits
+  buffer-place-at n y q = rw (n, y, buffer-no-identity p y) q
 
-  pub no-place-at : is-handle-place p ≡ false → is-buffer-place p ≡ false → x ≡ nowhere → x ≡ place-spot fixed p T t f h
-  unfolding place-spot is-there place-row
-  no-place-at n m q = rw (n, m) q
+  module _ (n : is-handle-place p ≡ false) (m : is-buffer-place p ≡ false) where
+    pub identity-place-at : is-identity-place p ≡ true → x ≡ identity-spot T f h → x ≡ place-spot fixed p T t f h
+    unfolding place-spot identity-spot is-there place-row place-fits
+    identity-place-at y q = rw (n, m, y) q
+
+    pub no-place-at : is-identity-place p ≡ false → x ≡ nowhere → x ≡ place-spot fixed p T t f h
+    unfolding place-spot is-there place-row place-fits
+    no-place-at k q = rw (n, m, k) q

@@ -15,6 +15,7 @@ use Rattle.history.specs.Classes.{is-known}
 use Rattle.history.specs.Seen.{handle-alive}
 use Rattle.history.specs.Acceptance.{everything}
 use Rattle.history.specs.Breaches.{in-critical}
+use Rattle.classes.specs.Identities.{identity-room, place-of}
 use Rattle.book.specs.Threads.{env-elsewhere}
 use Rattle.tables.specs.Tables.{Tables, handles-in, seen-in}
 use Rattle.sight.specs.declared.call.CallSight.{CallSight}
@@ -24,6 +25,7 @@ use Rattle.sight.specs.declared.detach.DetachSight.{DetachSight}
 use Rattle.sight.specs.declared.end.EndSight.{EndSight}
 use Rattle.sight.specs.declared.declare.DeclareSight.{DeclareSight}
 use Rattle.sight.specs.declared.state.StateSight.{StateSight}
+use Rattle.sight.specs.declared.identify.IdentifySight.{IdentifySight}
 use Rattle.sight.specs.Spots.{handle-row, handle-spot, place-spot}
 
 -- C of function f by thread t with a b c
@@ -86,4 +88,13 @@ state-sight T t h c =
       known = is-known (seen-in T .super) c;
       alive = handle-alive t h (seen-in T);
       row = handle-row (T .references) t h;
+    }
+
+-- M of identity x, with class c
+unfoldable pub identify-sight : Tables → ℕ → ℕ → IdentifySight
+identify-sight T x c =
+    record {
+      known = is-known (seen-in T .super) c;
+      place = place-of (T .classes) x;
+      fits = ltb (place-of (T .classes) x) (identity-room (T .classes));
     }

@@ -2,7 +2,6 @@
 use crate::seen::in_critical;
 use crate::spot::Spot;
 use crate::spot::place;
-use classes::Class;
 use facts::Place;
 use facts::classes::NO_CLASS;
 use rows::Number;
@@ -36,7 +35,7 @@ pub fn call(
     pinmarks: &[u64],
     pinguide: &[u64],
     book: &[u64],
-    classes: &[Class],
+    classes: &[Number],
     t: u32,
     f: u32,
     a: Handle,

@@ -1,5 +1,5 @@
 // K: what its refusals look at.
-use classes::Class;
+use rows::Number;
 ghost use mathlib.Core.Path.{_≡_};
 ghost use mathlib.Core.List.{List};
 ghost use Prim.Native.Nat.{ℕ};
@@ -12,7 +12,7 @@ pub struct DeclareSight {
     pub under: bool,
 }
 
-pub fn declare(classes: &[Class], c: u32, superclass: u32) -> DeclareSight
+pub fn declare(classes: &[Number], c: u32, superclass: u32) -> DeclareSight
     ensures { λ r. ⌜ ((rs ms ps ns b : List ℕ) → r ≡ declare-sight (tables rs ms ps ns b (now (classes .entry))) c superclass) ⌝ }
 {
     let known = classes::is_known(classes, c);

@@ -1,12 +1,13 @@
-// What stands at a place: whether it is alive or outstanding, the row that was found for it, and whether its stated class is right there.
+// What stands at a place: whether it is alive or outstanding, the row that was found for it, and whether its stated class is right there; an identity, whether
+// it is stated as it is wanted, and may be taken.
 use crate::seen::pin_row_of;
 use crate::seen::row_of;
-use classes::Class;
 use facts::Place;
 use facts::classes::NO_CLASS;
 use facts::handles::IDENTITY;
 use facts::handles::KINDS;
 use facts::handles::LOCAL;
+use facts::identities::YES;
 use rows::Number;
 use words::Handle;
 ghost use mathlib.Core.Path.{_≡_};
@@ -18,7 +19,7 @@ ghost use Rattle.rows.specs.Table.{table};
 ghost use Rattle.guide.specs.References.{Leads};
 ghost use Rattle.guide.specs.Pins.{Leads as PinLeads};
 ghost use Rattle.tables.specs.Tables.{tables};
-ghost use Rattle.sight.specs.Spots.{nowhere, local-spot, shared-spot, handle-spot, buffer-spot, place-spot};
+ghost use Rattle.sight.specs.Spots.{nowhere, local-spot, shared-spot, handle-spot, buffer-spot, identity-spot, place-spot};
 
 pub struct Spot {
     pub there: bool,
@@ -83,7 +84,7 @@ fn judged(
     rows: &[Number],
     marks: &[u64],
     guide: &[u64],
-    classes: &[Class],
+    classes: &[Number],
     fixed: u32,
     t: u32,
     h: Handle,
@@ -127,6 +128,21 @@ fn buffer(pins: &[Number], pinmarks: &[u64], pinguide: &[u64], t: u32, f: u32, b
     }
 }
 
+// Identity x, handed to function f.
+fn identity(classes: &[Number], f: u32, x: Handle) -> Spot
+    ensures { λ r. ⌜ ((rs ms ps ns b : List ℕ) → r ≡ identity-spot (tables rs ms ps ns b (now (classes .entry))) f x) ⌝ }
+{
+    let stated = classes::identities::stated(classes, x);
+    let wanted = facts::identities::wanted_of(f);
+    let there = facts::identities::suits(wanted, stated.sort, stated.isstatic);
+    let writes = facts::identities::writes_field(f);
+    Spot {
+        there,
+        row: 0,
+        fits: !(writes & (stated.isfinal == YES)),
+    }
+}
+
 // The value h at a place of function f, called by thread t, where class `fixed` is fixed, or none.
 pub(crate) fn place(
     rows: &[Number],
@@ -135,7 +151,7 @@ pub(crate) fn place(
     pins: &[Number],
     pinmarks: &[u64],
     pinguide: &[u64],
-    classes: &[Class],
+    classes: &[Number],
     p: Place,
     fixed: u32,
     t: u32,
@@ -150,6 +166,9 @@ pub(crate) fn place(
     }
     if facts::results::is_buffer_place(p) {
         return buffer(pins, pinmarks, pinguide, t, f, h);
+    }
+    if facts::results::is_identity_place(p) {
+        return identity(classes, f, h);
     }
     nowhere()
 }

@@ -1,6 +1,5 @@
 // O: what its refusals look at, and the row of the handle.
 use crate::spot::handle;
-use classes::Class;
 use rows::Number;
 use words::Handle;
 ghost use mathlib.Core.Path.{_≡_};
@@ -22,7 +21,7 @@ pub fn state(
     rows: &[Number],
     marks: &[u64],
     guide: &[u64],
-    classes: &[Class],
+    classes: &[Number],
     t: u32,
     h: Handle,
     c: u32,

@@ -8,7 +8,7 @@ use Rattle.words.specs.Choice.{if_then_else_}
 use Rattle.facts.specs.Table.{fact-of, family, is-critical}
 use Rattle.facts.specs.Named.{PushLocalFrame, PopLocalFrame, DeleteGlobalRef, DeleteLocalRef, EnsureLocalCapacity, MonitorEnter, MonitorExit, DeleteWeakGlobalRef}
 use Rattle.facts.specs.Results.{is-buffer-place}
-use Rattle.lines.specs.Line.{Line, if-opens_then_else_, if-N_then_else_, if-X_then_else_, if-C_then_else_, if-R_then_else_, if-A_then_else_, if-D_then_else_, if-Z_then_else_, if-K_then_else_, if-O_then_else_, kind, is-zero, above-zero}
+use Rattle.lines.specs.Line.{Line, if-opens_then_else_, if-N_then_else_, if-X_then_else_, if-C_then_else_, if-R_then_else_, if-A_then_else_, if-D_then_else_, if-Z_then_else_, if-K_then_else_, if-O_then_else_, if-M_then_else_, kind, is-zero, above-zero}
 use Rattle.rows.specs.Table.{Layout, Table, found, taken, changed, ended, ended-all}
 use Rattle.rows.specs.References.{references, with-class, is-handle, from-frame}
 use Rattle.rows.specs.Pins.{pins, is-buffer}
@@ -19,6 +19,7 @@ use Rattle.history.specs.Buffers.{gets}
 use Rattle.history.specs.Statements.{class-by}
 use Rattle.history.specs.Acceptance.{made-by}
 use Rattle.classes.specs.Supers.{with-super}
+use Rattle.classes.specs.Identities.{place-of, with-identity}
 use Rattle.book.specs.Threads.{thread-in}
 use Rattle.book.specs.Moves.{frame-pushed, native-left, frames-ended, frame-popped, capacity-raised, item-pushed, item-popped, env-set, pending-set, monitor-added, monitor-taken, monitors-dropped, line-counted, closed-set}
 use Rattle.book.specs.Threads.{no-function, attached-function}
@@ -78,9 +79,12 @@ pins-after line e T =
 
 -- ---- the classes
 
--- K writes the super of its class
-unfoldable pub classes-after : Line → Tables → List ℕ
-classes-after e T = if-K e then (λ c s. with-super (T .classes) c s) else T .classes
+-- K writes the super of its class, M what it states at the identity's place
+unfoldable pub classes-after : Line → List ℕ → List ℕ
+classes-after e cs =
+    if-K e then (λ c s. with-super cs c s)
+    else if-M e then (λ x sort c static final. with-identity cs (place-of cs x) x sort static final)
+    else cs
 
 -- ---- the book
 
@@ -129,7 +133,7 @@ acted line e n T =
       references = references-after line e T;
       pins = pins-after line e T;
       book = line-counted (book-after e n T);
-      classes = classes-after e T;
+      classes = classes-after e (T .classes);
     }
 
 -- ---- the open items

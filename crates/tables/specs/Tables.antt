@@ -18,6 +18,7 @@ use Rattle.history.specs.Buffers.{Pin, ordinary, critical}
 use Rattle.history.specs.Statements.{names}
 use Rattle.history.specs.Seen.{Seen}
 use Rattle.classes.specs.Supers.{super-in}
+use Rattle.classes.specs.Identities.{identity-in}
 
 pub record Tables : Type 0 where
   pub references : Table
@@ -70,5 +71,6 @@ seen-in T =
       buffers = buffers-in (T .pins);
       class = class-in (T .references);
       super = super-in (T .classes);
+      identity = identity-in (T .classes);
       closed = closed-in (T .book);
     }

@@ -1,5 +1,4 @@
 // The judging of a whole lent trace: its report's bytes in a lent slice.
-use classes::Class;
 use rows::Number;
 use run::Passed;
 use run::Stop;
@@ -125,7 +124,7 @@ fn report_into(
     pins: &mut [Number],
     pinmarks: &mut [u64],
     book: &mut [u64],
-    classes: &mut [Class],
+    classes: &mut [Number],
     out: &mut [u8],
 ) -> usize
     requires { ⌜ (whole ≤ length (now book)) × (all-classes ≤ length (now classes)) ⌝ }
@@ -167,7 +166,7 @@ pub fn judge_trace(
     pins: &mut [Number],
     pinmarks: &mut [u64],
     book: &mut [u64],
-    classes: &mut [Class],
+    classes: &mut [Number],
     out: &mut [u8],
 ) -> Reported
     ensures { λ r. ⌜ leaves r (tables (now (rows .exit)) (now (marks .exit)) (now (pins .exit)) (now (pinmarks .exit)) (now (book .exit)) (now (classes .exit))) (now (out .exit)) ≡ whole-outcome (tables (now (rows .entry)) (now (marks .entry)) (now (pins .entry)) (now (pinmarks .entry)) (now (book .entry)) (now (classes .entry))) (now (trace .entry)) (now (out .entry)) ⌝ }
