@@ -17,7 +17,7 @@ abbrev pub in-step-of : Line → History → Bool
 in-step-of e past = in-step e (top-of (items (thread-of e) past)) (closed past)
 
 abbrev pub has-room-of : Room → Line → History → Bool
-has-room-of room e past = has-room room (thread-of e) (seen (e ∷ past)) && has-identity-room room (e ∷ past) && has-item-room e (length (items (thread-of e) past))
+has-room-of room e past = has-identity-room room (e ∷ past) && has-room room (thread-of e) (seen (e ∷ past)) && has-item-room e (length (items (thread-of e) past))
 
 -- which number they give
 data Tested : Bool → Bool → Bool → Bool → Bool → Bool → ℕ → Type 0 where

@@ -70,7 +70,7 @@ module _ (room : Room) where
       omega (arith, leb-true alive (room .references) x, leb-true out (room .pins) y, leb-true (depth t after) deepest z, count-all (living after), count-all (outstanding after))
 
   fits : (e : Line) (past : History) → ¬ Exceeds room past → has-room-of room e past ≡ true → ¬ Exceeds room (e ∷ past)
-  fits e past before h = let (r, i, o) = all-three rows (has-identity-room room (e ∷ past)) opens h in go (room-says (e ∷ past) (thread-of e) r) i o
+  fits e past before h = let (i, r, o) = all-three (has-identity-room room (e ∷ past)) rows opens h in go (room-says (e ∷ past) (thread-of e) r) i o
     where
       rows : Bool
       rows = has-room room (thread-of e) (seen (e ∷ past))
@@ -136,18 +136,18 @@ module _ (room : Room) where
   no-room : (e : Line) (past : History) → has-room-of room e past ≡ false → Exceeds room (e ∷ past)
   unfolding has-room seen depth
   no-room e past h =
-      go (leb (count everything (living (e ∷ past))) (room .references)) refl (leb (count everything (outstanding (e ∷ past))) (room .pins)) refl
-      (leb (depth (thread-of e) (e ∷ past)) deepest) refl (has-identity-room room (e ∷ past)) refl (has-item-room e (length (items (thread-of e) past))) refl h
+      go (has-identity-room room (e ∷ past)) refl (leb (count everything (living (e ∷ past))) (room .references)) refl (leb (count everything (outstanding (e ∷ past))) (room .pins)) refl
+      (leb (depth (thread-of e) (e ∷ past)) deepest) refl (has-item-room e (length (items (thread-of e) past))) refl h
     where
-      go : (a : Bool) → leb (count everything (living (e ∷ past))) (room .references) ≡ a → (b : Bool) → leb (count everything (outstanding (e ∷ past))) (room .pins) ≡ b
-          → (c : Bool) → leb (depth (thread-of e) (e ∷ past)) deepest ≡ c → (i : Bool) → has-identity-room room (e ∷ past) ≡ i
-          → (d : Bool) → has-item-room e (length (items (thread-of e) past)) ≡ d → (a && b && c && i && d) ≡ false → Exceeds room (e ∷ past)
-      go false ea b eb c ec i ei d ed k = handles (omega (arith, leb-false (count everything (living (e ∷ past))) (room .references) ea, count-all (living (e ∷ past))))
-      go true ea false eb c ec i ei d ed k = buffers (omega (arith, leb-false (count everything (outstanding (e ∷ past))) (room .pins) eb, count-all (outstanding (e ∷ past))))
-      go true ea true eb false ec i ei d ed k = frames-too (thread-of e) (leb-false _ _ ec)
-      go true ea true eb true ec false ei d ed k = stated (leb-false (length (identities (e ∷ past))) (room .identities) ei)
-      go true ea true eb true ec true ei false ed k = no-item-room e past ed
-      go true ea true eb true ec true ei true ed k = absurd (false≢true (sym k))
+      go : (i : Bool) → has-identity-room room (e ∷ past) ≡ i → (a : Bool) → leb (count everything (living (e ∷ past))) (room .references) ≡ a
+          → (b : Bool) → leb (count everything (outstanding (e ∷ past))) (room .pins) ≡ b → (c : Bool) → leb (depth (thread-of e) (e ∷ past)) deepest ≡ c
+          → (d : Bool) → has-item-room e (length (items (thread-of e) past)) ≡ d → (i && (a && b && c) && d) ≡ false → Exceeds room (e ∷ past)
+      go false ei a ea b eb c ec d ed k = stated (leb-false (length (identities (e ∷ past))) (room .identities) ei)
+      go true ei false ea b eb c ec d ed k = handles (omega (arith, leb-false (count everything (living (e ∷ past))) (room .references) ea, count-all (living (e ∷ past))))
+      go true ei true ea false eb c ec d ed k = buffers (omega (arith, leb-false (count everything (outstanding (e ∷ past))) (room .pins) eb, count-all (outstanding (e ∷ past))))
+      go true ei true ea true eb false ec d ed k = frames-too (thread-of e) (leb-false _ _ ec)
+      go true ei true ea true eb true ec false ed k = no-item-room e past ed
+      go true ei true ea true eb true ec true ed k = absurd (false≢true (sym k))
 
   pub room-is : (e : Line) (past : History) → Accepted room past → (has-room-of room e past ≡ false) ↔ Exceeds room (e ∷ past)
   room-is e past a = (no-room e past, λ x. never-true (has-room-of room e past) (λ h. fits e past (within-room past a) h x))

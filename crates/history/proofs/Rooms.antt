@@ -52,11 +52,11 @@ module _ (a b : Room) (r : Roomier a b) where
       same-number (in-step-of e past) (env-right e (seen past)) (makes-anew e (seen past)) (classes-right e (seen past)) (names-alive e (seen past)) (has-room-of a e past) (has-room-of b e past)
       (λ k.
       let opens : Bool = has-item-room e (length (items (thread-of e) past)) in
-      let (rows, stated, items-too) = all-three (has-room a (thread-of e) (seen (e ∷ past))) (has-identity-room a (e ∷ past)) opens k in
-      and-both (has-room b (thread-of e) (seen (e ∷ past)) && has-identity-room b (e ∷ past)) opens
-      (and-both (has-room b (thread-of e) (seen (e ∷ past))) (has-identity-room b (e ∷ past))
-      (has-more (thread-of e) (seen (e ∷ past)) rows)
-      (more-fits (length (identities (e ∷ past))) (a .identities) (b .identities) (r .identities) stated))
+      let (stated, rows, items-too) = all-three (has-identity-room a (e ∷ past)) (has-room a (thread-of e) (seen (e ∷ past))) opens k in
+      and-both (has-identity-room b (e ∷ past) && has-room b (thread-of e) (seen (e ∷ past))) opens
+      (and-both (has-identity-room b (e ∷ past)) (has-room b (thread-of e) (seen (e ∷ past)))
+      (more-fits (length (identities (e ∷ past))) (a .identities) (b .identities) (r .identities) stated)
+      (has-more (thread-of e) (seen (e ∷ past)) rows))
       items-too)
       h
 

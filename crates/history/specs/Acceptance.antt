@@ -121,4 +121,4 @@ refusal room e past =
     (makes-anew e (seen past))
     (classes-right e (seen past))
     (names-alive e (seen past))
-    (has-room room (thread-of e) (seen (e ∷ past)) && has-identity-room room (e ∷ past) && has-item-room e (length (items (thread-of e) past)))
+    (has-identity-room room (e ∷ past) && has-room room (thread-of e) (seen (e ∷ past)) && has-item-room e (length (items (thread-of e) past)))

@@ -39,7 +39,7 @@ refusal-in e top many T =
     (makes-anew e (seen-in T))
     (classes-right e (seen-in T))
     (names-alive e (seen-in T))
-    (rows-left e T && place-left e T && has-item-room e many)
+    (place-left e T && rows-left e T && has-item-room e many)
 
 -- line number `line`
 unfoldable pub weighed-in : ℕ → Line → Option Item → ℕ → Tables → Reply

@@ -24,7 +24,7 @@ use Rattle.lines.specs.Events.{is-status, result-in-line}
 use Rattle.rows.specs.Table.{Table}
 use Rattle.history.specs.Handles.{in-frame}
 use Rattle.history.specs.Seen.{Seen}
-use Rattle.history.specs.Breaches.{when, place-rule, is-there, fits-here, rule-here, rule-at, line-rule, call-rule, exceeds, overflows, breach}
+use Rattle.history.specs.Breaches.{when, place-rule, may-take, is-there, rule-here, rule-at, line-rule, call-rule, exceeds, overflows, breach}
 use Rattle.history.specs.Findings.{places, found, of-line}
 use Rattle.book.specs.Layout.{capacity-at, cell}
 use Rattle.book.specs.Threads.{stack, depth, thread-of, thread-in, top-capacity}
@@ -33,7 +33,7 @@ use Rattle.answers.specs.Listed.{listed}
 use Rattle.answers.proofs.Found.{of-one-rule}
 use Rattle.answers.proofs.OfLine.{by-rules, as-seen, as-judged, same-of-rule, return-listed, detach-listed, end-listed}
 use Rattle.tables.specs.Tables.{Tables, handles-in, seen-in}
-use Rattle.sight.specs.Spots.{handle-spot, place-spot}
+use Rattle.sight.specs.Spots.{class-here, handle-spot, place-fits, place-spot}
 use Rattle.sight.specs.Returns.{over-capacity, overflows-in, return-sight}
 use Rattle.sight.specs.Sights.{call-sight, leave-sight, detach-sight, end-sight}
 use Rattle.weigh.specs.Call.{judged-call}
@@ -48,8 +48,8 @@ use Rattle.weigh.proofs.PlaceLaws.{judged-there}
 module _ (T : Tables) (line t env f a b c : ℕ) (n : ℤ) where
   -- what is told of a place gives its rule
   rule-told : (fixed : ℕ) (p : Place) (h : ℕ) → place-rule p h (place-spot fixed p T t f h .there) (place-spot fixed p T t f h .fits) ≡ rule-here fixed p t f h (seen-in T)
-  unfolding place-spot
-  rule-told fixed p h = judged-there h (is-there p t f h (seen-in T)) (fits-here fixed t h (seen-in T)) p
+  unfolding place-spot place-fits
+  rule-told fixed p h = judged-there h (is-there p t f h (seen-in T)) (class-here fixed T t h) (may-take f (seen-in T .identity h)) p
 
   pub call-found : listed (judged-call line env f a b c (call-sight T t f a b c)) ≡ of-line line (C t env f a b c n) (seen-in T)
   unfolding listed judged-call call-sight of-line breach rule-at line-rule call-rule

@@ -1,11 +1,11 @@
 -- The rule that a value breaks at a place, by the tests that the code makes. Assumes nothing.
 use Prim.Native.Nat.{ℕ, _%_}
 use mathlib.Core.Path.{_≡_, refl, sym, ap, _∙_}
-use mathlib.Core.Bool.{Bool, true, false}
-use borrow.Author.Tests.{eq-eqb, ne-eqb}
+use mathlib.Core.Bool.{Bool, true, false, not}
+use borrow.Author.Tests.{eq-eqb, ne-eqb, not-true, not-false}
 use Rattle.words.specs.Choice.{if_then_else_}
 use Rattle.answers.specs.Listed.{rule-number}
-use Rattle.facts.specs.Results.{is-handle-place}
+use Rattle.facts.specs.Results.{is-handle-place, is-identity-place}
 use Rattle.facts.specs.declared.Place.{Place}
 use Rattle.facts.specs.declared.Place.the-variants as Place
 use Rattle.history.specs.Breaches.{handle-rule, kind-rule, place-rule}
@@ -76,25 +76,34 @@ module _ (h : ℕ) (there fits : Bool) where
   unfolding place-rule
   null-identity e = rw (eq-eqb h 0 e) refl
 
-  pub right-identity : (h ≡ 0 → ⊥) → h % 4 ≡ 0 → 0 ≡ rule-number (place-rule Place.Identity h there fits)
+  pub not-wanted : (h ≡ 0 → ⊥) → h % 4 ≡ 0 → not there ≡ true → 5 ≡ rule-number (place-rule Place.Identity h there fits)
   unfolding place-rule
-  right-identity z e = rw (ne-eqb h 0 z, eq-eqb (h % 4) 0 e) refl
+  not-wanted z e n = rw (ne-eqb h 0 z, eq-eqb (h % 4) 0 e, not-true there n) refl
+
+  pub right-identity : (h ≡ 0 → ⊥) → h % 4 ≡ 0 → not there ≡ false → fits ≡ true → 0 ≡ rule-number (place-rule Place.Identity h there fits)
+  unfolding place-rule
+  right-identity z e n f = rw (ne-eqb h 0 z, eq-eqb (h % 4) 0 e, not-false there n, f) refl
+
+  pub final-written : (h ≡ 0 → ⊥) → h % 4 ≡ 0 → not there ≡ false → fits ≡ false → 6 ≡ rule-number (place-rule Place.Identity h there fits)
+  unfolding place-rule
+  final-written z e n f = rw (ne-eqb h 0 z, eq-eqb (h % 4) 0 e, not-false there n, f) refl
 
   pub handle-there : (h ≡ 0 → ⊥) → (h % 4 ≡ 0 → ⊥) → 4 ≡ rule-number (place-rule Place.Identity h there fits)
   unfolding place-rule
   handle-there z e = rw (ne-eqb h 0 z, ne-eqb (h % 4) 0 e) refl
 
-  -- only at a handle's place a class is judged
-  pub judged-there : (p : Place) → place-rule p h there (if is-handle-place p then fits else true) ≡ place-rule p h there fits
+  -- a class is judged only at a handle's place, what may be taken only at an identity's
+  pub judged-there : (take : Bool) (p : Place)
+      → place-rule p h there (if is-handle-place p then fits else if is-identity-place p then take else true) ≡ place-rule p h there (if is-identity-place p then take else fits)
   unfolding place-rule
-  judged-there Place.Handle = refl
-  judged-there Place.HandleOrNull = refl
-  judged-there Place.LocalOrNull = refl
-  judged-there Place.GlobalOrNull = refl
-  judged-there Place.WeakOrNull = refl
-  judged-there Place.Identity = refl
-  judged-there Place.Buffer = refl
-  judged-there Place.Unused = refl
+  judged-there take Place.Handle = refl
+  judged-there take Place.HandleOrNull = refl
+  judged-there take Place.LocalOrNull = refl
+  judged-there take Place.GlobalOrNull = refl
+  judged-there take Place.WeakOrNull = refl
+  judged-there take Place.Identity = refl
+  judged-there take Place.Buffer = refl
+  judged-there take Place.Unused = refl
 
   -- ---- by the kind of place
 

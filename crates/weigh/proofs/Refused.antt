@@ -13,7 +13,7 @@ use lib.ListN.{length, length-map}
 use Rattle.words.specs.Choice.{if_then_else_}
 use Rattle.words.specs.Lists.{any}
 use Rattle.facts.specs.Named.{PopLocalFrame}
-use Rattle.lines.specs.Line.{Statement, K, O, N, X, C, A, D, Z, states}
+use Rattle.lines.specs.Line.{Statement, K, O, M, N, X, C, A, D, Z, states}
 use Rattle.rows.specs.Table.{room, alive}
 use Rattle.rows.specs.References.{references}
 use Rattle.rows.specs.Pins.{pins}
@@ -25,13 +25,14 @@ use Rattle.history.specs.Seen.{is-alive, handle-alive}
 use Rattle.history.specs.Classes.{is-known}
 use Rattle.history.specs.Acceptance.{in-step, env-right, made-by, twice, makes-anew, classes-right, names-alive, first-refusal, deepest}
 use Rattle.classes.specs.Supers.{super-in}
+use Rattle.classes.specs.Identities.{identity-room, place-of}
 use Rattle.book.specs.Threads.{thread-in, closed-in, env-elsewhere}
 use Rattle.book.proofs.Changing.{frames-within}
 use Rattle.tables.specs.Tables.{Tables, handles-in, seen-in}
-use Rattle.tables.specs.Weighing.{rows-left, refusal-in}
+use Rattle.tables.specs.Weighing.{rows-left, place-left, refusal-in}
 use Rattle.tables.proofs.RowCounts.{alive-most}
 use Rattle.sight.specs.declared.state.StateSight.{StateSight}
-use Rattle.sight.specs.Sights.{some-alive, enter-sight, declare-sight, state-sight}
+use Rattle.sight.specs.Sights.{some-alive, enter-sight, declare-sight, state-sight, identify-sight}
 use Rattle.weigh.specs.Enter.{enter-turn, named-twice, env-fits, enter-room, enter-refusal}
 use Rattle.weigh.specs.Attach.{attach-turn}
 use Rattle.weigh.specs.Detach.{detach-refusal}
@@ -39,6 +40,7 @@ use Rattle.weigh.specs.Leave.{leave-refusal}
 use Rattle.weigh.specs.Call.{call-refusal}
 use Rattle.weigh.specs.Declare.{declare-refusal}
 use Rattle.weigh.specs.State.{state-refusal}
+use Rattle.weigh.specs.Identify.{identify-refusal}
 
 -- ---- room for a line that makes nothing
 
@@ -76,7 +78,7 @@ by-step true = refl
 by-step false = refl
 
 pub leave-told : (T : Tables) (top : Option Item) (many t r : ℕ) → refusal-in (X t r) top many T ≡ leave-refusal (closed-in (T .book)) top
-unfolding refusal-in leave-refusal in-step env-right classes-right names-alive makes-anew made-by makes seen-in
+unfolding refusal-in place-left leave-refusal in-step env-right classes-right names-alive makes-anew made-by makes seen-in
 leave-told T top many t r =
     ap (λ (o : Bool). first-refusal (not (closed-in (T .book)) && is-native top) true true true true (o && true)) (leave-room T t r)
     ∙ by-step (not (closed-in (T .book)) && is-native top)
@@ -88,7 +90,7 @@ unfolding rows-left made-by makes gets seen-in
 detach-room T t = nothing-made T 0 (omega arith)
 
 pub detach-told : (T : Tables) (top : Option Item) (many t : ℕ) → refusal-in (D t) top many T ≡ detach-refusal (closed-in (T .book)) top
-unfolding refusal-in detach-refusal in-step env-right classes-right names-alive makes-anew made-by makes seen-in
+unfolding refusal-in place-left detach-refusal in-step env-right classes-right names-alive makes-anew made-by makes seen-in
 detach-told T top many t =
     ap (λ (o : Bool). first-refusal (not (closed-in (T .book)) && is-attached top) true true true true (o && true)) (detach-room T t)
     ∙ by-step (not (closed-in (T .book)) && is-attached top)
@@ -111,7 +113,7 @@ by-items true many = go (decLt many deepest)
 
 pub call-told : (T : Tables) (top : Option Item) (many t env f a b c : ℕ) (n : ℤ)
     → refusal-in (C t env f a b c n) top many T ≡ call-refusal (closed-in (T .book)) top many
-unfolding refusal-in call-refusal in-step env-right classes-right names-alive makes-anew made-by makes seen-in
+unfolding refusal-in place-left call-refusal in-step env-right classes-right names-alive makes-anew made-by makes seen-in
 call-told T top many t env f a b c n =
     ap (λ (o : Bool). first-refusal (not (closed-in (T .book)) && native-or-attached top) true true true true (o && ltb many deepest)) (call-room T t env f a b c n)
     ∙ by-items (not (closed-in (T .book)) && native-or-attached top) many
@@ -127,11 +129,11 @@ by-end true = refl
 by-end false = refl
 
 pub end-told : (T : Tables) (top : Option Item) (many : ℕ) → refusal-in Z top many T ≡ (if closed-in (T .book) then 4 else 0)
-unfolding refusal-in in-step env-right classes-right names-alive makes-anew made-by makes seen-in
+unfolding refusal-in place-left in-step env-right classes-right names-alive makes-anew made-by makes seen-in
 end-told T top many =
     ap (λ (o : Bool). first-refusal (not (closed-in (T .book)) && true) true true true true (o && true)) (end-room T) ∙ by-end (closed-in (T .book))
 
--- ---- K and O
+-- ---- K, O and M
 
 statement-room : (T : Tables) (s : Statement) → rows-left (states s) T ≡ true
 unfolding rows-left made-by makes gets seen-in
@@ -144,7 +146,7 @@ by-declare false false true = refl
 by-declare false false false = refl
 
 pub declare-told : (T : Tables) (top : Option Item) (many c s : ℕ) → refusal-in (states (K c s)) top many T ≡ declare-refusal (closed-in (T .book)) (declare-sight T c s)
-unfolding refusal-in declare-refusal declare-sight in-step env-right makes-anew made-by makes classes-right names-alive seen-in
+unfolding refusal-in place-left declare-refusal declare-sight in-step env-right makes-anew made-by makes classes-right names-alive seen-in
 declare-told T top many c s =
     let known : Bool = is-known (super-in (T .classes)) c in
     let under : Bool = is-known (super-in (T .classes)) s in
@@ -158,11 +160,31 @@ by-state false true false = refl
 by-state false false alive = refl
 
 pub state-told : (T : Tables) (top : Option Item) (many t h c : ℕ) → refusal-in (states (O t h c)) top many T ≡ state-refusal (closed-in (T .book)) (state-sight T t h c)
-unfolding refusal-in state-refusal state-sight in-step env-right makes-anew made-by makes classes-right names-alive seen-in
+unfolding refusal-in place-left state-refusal state-sight in-step env-right makes-anew made-by makes classes-right names-alive seen-in
 state-told T top many t h c =
     let known : Bool = is-known (super-in (T .classes)) c in
     ap (λ (o : Bool). first-refusal (not (closed-in (T .book)) && true) true true known (handle-alive t h (seen-in T)) (o && true)) (statement-room T (O t h c))
     ∙ by-state (closed-in (T .book)) known (handle-alive t h (seen-in T))
+
+by-identify : (over known fits : Bool) → first-refusal (not over && true) true true known true fits ≡ (if over then 4 else if not known then 9 else if not fits then 7 else 0)
+by-identify true known fits = refl
+by-identify false false fits = refl
+by-identify false true true = refl
+by-identify false true false = refl
+
+fits-alone : (fits rows : Bool) → rows ≡ true → (fits && rows && true) ≡ fits
+fits-alone true rows e = rw e refl
+fits-alone false rows e = refl
+
+pub identify-told : (T : Tables) (top : Option Item) (many x sort c static final : ℕ)
+    → refusal-in (states (M x sort c static final)) top many T ≡ identify-refusal (closed-in (T .book)) (identify-sight T x c)
+unfolding refusal-in place-left identify-refusal identify-sight in-step env-right makes-anew made-by makes classes-right names-alive seen-in
+identify-told T top many x sort c static final =
+    let known : Bool = is-known (super-in (T .classes)) c in
+    let fits : Bool = ltb (place-of (T .classes) x) (identity-room (T .classes)) in
+    ap (first-refusal (not (closed-in (T .book)) && true) true true known true)
+    (fits-alone fits (rows-left (states (M x sort c static final)) T) (statement-room T (M x sort c static final)))
+    ∙ by-identify (closed-in (T .book)) known fits
 
 -- an accepted O names a handle that is alive
 pub stated-alive : (closed : Bool) (s : StateSight) → state-refusal closed s ≡ 0 → s .alive ≡ true
@@ -244,11 +266,11 @@ opened-told T turn many t env hs =
 
 pub enter-told : (T : Tables) (top : Option Item) (many t env : ℕ) (hs : List ℕ)
     → refusal-in (N t env hs) top many T ≡ (if enter-turn (closed-in (T .book)) top then enter-refusal many env hs (enter-sight T t env hs) else 4)
-unfolding refusal-in in-step classes-right names-alive seen-in
+unfolding refusal-in place-left in-step classes-right names-alive seen-in
 enter-told T top many t env hs = opened-told T (not (closed-in (T .book)) && (is-empty top || is-call top)) many t env hs
 
 -- A is told as N with no handles
 pub attach-told : (T : Tables) (top : Option Item) (many t env : ℕ)
     → refusal-in (A t env) top many T ≡ (if attach-turn (closed-in (T .book)) top then enter-refusal many env [] (enter-sight T t env []) else 4)
-unfolding refusal-in in-step env-right makes-anew made-by makes rows-left gets classes-right names-alive seen-in
+unfolding refusal-in place-left in-step env-right makes-anew made-by makes rows-left gets classes-right names-alive seen-in
 attach-told T top many t env = opened-told T (not (closed-in (T .book)) && is-empty top) many t env []

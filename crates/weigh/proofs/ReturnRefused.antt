@@ -32,7 +32,7 @@ use Rattle.history.specs.Acceptance.{in-step, env-right, made-by, twice, makes-
 use Rattle.book.specs.Threads.{thread-in, closed-in}
 use Rattle.book.proofs.Changing.{frames-within}
 use Rattle.tables.specs.Tables.{Tables, handles-in, seen-in}
-use Rattle.tables.specs.Weighing.{rows-left, refusal-in}
+use Rattle.tables.specs.Weighing.{rows-left, place-left, refusal-in}
 use Rattle.tables.proofs.RowCounts.{alive-most}
 use Rattle.sight.specs.declared.returns.Made.{Made}
 use Rattle.sight.specs.Returns.{nothing-made, handle-made, buffer-made, made-sight, return-sight}
@@ -175,7 +175,7 @@ by-turn true false false = refl
 pub return-told : (T : Tables) (top : Option Item) (many t f h p : ℕ) (s : ℤ)
     → refusal-in (R t f (result-in-line f h s) p) top many T
     ≡ (if return-turn (closed-in (T .book)) f top then return-refusal f (is-zero s) (return-sight T t f h) else 4)
-unfolding refusal-in return-refusal return-sight in-step env-right classes-right names-alive seen-in
+unfolding refusal-in place-left return-refusal return-sight in-step env-right classes-right names-alive seen-in
 return-told T top many t f h p s =
     let new : Made = made-sight (T .references) (T .pins) (fact-of f .result) t h in
     let turn : Bool = not (closed-in (T .book)) && is-call-of f top in

@@ -8,3 +8,4 @@ pub mod Detach
 pub mod End
 pub mod Declare
 pub mod State
+pub mod Identify

@@ -1,5 +1,5 @@
-// The rule that a value breaks at a place, the first that fits, or 0. `there` tells whether what it names is alive or outstanding, `fits`
-// whether its stated class is right there.
+// The rule that a value breaks at a place, the first that fits, or 0. `there` tells whether what it names is alive or outstanding, or stated as
+// it is wanted, `fits` whether its stated class is right there, or it is no final field that is written.
 use facts::Place;
 use facts::handles::GLOBAL;
 use facts::handles::IDENTITY;
@@ -63,13 +63,19 @@ fn must_handle_rule(h: Handle, there: bool, fits: bool) -> u32
     handle_rule(h, there, fits)
 }
 
-fn identity_rule(h: Handle) -> u32
-    ensures { λ r. ⌜ ((there fits : Bool) → r ≡ rule-number (place-rule Place.Identity h there fits)) ⌝ }
+fn identity_rule(h: Handle, there: bool, fits: bool) -> u32
+    ensures { λ r. ⌜ r ≡ rule-number (place-rule Place.Identity h there fits) ⌝ }
 {
     if h == 0 {
         return 7;
     }
-    if h % KINDS == IDENTITY { 0 } else { 4 }
+    if h % KINDS != IDENTITY {
+        return 4;
+    }
+    if !there {
+        return 5;
+    }
+    if fits { 0 } else { 6 }
 }
 
 fn buffer_rule(b: Handle, there: bool) -> u32
@@ -91,7 +97,7 @@ pub(crate) fn place_rule(place: Place, h: Handle, there: bool, fits: bool) -> u3
         Place::LocalOrNull => kind_rule(LOCAL, h, there, fits),
         Place::GlobalOrNull => kind_rule(GLOBAL, h, there, fits),
         Place::WeakOrNull => kind_rule(WEAK, h, there, fits),
-        Place::Identity => identity_rule(h),
+        Place::Identity => identity_rule(h, there, fits),
         Place::Buffer => buffer_rule(h, there),
         Place::Unused => 0,
     }

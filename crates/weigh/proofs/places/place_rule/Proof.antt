@@ -28,6 +28,6 @@ place-rule-spec =
     (λ c. at-local _ _ _ _ _ (c .before .enum-told3 .given .1) (c .kind-rule .ensures))
     (λ c. at-global _ _ _ _ _ (c .before .enum-told4 .given .1) (c .kind-rule2 .ensures))
     (λ c. at-weak _ _ _ _ _ (c .before .enum-told5 .given .1) (c .kind-rule3 .ensures))
-    (λ c. at-place _ _ _ _ _ _ (c .before .enum-told6 .given .1) (c .identity-rule .ensures _ _))
+    (λ c. at-place _ _ _ _ _ _ (c .before .enum-told6 .given .1) (c .identity-rule .ensures))
     (λ c. at-place _ _ _ _ _ _ (c .before .enum-told7 .given .1) (c .buffer-rule .ensures _))
     (λ c. at-unused _ _ _ _ (c .enum-told8 .given .1)))
