@@ -1,4 +1,4 @@
--- computed: judge::step, called-is-acted, returned-is-acted, stated-is-acted, rows-of-locals
+-- computed: judge::step, called-is-acted, returned-is-acted, stated-is-acted, identified-is-acted, rows-of-locals
 pub mod Rows
 pub mod Books
 pub mod Calls

@@ -1,7 +1,8 @@
--- What O leaves in the lent tables, where the row of its handle is told. Assumes nothing.
+-- What O and M leave in the lent tables, where the row of the handle and the place of the identity are told. Assumes nothing.
 use Prim.Native.Nat.{ℕ}
 use Rattle.rows.specs.Table.{changed}
 use Rattle.rows.specs.References.{references, with-class}
+use Rattle.classes.specs.Identities.{with-identity}
 use Rattle.book.specs.Moves.{line-counted}
 use Rattle.tables.specs.Tables.{Tables}
 
@@ -13,4 +14,14 @@ stated T row c =
       pins = T .pins;
       book = line-counted (T .book);
       classes = T .classes;
+    }
+
+-- identity x stands at this place, and is stated so
+unfoldable pub identified : Tables → ℕ → ℕ → ℕ → ℕ → ℕ → Tables
+identified T place x sort static final =
+    record {
+      references = T .references;
+      pins = T .pins;
+      book = line-counted (T .book);
+      classes = with-identity (T .classes) place x sort static final;
     }

@@ -4,6 +4,7 @@ pub mod declare;
 pub mod detach;
 pub mod end;
 pub mod enter;
+pub mod identify;
 pub mod leave;
 pub mod owner;
 pub mod returns;

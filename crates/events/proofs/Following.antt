@@ -9,7 +9,7 @@ use borrow.Author.Tests.{not-true, not-false}
 use lib.IntN.{ℤ}
 use Rattle.words.specs.Choice.{if_then_else_}
 use Rattle.facts.specs.declared.Result.{Result}
-use Rattle.lines.specs.Line.{Statement, N, X, C, R, A, D, Z, K, O, states, is-zero}
+use Rattle.lines.specs.Line.{Statement, N, X, C, R, A, D, Z, K, O, M, states, is-zero}
 use Rattle.lines.specs.Events.{result-in-line}
 use Rattle.history.specs.Items.{Item, asked}
 use Rattle.history.specs.Seen.{Seen}
@@ -31,7 +31,8 @@ use Rattle.sight.specs.declared.returns.ReturnSight.{ReturnSight}
 use Rattle.sight.specs.declared.end.EndSight.{EndSight}
 use Rattle.sight.specs.declared.declare.DeclareSight.{DeclareSight}
 use Rattle.sight.specs.declared.state.StateSight.{StateSight}
-use Rattle.sight.specs.Sights.{enter-sight, leave-sight, call-sight, detach-sight, end-sight, declare-sight, state-sight}
+use Rattle.sight.specs.declared.identify.IdentifySight.{IdentifySight}
+use Rattle.sight.specs.Sights.{enter-sight, leave-sight, call-sight, detach-sight, end-sight, declare-sight, state-sight, identify-sight}
 use Rattle.sight.specs.Returns.{return-sight}
 use Rattle.sight.proofs.RowLaws.{deleted-row, released-row, place-told, stated-row}
 use Rattle.sight.proofs.ReturnLaws.{handle-row, buffer-row, kind-told}
@@ -44,16 +45,17 @@ use Rattle.weigh.specs.Returns.{return-turn, return-refusal, found-return}
 use Rattle.weigh.specs.End.{found-end}
 use Rattle.weigh.specs.Declare.{declare-refusal}
 use Rattle.weigh.specs.State.{state-refusal}
-use Rattle.weigh.proofs.Refused.{enter-told, attach-told, leave-told, detach-told, call-told, end-told, declare-told, state-told}
+use Rattle.weigh.specs.Identify.{identify-refusal}
+use Rattle.weigh.proofs.Refused.{enter-told, attach-told, leave-told, detach-told, call-told, end-told, declare-told, state-told, identify-told}
 use Rattle.weigh.proofs.ReturnRefused.{return-told}
 use Rattle.weigh.proofs.Found.{leave-found, detach-found, call-found, return-found, end-found}
 use Rattle.act.specs.Calls.{called}
 use Rattle.act.specs.Returns.{returned}
-use Rattle.act.specs.Statements.{stated}
+use Rattle.act.specs.Statements.{stated, identified}
 use Rattle.act.proofs.Whole.{attached}
 use Rattle.act.proofs.Calling.{called-is-acted}
 use Rattle.act.proofs.Returning.{returned-is-acted}
-use Rattle.act.proofs.Stating.{stated-is-acted}
+use Rattle.act.proofs.Stating.{stated-is-acted, identified-is-acted}
 use Rattle.events.specs.Outcome.{leaves, line-outcome}
 use Rattle.events.proofs.Outcomes.{stays, goes}
 
@@ -211,7 +213,7 @@ module _ (T : Tables) (line : ℕ) (closed : Bool) (ec : closed ≡ closed-in (T
   end-goes v S q ev es ey =
       goes line Z top many T y _ S (end-told T top many ∙ ap (λ (o : Bool). if o then 4 else 0) (sym ec ∙ q)) ey (ap (found-end line) ev ∙ end-found T line) (es (asked top))
 
--- ---- K and O
+-- ---- K, O and M
 
 -- no rule is of a statement
 nothing-found : (line : ℕ) (s : Statement) (v : Seen) → [] ≡ of-line line (states s) v
@@ -256,3 +258,18 @@ module _ (T : Tables) (top : Option Item) (many t h c line : ℕ) (closed : Bool
       (es
       ∙ ap (λ (u : StateSight). stated T (u .row) c) ev
       ∙ stated-is-acted T t h c line (asked top) (state-sight T t h c .row) (stated-row T t h c (sym (ap (λ (u : StateSight). u .alive) ev) ∙ names-one closed v (sym ek ∙ z))))
+
+module _ (T : Tables) (top : Option Item) (many x sort c static final line : ℕ) (closed : Bool) (v : IdentifySight) (k : ℕ) (ec : closed ≡ closed-in (T .book))
+    (ev : v ≡ identify-sight T x c) (ek : k ≡ identify-refusal closed v) where
+  identify-number : k ≡ refusal-in (states (M x sort c static final)) top many T
+  identify-number = ek ∙ ap₂ identify-refusal ec ev ∙ sym (identify-told T top many x sort c static final)
+
+  pub identify-stays : (y : Answer) → (k ≡ 0 → ⊥) → y ≡ refused-with k → leaves y T ≡ line-outcome line (states (M x sort c static final)) top many T
+  identify-stays y z ey = stays line (states (M x sort c static final)) top many T y k identify-number z ey
+
+  pub identify-goes : (y : Answer) (S : Tables) → k ≡ 0 → y ≡ answer-of [] → S ≡ identified T (v .place) x sort static final
+      → leaves y S ≡ line-outcome line (states (M x sort c static final)) top many T
+  unfolding identify-sight
+  identify-goes y S z ey es =
+      goes line (states (M x sort c static final)) top many T y [] S (sym identify-number ∙ z) ey (nothing-found line (M x sort c static final) (seen-in T))
+      (es ∙ identified-is-acted T x sort c static final line (asked top) (v .place) (ap (λ (u : IdentifySight). u .place) ev))

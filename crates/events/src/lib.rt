@@ -5,6 +5,7 @@ pub mod declare;
 pub mod detach;
 pub mod end;
 pub mod enter;
+pub mod identify;
 pub mod leave;
 pub mod returns;
 pub mod state;
