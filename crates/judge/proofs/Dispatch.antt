@@ -5,7 +5,7 @@ use mathlib.Core.List.{List}
 use mathlib.Core.Option.{Option}
 use lib.IntN.{ℤ}
 use lib.ListN.{take}
-use Rattle.lines.specs.Line.{N, X, C, R, A, D, Z, K, O, states}
+use Rattle.lines.specs.Line.{N, X, C, R, A, D, Z, K, O, M, states}
 use Rattle.lines.specs.Events.{result-in-line}
 use Rattle.lines.specs.declared.Event.{Event}
 use Rattle.lines.specs.declared.Event.the-variants as Event
@@ -48,6 +48,9 @@ module _ (line : ℕ) (ev : Event) (hs : List ℕ) (top : Option Item) (many : �
 
   pub of-state : {t h c : ℕ} → ev ≡ Event.State t h c → o ≡ line-outcome line (states (O t h c)) top many T → o ≡ event-outcome line ev hs top many T
   of-state p q = of-read p q
+
+  pub of-identify : {x sort c static final : ℕ} → ev ≡ Event.Identify x sort c static final → o ≡ line-outcome line (states (M x sort c static final)) top many T → o ≡ event-outcome line ev hs top many T
+  of-identify p q = of-read p q
 
   pub of-end : ev ≡ Event.End → o ≡ line-outcome line Z top many T → o ≡ event-outcome line ev hs top many T
   of-end p q = of-read p q

@@ -10,7 +10,7 @@ use lib.Dec.{eqb, leb}
 use lib.IntN.{ℤ}
 use lib.ListN.{length, take}
 use Rattle.words.specs.Choice.{if_then_else_}
-use Rattle.lines.specs.Line.{Line, N, X, C, R, A, D, Z, K, O, states, above-zero}
+use Rattle.lines.specs.Line.{Line, N, X, C, R, A, D, Z, K, O, M, states, above-zero}
 use Rattle.lines.specs.Reading.{Read, says, refused, read}
 use Rattle.lines.specs.Events.{result-in-line, event-of, slots-of}
 use Rattle.lines.specs.declared.Event.{Event}
@@ -73,6 +73,10 @@ module _ (b b' : List ℕ) (ev : Event) where
   pub none-stated : {t h c : ℕ} → ev ≡ Event.State t h c → b' ≡ b → (hs : List ℕ) → b' ≡ items-after (read-as ev hs) b
   unfolding items-moved
   none-stated p q = moved-as p (λ hs. q)
+
+  pub none-identified : {x sort c static final : ℕ} → ev ≡ Event.Identify x sort c static final → b' ≡ b → (hs : List ℕ) → b' ≡ items-after (read-as ev hs) b
+  unfolding items-moved
+  none-identified p q = moved-as p (λ hs. q)
 
   pub none-at-end : ev ≡ Event.End → b' ≡ b → (hs : List ℕ) → b' ≡ items-after (read-as ev hs) b
   unfolding items-moved
@@ -146,6 +150,7 @@ thread-is (Event.Attach t env) hs e h = let same : A t env ≡ e = cc in ap thre
 thread-is (Event.Detach t) hs e h = let same : D t ≡ e = cc in ap thread-of same
 thread-is (Event.Declare c s) hs e h = let same : states (K c s) ≡ e = cc in ap thread-of same
 thread-is (Event.State t v c) hs e h = let same : states (O t v c) ≡ e = cc in ap thread-of same
+thread-is (Event.Identify x sort c static final) hs e h = let same : states (M x sort c static final) ≡ e = cc in ap thread-of same
 thread-is Event.End hs e h = let same : Z ≡ e = cc in ap thread-of same
 thread-is (Event.Refused k) hs e h = absurd (never h)
 

@@ -10,7 +10,7 @@ use lib.IntN.{pos}
 use lib.ListN.{length, take, drop}
 use Rattle.words.specs.Choice.{if_then_else_}
 use Rattle.words.specs.Lists.{any}
-use Rattle.lines.specs.Line.{Line, N, X, C, R, A, D, Z, K, O, states, is-allowed, is-zero, most-handles, is-thread, is-env, is-argument, above-zero}
+use Rattle.lines.specs.Line.{Line, N, X, C, R, A, D, Z, K, O, M, states, is-allowed, is-zero, most-handles, is-thread, is-env, is-argument, above-zero}
 use Rattle.lines.specs.Reading.{Read, says, refused, read}
 use Rattle.lines.specs.Events.{gives-status, event-of, slots-of, not-zero, with-slots, meant}
 use Rattle.lines.specs.declared.Event.{Event}
@@ -47,6 +47,7 @@ as-meant (Event.Attach t env) hs e h = slots-said 0 hs (A t env) e h
 as-meant (Event.Detach t) hs e h = slots-said 0 hs (D t) e h
 as-meant (Event.Declare c s) hs e h = slots-said 0 hs (states (K c s)) e h
 as-meant (Event.State t v c) hs e h = slots-said 0 hs (states (O t v c)) e h
+as-meant (Event.Identify x sort c static final) hs e h = slots-said 0 hs (states (M x sort c static final)) e h
 as-meant Event.End hs e h = slots-said 0 hs Z e h
 as-meant (Event.Refused k) hs e h = absurd (never h)
 
@@ -77,6 +78,7 @@ few-read bs (says (D t)) h = omega arith
 few-read bs (says Z) h = omega arith
 few-read bs (says (states (K c s))) h = omega arith
 few-read bs (says (states (O t v c))) h = omega arith
+few-read bs (says (states (M x sort c static final))) h = omega arith
 
 pub few-slots : (bs : List ℕ) (ev : Event) → ev ≡ event-of (read bs) → slots-named ev ≤ most-handles
 few-slots bs ev r = subst (λ (v : Event). slots-named v ≤ most-handles) (sym r) (few-read bs (read bs) refl)

@@ -2,7 +2,7 @@
 use Prim.Native.Nat.{ℕ}
 use mathlib.Core.List.{List}
 use lib.ListN.{take}
-use Rattle.lines.specs.Line.{N, X, C, R, A, D, Z, K, O, states}
+use Rattle.lines.specs.Line.{N, X, C, R, A, D, Z, K, O, M, states}
 use Rattle.lines.specs.Reading.{Read, says, refused}
 use Rattle.lines.specs.Events.{result-in-line}
 use Rattle.lines.specs.declared.Event.{Event}
@@ -18,6 +18,7 @@ read-as (Event.Attach t env) hs = says (A t env)
 read-as (Event.Detach t) hs = says (D t)
 read-as (Event.Declare c s) hs = says (states (K c s))
 read-as (Event.State t h c) hs = says (states (O t h c))
+read-as (Event.Identify x sort c static final) hs = says (states (M x sort c static final))
 read-as Event.End hs = says Z
 read-as (Event.Refused k) hs = refused k
 
@@ -31,6 +32,7 @@ thread-named (Event.Attach t env) = t
 thread-named (Event.Detach t) = t
 thread-named (Event.Declare c s) = 0
 thread-named (Event.State t h c) = 0
+thread-named (Event.Identify x sort c static final) = 0
 thread-named Event.End = 0
 thread-named (Event.Refused k) = 0
 
@@ -44,6 +46,7 @@ slots-named (Event.Attach t env) = 0
 slots-named (Event.Detach t) = 0
 slots-named (Event.Declare c s) = 0
 slots-named (Event.State t h c) = 0
+slots-named (Event.Identify x sort c static final) = 0
 slots-named Event.End = 0
 slots-named (Event.Refused k) = 0
 

@@ -21,6 +21,7 @@ pub fn thread_of(event: Event) -> u32
         Event::Detach { thread } => thread,
         Event::Declare { .. } => 0,
         Event::State { .. } => 0,
+        Event::Identify { .. } => 0,
         Event::End => 0,
         Event::Refused(_) => 0,
     }
@@ -51,6 +52,7 @@ pub fn move_item(book: &mut [u64], event: Event)
         Event::Detach { thread } => book::pop_item(book, thread),
         Event::Declare { .. } => {}
         Event::State { .. } => {}
+        Event::Identify { .. } => {}
         Event::End => {}
         Event::Refused(_) => {}
     }

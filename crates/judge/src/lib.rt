@@ -155,6 +155,21 @@ fn on_event(
             handle,
             class,
         } => events::state::state(rows, marks, book, classes, thread, handle, class),
+        Event::Identify {
+            identity,
+            sort,
+            class,
+            isstatic,
+            isfinal,
+        } => events::identify::identify(
+            book,
+            classes,
+            identity,
+            sort,
+            class,
+            isstatic,
+            isfinal,
+        ),
         Event::End => events::end::end(rows, marks, pins, pinmarks, book, line),
         Event::Refused(k) => answers::refused(k),
     }

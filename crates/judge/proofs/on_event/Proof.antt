@@ -4,7 +4,7 @@ use mathlib.Core.Path.{refl, sym}
 use mir.Facts.{toZ-ofZ}
 use lib.Seq.{length-take-le}
 use Rattle.judge.proofs.Reading.{few-named}
-use Rattle.judge.proofs.Dispatch.{of-enter, of-leave, of-call, of-return, of-attach, of-detach, of-declare, of-state, of-end, of-refused}
+use Rattle.judge.proofs.Dispatch.{of-enter, of-leave, of-call, of-return, of-attach, of-detach, of-declare, of-state, of-identify, of-end, of-refused}
 use borrow.Author.Needs.{needs, sfits-of}
 use Rattle.judge.proofs.on_event.Statement.{statement}
 use Rattle.judge.proofs.on_event.Tie as tie
@@ -34,10 +34,13 @@ returns-8 : tie.Need-returns-8
 returns-8 c = let at-state = c .before .before .before .before in let at-event8 = at-state .before .before .before .before .before .before in of-state _ _ _ _ _ _ _ (at-event8 .event8 .given .1) (at-state .state .ensures _ _ _ _ _)
 
 returns-9 : tie.Need-returns-9
-returns-9 c = let at-end = c .before .before in let at-enum-told = at-end .before .before .before .before .before .before in of-end _ _ _ _ _ _ _ (at-enum-told .enum-told .given .1) (at-end .end .ensures _ _ _)
+returns-9 c = let at-identify = c .before .before .before .before in let at-event9 = at-identify .before .before .before .before in of-identify _ _ _ _ _ _ _ (at-event9 .event9 .given .1) (at-identify .identify .ensures _ _ _ _ _ _ _)
 
 returns-10 : tie.Need-returns-10
-returns-10 c = of-refused _ _ _ _ _ _ _ _ (c .before .before .event9 .given .1) (c .refused .ensures) refl
+returns-10 c = let at-end = c .before .before in let at-enum-told = at-end .before .before .before .before .before .before in of-end _ _ _ _ _ _ _ (at-enum-told .enum-told .given .1) (at-end .end .ensures _ _ _)
+
+returns-11 : tie.Need-returns-11
+returns-11 c = of-refused _ _ _ _ _ _ _ _ (c .before .before .event10 .given .1) (c .refused .ensures) refl
 
 pub on-event-spec : {M : Type 1} → statement M
 on-event-spec =
@@ -47,6 +50,8 @@ on-event-spec =
     (λ c. search needs)
     (λ c. let at-event = c .before .before .before .before in let at-pre = at-event .before .before .before .before .before .before .before .before in omega (arith, few-named _ (at-pre .pre) (at-event .event .given .1)))
     (λ c. let at-event = c .before .before .before .before .before in let at-pre = at-event .before .before .before .before .before .before .before .before in sym (length-take-le _ _ (omega (arith, few-named _ (at-pre .pre) (at-event .event .given .1)))))
+    (λ c κs. search needs)
+    (λ c. search needs)
     (λ c κs. search needs)
     (λ c. search needs)
     (λ c κs. search needs)
@@ -107,10 +112,13 @@ on-event-spec =
     (λ c. let at-state = c .before .before .before .before in at-state .state .kept .1 .1 .0)
     (λ c. refl)
     returns-8
+    (λ c. let at-identify = c .before .before .before .before in at-identify .identify .kept .0)
+    (λ c. let at-identify = c .before .before .before .before in at-identify .identify .kept .1 .0)
+    returns-9
     (λ c. refl)
     (λ c. refl)
     (λ c. refl)
     (λ c. refl)
     (λ c. c .before .before .end .kept .1 .1 .1 .1 .0)
-    returns-9
-    returns-10)
+    returns-10
+    returns-11)

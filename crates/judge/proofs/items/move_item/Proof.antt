@@ -1,7 +1,7 @@
 -- `judge::items::move_item` meets its contract. Assumes nothing.
 use mathlib.Core.Path.{refl}
 use mir.Facts.{toZ-ofZ}
-use Rattle.judge.proofs.Moving.{native-opened, native-closed, call-opened, call-closed, attached-opened, attached-closed, none-declared, none-stated, none-at-end, none-refused}
+use Rattle.judge.proofs.Moving.{native-opened, native-closed, call-opened, call-closed, attached-opened, attached-closed, none-declared, none-stated, none-identified, none-at-end, none-refused}
 use borrow.Author.Needs.{needs, sfits-of}
 use Rattle.judge.proofs.items.move_item.Statement.{statement}
 use Rattle.judge.proofs.items.move_item.Tie as tie
@@ -27,6 +27,7 @@ move-item-spec =
     (λ c. search needs)
     (λ c. search needs)
     (λ c. search needs)
+    (λ c. search needs)
     (λ c. c .before .before .push-item .kept .0)
     (λ c. let at-push-item = c .before .before in let at-event = at-push-item .before .before .before in native-opened _ _ _ (at-event .event .given .1) (at-push-item .push-item .ensures))
     (λ c. c .before .before .pop-item .kept .0)
@@ -41,5 +42,6 @@ move-item-spec =
     (λ c. let at-pop-item3 = c .before .before in let at-event6 = at-pop-item3 .before .before .before in attached-closed _ _ _ (at-event6 .event6 .given .1) (at-pop-item3 .pop-item3 .ensures))
     (λ c. none-declared _ _ _ (c .enum-told .given .1) refl)
     (λ c. none-stated _ _ _ (c .enum-told2 .given .1) refl)
-    (λ c. none-at-end _ _ _ (c .enum-told3 .given .1) refl)
-    (λ c. none-refused _ _ _ (c .enum-told4 .given .1) refl))
+    (λ c. none-identified _ _ _ (c .enum-told3 .given .1) refl)
+    (λ c. none-at-end _ _ _ (c .enum-told4 .given .1) refl)
+    (λ c. none-refused _ _ _ (c .enum-told5 .given .1) refl))
