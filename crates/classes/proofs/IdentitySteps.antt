@@ -3,7 +3,7 @@ use Prim.Native.Nat.{ℕ, _+_, _-_, _*_, _/_, _%_, _≤_, _<_}
 use mathlib.Core.Path.{_≡_, refl, sym, _∙_}
 use mathlib.Core.Bool.{Bool, true, false, _||_}
 use mathlib.Core.List.{List}
-use native.Mathlib.Nat.{add-zero, mod-lt}
+use native.Mathlib.Nat.{add-zero, sub-zero, mod-lt}
 use native.Mathlib.Omega.{arith}
 use borrow.Author.Tests.{lt-ltb, le-ltb, eq-eqb, ne-eqb}
 use lib.Dec.{eqb, ltb}
@@ -53,10 +53,10 @@ module _ (cs : List ℕ) (x many : ℕ) (e : many ≡ identity-room cs) where
 
     module _ (over : many ≤ behind) (before : ℕ) (g : before ≡ first-from (is-for cs x) 0 ((x / 4) % many - 0)) where
       pub place-before : before < (x / 4) % many → before ≡ place-of cs x
-      place-before l = around-before (is-for cs x) many ((x / 4) % many) behind f over before g l ∙ around-own
+      place-before l = around-before (is-for cs x) many ((x / 4) % many) behind f over before (rw sub-zero at g) l ∙ around-own
 
       pub place-none : (x / 4) % many ≤ before → many ≡ place-of cs x
-      place-none l = around-none (is-for cs x) many ((x / 4) % many) behind f over before g l ∙ around-own
+      place-none l = around-none (is-for cs x) many ((x / 4) % many) behind f over before (rw sub-zero at g) l ∙ around-own
 
 -- ---- what is stated
 

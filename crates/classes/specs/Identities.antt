@@ -6,6 +6,7 @@ use lib.Dec.{eqb, ltb}
 use lib.ListN.{length, getD, set}
 use Rattle.words.specs.Choice.{if_then_else_}
 use Rattle.lines.specs.Line.{classes}
+use Rattle.rows.specs.Scan.{how-many}
 use Rattle.history.specs.Identities.{not-stated}
 use Rattle.history.specs.declared.Identity.{Identity}
 
@@ -52,9 +53,12 @@ place-of cs x = first-around (is-for cs x) (identity-room cs) (own-place (identi
 
 -- ---- what is stated of it
 
+abbrev pub is-used : List ℕ → ℕ → Bool
+is-used cs i = not (eqb (identity-number cs i 0) 0)
+
 abbrev pub identity-at : List ℕ → ℕ → Identity
 identity-at cs i =
-    if ltb i (identity-room cs) && not (eqb (identity-number cs i 0) 0) then
+    if ltb i (identity-room cs) && is-used cs i then
     record { sort = identity-number cs i 1; isstatic = identity-number cs i 2; isfinal = identity-number cs i 3 }
     else not-stated
 
@@ -67,3 +71,8 @@ with-identity cs i x sort static final =
     if ltb i (identity-room cs) then
     set (set (set (set cs (identity-from i) x) (identity-from i + 1) sort) (identity-from i + 2) static) (identity-from i + 3) final
     else cs
+
+-- ---- how many are stated
+
+unfoldable pub used-places : List ℕ → ℕ
+used-places cs = how-many (is-used cs) (identity-room cs)

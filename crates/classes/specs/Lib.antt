@@ -1,3 +1,5 @@
 -- believed
 pub mod Supers
 pub mod Identities
+-- words
+pub mod Placed
