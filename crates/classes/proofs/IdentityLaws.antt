@@ -6,12 +6,12 @@ use mathlib.Core.List.{List}
 use mathlib.Core.Logic.{_⊎_, inl, inr}
 use native.Mathlib.Decide.{decLt}
 use native.Mathlib.Omega.{arith}
-use borrow.Author.Tests.{lt-ltb, le-ltb, eqb-true, eqb-false, eq-eqb, ne-eqb}
+use borrow.Author.Tests.{lt-ltb, le-ltb, ltb-true, not-false, eqb-true, eqb-false, eq-eqb, ne-eqb}
 use lib.Dec.{eqb, ltb}
 use lib.ListN.{getD, replicate, length-replicate, getD-replicate, List·getD-eq-default}
 use Rattle.words.specs.Choice.{if_then_else_}
 use Rattle.lines.specs.Line.{classes}
-use Rattle.lines.proofs.Tests.{neither, or-true, and-false}
+use Rattle.lines.proofs.Tests.{both, neither, or-true, and-false}
 use Rattle.rows.specs.Scan.{how-many}
 use Rattle.rows.proofs.ScanLaws.{how-many-ext, how-many-le, none-passes}
 use Rattle.history.specs.Identities.{not-stated}
@@ -106,6 +106,20 @@ module _ (cs : List ℕ) (x : ℕ) where
   pub free-not-full : place-of cs x < identity-room cs → identity-number cs (place-of cs x) 0 ≡ 0 → used-places cs < identity-room cs
   unfolding used-places
   free-not-full l z = one-misses (is-used cs) (identity-room cs) (place-of cs x) l (rw (eq-eqb (identity-number cs (place-of cs x) 0) 0 z) refl)
+
+  -- what stands has its place, and what does not has none where all are used
+  pub stands-below : stands cs x ≡ true → place-of cs x < identity-room cs
+  stands-below y = ltb-true (place-of cs x) (identity-room cs) (both (ltb (place-of cs x) (identity-room cs)) (is-used cs (place-of cs x)) y .0)
+
+  pub used-up : stands cs x ≡ false → used-places cs ≡ identity-room cs → identity-room cs ≤ place-of cs x
+  used-up s e = go (decLt (place-of cs x) (identity-room cs))
+    where
+      free : place-of cs x < identity-room cs → identity-number cs (place-of cs x) 0 ≡ 0
+      free l = eqb-true (identity-number cs (place-of cs x) 0) 0 (not-false (eqb (identity-number cs (place-of cs x) 0) 0) (rw (lt-ltb (place-of cs x) (identity-room cs) l) at s))
+
+      go : Dec (place-of cs x < identity-room cs) → identity-room cs ≤ place-of cs x
+      go (yes l) = absurd (omega (arith, free-not-full l (free l)))
+      go (no l) = omega arith
 
 pub used-le : (cs : List ℕ) → used-places cs ≤ identity-room cs
 unfolding used-places

@@ -25,7 +25,7 @@ use Rattle.demands.specs.Tied.{past-classes}
 use Rattle.demands.specs.Calls.{room-of, Long, after, from-start, heard-by, all-found}
 use Rattle.demands.specs.Demands.{Out-of-room, From-a-start, Demands}
 use Rattle.demands.proofs.PastRows.{rows-hold, pin-rows-hold}
-use Rattle.demands.proofs.Weighed.{used-rows, used-pin-rows}
+use Rattle.demands.proofs.Weighed.{super-tied, identity-tied, used-identities, used-rows, used-pin-rows}
 use Rattle.demands.proofs.Started.{fit}
 use Rattle.demands.proofs.Next.{same-length}
 use Rattle.demands.proofs.Stepped.{with-line-in, answered, step-is, follows}
@@ -121,7 +121,7 @@ built-is T long (bs ∷ before) =
 built-classes : (T : Tables) (past : History) → length (built T past .classes) ≡ length (T .classes)
 unfolding acted
 built-classes T [] = refl
-built-classes T (e ∷ past) = same-length e (built T past) ∙ built-classes T past
+built-classes T (e ∷ past) = same-length e (built T past .classes) ∙ built-classes T past
 
 as-many : (T : Tables) → Long T → (calls : List (List ℕ)) → length (after (start-of T) calls .classes) ≡ length (T .classes)
 unfolding start-of
@@ -158,6 +158,9 @@ from-a-start-has T long calls =
       reference-numbers = references-exact (room-of T) T calls past (k .tables);
       pin-numbers = pins-exact (room-of T) T calls past (k .tables);
       class-numbers = k .tables .class-table ∙ ap (λ (n : ℕ). past-classes n past) (as-many T long calls);
+      supers-are = super-tied (room-of T) S past (k .tables) so-far;
+      identities-are = identity-tied (room-of T) S past (k .tables) so-far;
+      places-used = used-identities (room-of T) S past (k .tables) so-far;
       fixed-by-history =
           λ R alike others same.
           ap (λ (X : Tables). after X others) (start-is R T alike)

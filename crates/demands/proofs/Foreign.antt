@@ -23,7 +23,7 @@ use Rattle.history.specs.declared.Finding.{Finding}
 use Rattle.book.specs.Threads.{items-in, lines-in}
 use Rattle.book.specs.Moves.{cleared as book-cleared}
 use Rattle.tables.specs.Tables.{Tables, seen-in}
-use Rattle.tables.specs.Weighing.{rows-left, refusal-in, weighed-in}
+use Rattle.tables.specs.Weighing.{rows-left, place-left, refusal-in, weighed-in}
 use Rattle.tables.specs.Stepping.{Stepped, stepped, untouched, follow, next-line, on-line, on-read, unfit-tables, step-of, start-of}
 use Rattle.demands.specs.Calls.{Alike}
 
@@ -66,7 +66,7 @@ first-number true true true true true true = (omega arith, λ z. omega (arith, z
 refusal-number : (e : Line) (top : Option Item) (many : ℕ) (T : Tables) → Small (refusal-in e top many T)
 unfolding refusal-in
 refusal-number e top many T =
-    first-number (in-step e top (seen-in T .closed)) (env-right e (seen-in T)) (makes-anew e (seen-in T)) (classes-right e (seen-in T)) (names-alive e (seen-in T)) (rows-left e T && has-item-room e many)
+    first-number (in-step e top (seen-in T .closed)) (env-right e (seen-in T)) (makes-anew e (seen-in T)) (classes-right e (seen-in T)) (names-alive e (seen-in T)) (place-left e T && rows-left e T && has-item-room e many)
 
 line-sound : (T : Tables) (e : Line) (is : List Item) → Sound T (on-line e is T)
 unfolding weighed-in

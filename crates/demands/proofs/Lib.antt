@@ -5,6 +5,7 @@ pub mod Changed
 pub mod PastRoom
 pub mod Allowed
 pub mod Placed
+pub mod PastClasses
 pub mod Weighed
 pub mod RowsActed
 pub mod BookActed

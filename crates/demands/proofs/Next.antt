@@ -1,17 +1,17 @@
 -- Tied tables are tied again after an accepted line: first all but the open items, then the open items. Assumes nothing.
-use Prim.Native.Nat.{ℕ, suc, _-_, _≤_, _<_}
+use Prim.Native.Nat.{ℕ, suc, _-_, _/_, _≤_, _<_}
 use mathlib.Core.Path.{_≡_, refl, sym, ap, _∙_}
 use mathlib.Core.Bool.{Bool, true, false, _&&_}
 use mathlib.Core.List.{List, _∷_, tail}
 use native.Mathlib.Decide.{ℕ-discrete}
 use native.Mathlib.Omega.{arith}
 use lib.Dec.{eqb, leb, ltb}
-use lib.ListN.{length, set, length-set}
-use borrow.Author.Tests.{ne-eqb, ltb-true, leb-true, le-leb}
-use Rattle.words.specs.Choice.{if_then_else_, within}
+use lib.ListN.{length}
+use borrow.Author.Tests.{ne-eqb, ltb-true}
+use Rattle.words.specs.Choice.{if_then_else_}
 use Rattle.words.specs.Lists.{count}
 use Rattle.facts.specs.Named.{PushLocalFrame}
-use Rattle.lines.specs.Line.{Line, N, X, C, R, A, D, Z, states, K, O, is-allowed, is-zero, threads, classes, is-class, above-zero}
+use Rattle.lines.specs.Line.{Line, N, X, C, R, A, D, Z, states, K, O, M, is-allowed, is-zero, threads, classes, above-zero}
 use Rattle.history.specs.Past.{History, thread-of, is-of, closed}
 use Rattle.history.specs.Items.{Item, items, items-after, top-of, asked}
 use Rattle.history.specs.Frames.{Frame, pushed, frames, frames-after, depth}
@@ -20,9 +20,7 @@ use Rattle.history.specs.Thread.{monitors}
 use Rattle.history.specs.Acceptance.{Room, deepest}
 use Rattle.history.specs.Replies.{most-lines}
 use Rattle.history.specs.Accepted.{Accepted, and-line}
-use Rattle.rows.proofs.SlotLaws.{each-set}
-use Rattle.history.specs.Classes.{super-of}
-use Rattle.history.proofs.Tests.{and-left, and-right, eqb-self}
+use Rattle.history.proofs.Tests.{eqb-self}
 use Rattle.history.proofs.Accepting.{passed}
 use Rattle.history.proofs.Threads.{own-items, other-items}
 use Rattle.history.proofs.Stacks.{monitors-in-lines}
@@ -34,7 +32,9 @@ use Rattle.book.proofs.Changing.{item-pushed-changes, pushed-native, pushed-att
 use Rattle.book.proofs.Tracing.{line-counted-traces, closed-set-traces}
 use Rattle.tables.specs.Tables.{Tables, handles-in}
 use Rattle.tables.specs.Acting.{book-after, classes-after, acted, items-moved}
-use Rattle.classes.specs.Supers.{with-super}
+use Rattle.classes.specs.Identities.{identity-room, place-of}
+use Rattle.classes.proofs.PutLaws.{put-length}
+use Rattle.classes.proofs.SuperLaws.{declared-length}
 use Rattle.tables.specs.Stepping.{with-items}
 use Rattle.demands.specs.Tied.{past-classes, past-thread, Tied, Items-tied}
 use Rattle.demands.proofs.Weighed.{frames-own, handles-tied, own-frames-tied}
@@ -173,43 +173,23 @@ module _ (room : Room) (T : Tables) (past : History) (tied : Tied room T past) (
       counted = line-counted-traces (T .book) (omega (arith, tied .long)) (omega (arith, tied .lines))
 
 -- all but the open items is tied again; n is what was asked of the open call on top
--- K declares its class, and no other line touches the class table
-classes-acted : (room : Room) (T : Tables) (past : History) → Tied room T past → (e : Line) → is-allowed e ≡ true → classes-after e T ≡ past-classes (length (T .classes)) (e ∷ past)
-unfolding classes-after past-classes super-of with-super
-classes-acted room T past tied (N t env hs) fine = tied .class-table
-classes-acted room T past tied (X t r) fine = tied .class-table
-classes-acted room T past tied (C t env f a b c n) fine = tied .class-table
-classes-acted room T past tied (R t f r p) fine = tied .class-table
-classes-acted room T past tied (A t env) fine = tied .class-table
-classes-acted room T past tied (D t) fine = tied .class-table
-classes-acted room T past tied Z fine = tied .class-table
-classes-acted room T past tied (states (O t h c)) fine = tied .class-table
-classes-acted room T past tied (states (K c s)) fine =
-    let k = and-left (is-class c) (is-class s) fine in
-    let low = leb-true 1 c (and-left (leb 1 c) (leb c classes) k) in
-    let high = leb-true c classes (and-right (leb 1 c) (leb c classes) k) in
-    let is : suc (c - 1) ≡ c = omega arith in
-    rw (le-leb 1 c low, le-leb c (length (T .classes)) (omega (arith, tied .all-classes)))
-    (ap (λ (cs : List ℕ). set cs (c - 1) s) (tied .class-table)
-    ∙ sym (each-set (λ i. super-of past (suc i)) (λ i. if eqb (suc i) c then s else super-of past (suc i)) (length (T .classes)) (c - 1) s (omega (arith, tied .all-classes))
-    (rw (is, eqb-self c))
-    (λ i n. rw (ne-eqb (suc i) c (λ z. n (omega (arith, z, is)))))))
+-- the class table is the one that the lines leave
+classes-acted : (room : Room) (T : Tables) (past : History) → Tied room T past → (e : Line) → classes-after e (T .classes) ≡ past-classes (length (T .classes)) (e ∷ past)
+unfolding past-classes
+classes-acted room T past tied e = ap (classes-after e) (tied .class-table)
 
-pub same-length : (e : Line) (T : Tables) → length (classes-after e T) ≡ length (T .classes)
-unfolding classes-after with-super
-same-length (N t env hs) T = refl
-same-length (X t r) T = refl
-same-length (C t env f a b c n) T = refl
-same-length (R t f r p) T = refl
-same-length (A t env) T = refl
-same-length (D t) T = refl
-same-length Z T = refl
-same-length (states (O t h c)) T = refl
-same-length (states (K c s)) T = go (within 1 (length (T .classes)) c)
-  where
-    go : (q : Bool) → length (if q then set (T .classes) (c - 1) s else T .classes) ≡ length (T .classes)
-    go true = length-set (T .classes) (c - 1) s
-    go false = refl
+pub same-length : (e : Line) (cs : List ℕ) → length (classes-after e cs) ≡ length cs
+unfolding classes-after
+same-length (N t env hs) cs = refl
+same-length (X t r) cs = refl
+same-length (C t env f a b c n) cs = refl
+same-length (R t f r p) cs = refl
+same-length (A t env) cs = refl
+same-length (D t) cs = refl
+same-length Z cs = refl
+same-length (states (K c s)) cs = declared-length cs c s
+same-length (states (O t h c)) cs = refl
+same-length (states (M x sort c static final)) cs = put-length cs (place-of cs x) x sort static final
 
 pub next : (room : Room) (T : Tables) (e : Line) (past : History) → Tied room T past → Accepted room (e ∷ past)
     → Tied room (acted (suc (length past)) e (asked (top-of (items (thread-of e) past))) T) (e ∷ past)
@@ -223,8 +203,9 @@ next room T e past tied (and-line _ _ few fine no-refusal so-far) =
       lines = book .lines-so;
       end-mark = book .closed-so;
       long = omega (arith, book .as-long, tied .long);
-      class-table = classes-acted room T past tied e fine ∙ ap (λ (n : ℕ). past-classes n (e ∷ past)) (sym (same-length e T));
-      all-classes = omega (arith, same-length e T, tied .all-classes);
+      class-table = classes-acted room T past tied e ∙ ap (λ (n : ℕ). past-classes n (e ∷ past)) (sym (same-length e (T .classes)));
+      all-classes = omega (arith, same-length e (T .classes), tied .all-classes);
+      places = unfold identity-room in ap (λ (n : ℕ). (n - classes) / 4) (same-length e (T .classes)) ∙ tied .places;
     }
 
 -- and has not touched the open items
@@ -330,4 +311,5 @@ rest-untouched room T e past tied opened (and-line _ _ few fine no-refusal so-fa
       long = omega (arith, m .as-long, tied .long);
       class-table = tied .class-table;
       all-classes = tied .all-classes;
+      places = tied .places;
     }

@@ -10,7 +10,7 @@ use Rattle.facts.specs.Table.{fact-of, family}
 use Rattle.facts.specs.Classes.{no-class, class-made}
 use Rattle.facts.specs.Named.{PopLocalFrame}
 use Rattle.facts.specs.Results.{is-buffer-place}
-use Rattle.lines.specs.Line.{Line, N, X, C, R, A, D, Z, states, K, O}
+use Rattle.lines.specs.Line.{Line, N, X, C, R, A, D, Z, states, K, O, M}
 use Rattle.lines.specs.Reading.{Read, says, refused, read}
 use Rattle.rows.specs.Table.{Layout, Table, row, row-at, found, taken, ended-all}
 use Rattle.rows.specs.Exact.{Exact}
@@ -68,6 +68,7 @@ module _ (T : Tables) (k : Clean-tables T) where
   clean-references line (D t) = clean-ended-all references (from-frame t 1) (T .references) (k .reference-table)
   clean-references line Z = clean-all-taken references (map (reference-of line no-class) (made-by Z (seen-in T))) (T .references) (k .reference-table)
   clean-references line (states (K c s)) = clean-all-taken references (map (reference-of line no-class) (made-by (states (K c s)) (seen-in T))) (T .references) (k .reference-table)
+  clean-references line (states (M x sort c static final)) = clean-all-taken references (map (reference-of line no-class) (made-by (states (M x sort c static final)) (seen-in T))) (T .references) (k .reference-table)
   clean-references line (states (O t h c)) = clean-changed references (is-handle (owner-of t h) h) (with-class c) (T .references) (k .reference-table)
 
   got-clean : (line : ℕ) (e : Line) → Clean pins (all-taken pins (T .pins) (map (pin-row-of line) (gets e)))

@@ -17,10 +17,10 @@ use Rattle.history.specs.Handles.{Alive, makes, deletes, frame-gone, living}
 use Rattle.history.specs.Buffers.{Pin, gets, releases, outstanding}
 use Rattle.history.specs.Seen.{seen}
 use Rattle.history.specs.Leaks.{Made, made-at, by-what}
-use Rattle.history.specs.Acceptance.{Room, everything, deepest, has-room, has-item-room}
+use Rattle.history.specs.Acceptance.{Room, everything, deepest, has-room, has-identity-room, has-item-room}
 use Rattle.history.specs.Items.{items}
 use Rattle.history.specs.Accepted.{Accepted, at-start, and-line}
-use Rattle.history.proofs.Tests.{and-left, and-right, all-three}
+use Rattle.history.proofs.Tests.{all-three}
 use Rattle.history.proofs.Counts.{count-all}
 use Rattle.history.proofs.Accepting.{passed, has-room-of}
 use Rattle.tables.proofs.Leaking.{held-within}
@@ -40,15 +40,16 @@ pub record Roomy (room : Room) (e : Line) (past : History) : Type 0 where
 pub roomy : (room : Room) (e : Line) (past : History) → has-room-of room e past ≡ true → Roomy room e past
 unfolding has-room seen
 roomy room e past h =
-    let fits = has-room room (thread-of e) (seen (e ∷ past)) in
+    let (stated, fits, opens) =
+    all-three (has-identity-room room (e ∷ past)) (has-room room (thread-of e) (seen (e ∷ past))) (has-item-room e (length (items (thread-of e) past))) h in
     let (a, b, c) =
     all-three (leb (count everything (living (e ∷ past))) (room .references)) (leb (count everything (outstanding (e ∷ past))) (room .pins))
-    (leb (length (frames (thread-of e) (e ∷ past))) deepest) (and-left fits (has-item-room e (length (items (thread-of e) past))) h) in
+    (leb (length (frames (thread-of e) (e ∷ past))) deepest) fits in
     record {
       handles = leb-true _ _ a;
       buffers = leb-true _ _ b;
       frames-few = leb-true _ _ c;
-      items-few = and-right fits (has-item-room e (length (items (thread-of e) past))) h;
+      items-few = opens;
     }
 
 -- ---- references

@@ -15,7 +15,7 @@ use Rattle.words.specs.Lists.{count}
 use Rattle.facts.specs.Table.{fact-of, family}
 use Rattle.facts.specs.Named.{PopLocalFrame}
 use Rattle.facts.specs.Results.{is-buffer-place}
-use Rattle.lines.specs.Line.{Line, N, X, C, R, A, D, Z, states, K, O, kind, is-thread, is-value, is-class, is-allowed}
+use Rattle.lines.specs.Line.{Line, N, X, C, R, A, D, Z, states, K, O, M, kind, is-thread, is-value, is-class, is-allowed}
 use Rattle.rows.specs.Slots.{held, wipe, wipe-first}
 use Rattle.rows.specs.Table.{Table, found, changed, ended-all}
 use Rattle.rows.specs.View.{view}
@@ -249,6 +249,8 @@ module _ (room : Room) (T : Tables) (past : History) (tied : Tied room T past) (
   references-acted Z fine k = taken Z (k .anew) (λ x. refl) (rows-added room past so-far Z (omega arith) (λ x. refl))
   references-acted (states (K c s)) fine k =
       taken (states (K c s)) (k .anew) (λ x. refl) (rows-added room past so-far (states (K c s)) (omega arith) (λ x. refl))
+  references-acted (states (M x sort c static final)) fine k =
+      taken (states (M x sort c static final)) (k .anew) (λ x. refl) (rows-added room past so-far (states (M x sort c static final)) (omega arith) (λ x. refl))
   references-acted (states (O t h c)) fine k = stated t h c fine (unfold names-alive in k .alive)
 
   -- ---- pins

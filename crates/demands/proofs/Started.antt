@@ -1,5 +1,5 @@
 -- A start ties the tables to no line at all; and tied tables have a fit book. Assumes nothing.
-use Prim.Native.Nat.{ℕ}
+use Prim.Native.Nat.{ℕ, _-_, _/_}
 use mathlib.Core.Path.{_≡_, refl, sym, ap, _∙_}
 use mathlib.Core.Bool.{false}
 use mathlib.Core.List.{[]}
@@ -12,14 +12,12 @@ use Rattle.history.specs.Frames.{frames, depth}
 use Rattle.history.specs.Capacities.{capacities}
 use Rattle.history.specs.Thread.{pending, monitors, env-of}
 use Rattle.lines.specs.Line.{classes}
-use Rattle.history.specs.Classes.{super-of}
 use Rattle.history.specs.Acceptance.{Room}
 use Rattle.history.specs.Accepted.{Accepted}
 use Rattle.history.proofs.Stacks.{natives-in-frames, framed-items, monitors-in-lines, at-most-a-million}
 use Rattle.rows.specs.Table.{room}
 use Rattle.rows.specs.References.{references}
 use Rattle.rows.specs.Pins.{pins}
-use Rattle.rows.proofs.SlotLaws.{each-same}
 use Rattle.book.specs.Threads.{Thread, thread-in, items-in, natives}
 use Rattle.book.specs.Unfit.{overdoes, unfit}
 use Rattle.book.specs.Changes.{blank}
@@ -28,6 +26,7 @@ use Rattle.book.proofs.Tracing.{cleared-blank, cleared-long}
 use Rattle.book.proofs.Fitness.{not-overdone, stays-fit}
 use Rattle.tables.specs.Tables.{Tables}
 use Rattle.tables.specs.Stepping.{unfit-tables, start-of}
+use Rattle.classes.specs.Identities.{identity-room}
 use Rattle.demands.specs.PastRows.{reference-rows, pin-rows}
 use Rattle.demands.specs.Tied.{reference-row, pin-row, past-references, past-pins, past-classes, past-thread, Tied, Items-tied}
 use Rattle.demands.specs.Calls.{room-of, Long}
@@ -40,8 +39,8 @@ unfolding blank past-thread frames capacities pending monitors env-of through
 blank-past t = refl
 
 no-classes : (n : ℕ) → replicate n 0 ≡ past-classes n []
-unfolding past-classes super-of
-no-classes n = sym (each-same 0 n)
+unfolding past-classes
+no-classes n = refl
 
 pub started : (T : Tables) → Long T → Tied (room-of T) (start-of T) []
 unfolding start-of room-of
@@ -56,6 +55,7 @@ started T (long, all) =
       long = omega (arith, cleared-long (T .book));
       class-table = no-classes (length (T .classes)) ∙ ap (λ (n : ℕ). past-classes n []) (sym (length-replicate {A = ℕ} (length (T .classes)) 0));
       all-classes = omega (arith, length-replicate {A = ℕ} (length (T .classes)) 0);
+      places = unfold identity-room in ap (λ (n : ℕ). (n - classes) / 4) (length-replicate {A = ℕ} (length (T .classes)) 0);
     }
 
 pub items-started : (T : Tables) → Items-tied (start-of T .book) []

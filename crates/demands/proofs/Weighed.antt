@@ -1,21 +1,20 @@
 -- Tied tables show what the history shows, and refuse what it refuses. Assumes nothing.
-use Prim.Native.Nat.{ℕ, zero, suc, _-_}
+use Prim.Native.Nat.{ℕ, zero, suc}
 use mathlib.Core.Path.{_≡_, refl, sym, ap, ap₂, _∙_, fun-ext}
 use mathlib.Core.Bool.{Bool, true, false, _&&_}
 use mathlib.Core.List.{List, [], _∷_}
 use native.Mathlib.Omega.{arith}
-use lib.Dec.{eqb, leb}
-use lib.ListN.{length, getD}
-use borrow.Author.Tests.{leb-true}
+use lib.Dec.{eqb, leb, ltb}
+use lib.ListN.{length}
+use borrow.Author.Tests.{le-leb}
 use Rattle.words.specs.Choice.{if_then_else_}
 use Rattle.words.specs.Lists.{count, sum, of-first}
-use Rattle.lines.specs.Line.{Line, N, X, C, R, A, D, Z, states, classes, is-class}
+use Rattle.lines.specs.Line.{Line, N, X, C, R, A, D, Z, states, K, O, M}
 use Rattle.rows.specs.Slots.{held}
 use Rattle.rows.specs.Table.{room as room-of-rows, alive}
 use Rattle.rows.specs.View.{view}
 use Rattle.rows.specs.References.{references}
 use Rattle.rows.specs.Pins.{pins}
-use Rattle.rows.proofs.SlotLaws.{getD-each}
 use Rattle.history.specs.Past.{History, thread-of, through, closed}
 use Rattle.history.specs.Items.{items, top-of}
 use Rattle.history.specs.Frames.{frames, frames-after, depth}
@@ -25,29 +24,31 @@ use Rattle.history.specs.Thread.{all-threads, monitors}
 use Rattle.history.specs.Leaks.{Made, by-what}
 use Rattle.history.specs.Statements.{names, class-stated}
 use Rattle.history.specs.Classes.{super-of}
+use Rattle.history.specs.Identities.{identity-of, identities}
 use Rattle.history.specs.Seen.{Seen, seen}
-use Rattle.history.specs.Acceptance.{Room, everything, in-step, env-right, made-by, makes-anew, classes-right, names-alive, has-room, has-item-room, first-refusal, refusal}
+use Rattle.history.specs.Acceptance.{Room, everything, in-step, env-right, made-by, makes-anew, classes-right, names-alive, has-room, has-identity-room, has-item-room, first-refusal, refusal}
 use Rattle.history.specs.Findings.{of-line}
 use Rattle.history.specs.Replies.{accepted, not-accepted}
 use Rattle.history.specs.Accepted.{Accepted}
-use Rattle.history.proofs.Tests.{and-left, and-right, eqb-self}
+use Rattle.history.proofs.Tests.{eqb-self}
 use Rattle.history.proofs.Counts.{count-all, some-member}
 use Rattle.history.proofs.Threads.{own-frames}
-use Rattle.history.proofs.Classes.{super-in-range}
 use Rattle.history.proofs.Stated.{names-means, same-class-stated, of-first-member, of-first-none}
 use Rattle.history.proofs.Stacks.{monitors-in-lines, at-most-a-million}
 use Rattle.book.specs.Threads.{Thread, thread-in, all-monitors}
 use Rattle.book.proofs.Fitness.{all-monitors-are}
 use Rattle.tables.specs.Tables.{Tables, alive-of, pin-of, handles-in, buffers-in, class-in, seen-in}
 use Rattle.classes.specs.Supers.{super-in}
-use Rattle.tables.specs.Weighing.{rows-left, refusal-in, weighed-in}
+use Rattle.classes.specs.Identities.{identity-room, place-of, identity-in, used-places}
+use Rattle.tables.specs.Weighing.{rows-left, place-left, refusal-in, weighed-in}
 use Rattle.demands.specs.PastRows.{padded, reference-rows, pin-rows}
-use Rattle.demands.specs.Tied.{encoded, reference-row, pin-row, past-references, past-pins, past-classes, past-thread, Tied}
+use Rattle.demands.specs.Tied.{encoded, reference-row, pin-row, past-references, past-pins, past-thread, Tied}
 use Rattle.demands.proofs.Slots.{count-same, length-padded, held-padded}
 use Rattle.demands.proofs.PastRows.{rows-hold, pin-rows-hold}
 use Rattle.demands.proofs.PastRoom.{rows-short, references-left, pins-short, pins-left}
 use Rattle.demands.proofs.Encoding.{encoded-counted, encoded-alive, encoded-room, encoded-of-first, unplaced, alive-of-reference, class-of-reference, unowned, pin-of-row}
 use Rattle.demands.proofs.Placed.{rows-placed, pins-owned}
+use Rattle.demands.proofs.PastClasses.{Holds, holds, stated-fit, place-fits}
 
 -- a line's own thread, and no thread for Z and statements
 pub frames-own : (e : Line) (past : History) → frames (thread-of e) (e ∷ past) ≡ frames-after e (frames (thread-of e) past)
@@ -123,19 +124,19 @@ module _ (room : Room) (T : Tables) (past : History) (tied : Tied room T past) (
           ∙ same-class-stated past t h (y .what) x (names-means t h (y .what) l) (names-means t h x k)
           ∙ sym (of-first-member (names t h) (class-stated past) (living past) x i k (λ z m. same-class-stated past t h z x (names-means t h z m) (names-means t h x k)))
 
-  super-tied : (c : ℕ) → super-in (T .classes) c ≡ super-of past c
-  unfolding super-in past-classes
-  super-tied c = go (is-class c) refl
-    where
-      go : (q : Bool) → is-class c ≡ q → (if q then getD (T .classes) (c - 1) 0 else 0) ≡ super-of past c
-      go true k =
-          let low = leb-true 1 c (and-left (leb 1 c) (leb c classes) k) in
-          let high = leb-true c classes (and-right (leb 1 c) (leb c classes) k) in
-          let is : suc (c - 1) ≡ c = omega arith in
-          ap (λ (cs : List ℕ). getD cs (c - 1) 0) (tied .class-table)
-          ∙ getD-each (λ i. super-of past (suc i)) (length (T .classes)) (c - 1) 0 (omega (arith, tied .all-classes))
-          ∙ ap (super-of past) is
-      go false k = sym (super-in-range room past so-far c k)
+  table-tied : Holds (length (T .classes)) past
+  unfolding identity-room
+  table-tied = holds room (length (T .classes)) (tied .all-classes) (tied .places) past so-far
+
+  pub super-tied : (c : ℕ) → super-in (T .classes) c ≡ super-of past c
+  super-tied c = ap (λ (cs : List ℕ). super-in cs c) (tied .class-table) ∙ table-tied .supers c
+
+  pub identity-tied : (x : ℕ) → identity-in (T .classes) x ≡ identity-of past x
+  identity-tied x = ap (λ (cs : List ℕ). identity-in cs x) (tied .class-table) ∙ table-tied .stated x
+
+  -- as many places are used as identities are stated
+  pub used-identities : used-places (T .classes) ≡ length (identities past)
+  used-identities = ap used-places (tied .class-table) ∙ table-tied .used
 
   monitors-tied : all-monitors (T .book) ≡ sum (λ t. monitors t past) all-threads
   unfolding past-thread
@@ -159,6 +160,7 @@ module _ (room : Room) (T : Tables) (past : History) (tied : Tied room T past) (
         buffers = λ test. buffers-tied test i;
         class = λ t h. class-tied t h i;
         super = λ c. super-tied c i;
+        identity = λ x. identity-tied x i;
         closed = tied .end-mark i;
       }
 
@@ -206,13 +208,35 @@ module _ (room : Room) (T : Tables) (past : History) (tied : Tied room T past) (
     rows-left-tied =
         rw (makes-tied, alive-tied, room-references, pins-tied, room-pins, frames-tied, references-left room past so-far e, pins-left room past so-far e)
 
+    -- and a place for the identity that it states
+    place-left-tied : place-left e T ≡ has-identity-room room (e ∷ past)
+    unfolding place-left identities identity-room
+    place-left-tied = go e
+      where
+        fit : true ≡ leb (length (identities past)) (room .identities)
+        fit = sym (le-leb (length (identities past)) (room .identities) (stated-fit room (length (T .classes)) (tied .all-classes) (tied .places) past table-tied))
+
+        go : (e : Line) → place-left e T ≡ has-identity-room room (e ∷ past)
+        go (N t env hs) = fit
+        go (X t r) = fit
+        go (C t env f a b c n) = fit
+        go (R t f r p) = fit
+        go (A t env) = fit
+        go (D t) = fit
+        go Z = fit
+        go (states (K c s)) = fit
+        go (states (O t h c)) = fit
+        go (states (M x sort c static final)) =
+            ap (λ (cs : List ℕ). ltb (place-of cs x) (identity-room cs)) (tied .class-table)
+            ∙ place-fits room (length (T .classes)) (tied .all-classes) (tied .places) past table-tied x sort c static final
+
     pub refusal-tied : refusal-in e (top-of (items (thread-of e) past)) (length (items (thread-of e) past)) T ≡ refusal room e past
     unfolding refusal-in refusal seen
     refusal-tied =
         let top = top-of (items (thread-of e) past) in
         let many = length (items (thread-of e) past) in
-        ap (λ (v : Seen). first-refusal (in-step e top (v .closed)) (env-right e v) (makes-anew e v) (classes-right e v) (names-alive e v) (rows-left e T && has-item-room e many)) seen-tied
-        ∙ ap (λ (q : Bool). first-refusal (in-step e top (seen past .closed)) (env-right e (seen past)) (makes-anew e (seen past)) (classes-right e (seen past)) (names-alive e (seen past)) (q && has-item-room e many)) rows-left-tied
+        ap (λ (v : Seen). first-refusal (in-step e top (v .closed)) (env-right e v) (makes-anew e v) (classes-right e v) (names-alive e v) (place-left e T && rows-left e T && has-item-room e many)) seen-tied
+        ∙ ap₂ (λ (p q : Bool). first-refusal (in-step e top (seen past .closed)) (env-right e (seen past)) (makes-anew e (seen past)) (classes-right e (seen past)) (names-alive e (seen past)) (p && q && has-item-room e many)) place-left-tied rows-left-tied
 
     -- the same reply
     pub weighed-tied : (line : ℕ) → weighed-in line e (top-of (items (thread-of e) past)) (length (items (thread-of e) past)) T

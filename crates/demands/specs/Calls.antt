@@ -14,14 +14,15 @@ use Rattle.history.specs.Replies.{Reply, accepted, not-accepted, heard}
 use Rattle.history.specs.Runs.{findings-in}
 use Rattle.history.specs.Report.{lines-of, shown-finding, end-line}
 use Rattle.history.specs.declared.Finding.{Finding}
+use Rattle.classes.specs.Identities.{identity-room}
 use Rattle.book.specs.Layout.{whole}
 use Rattle.book.specs.Threads.{lines-in, closed-in}
 use Rattle.tables.specs.Tables.{Tables}
 use Rattle.tables.specs.Stepping.{step-of, start-of}
 
--- room is the lesser of rows and marks, at most 65,536
+-- room is the lesser of rows and marks, at most 65,536; of identities, as many places as the class table has behind its classes
 unfoldable pub room-of : Tables → Room
-room-of T = record { references = room references (T .references); pins = room pins (T .pins) }
+room-of T = record { references = room references (T .references); pins = room pins (T .pins); identities = identity-room (T .classes) }
 
 -- the lent thread book and the class table are not short
 abbrev pub Long : Tables → Type 0

@@ -25,6 +25,10 @@ use Rattle.history.specs.Replies.{not-accepted, most-lines, reply, heard}
 use Rattle.history.specs.Refusals.{In-step, Wrong-env, Made-again, Wrong-class, Names-dead, Exceeds}
 use Rattle.history.specs.Verdicts.{Weighs}
 use Rattle.history.specs.Report.{report}
+use Rattle.history.specs.Classes.{super-of}
+use Rattle.history.specs.Identities.{identity-of, identities}
+use Rattle.classes.specs.Supers.{super-in}
+use Rattle.classes.specs.Identities.{identity-in, used-places}
 use Rattle.book.specs.Unfit.{unfit}
 use Rattle.tables.specs.Tables.{Tables}
 use Rattle.tables.specs.Stepping.{unfit-tables, step-of, start-of}
@@ -92,7 +96,7 @@ pub record From-a-start (T : Tables) (calls : List (List ℕ)) : Type 0 where
   -- "Numbers given instead of an event": each of 1 to 7, 9 and 10 "given exactly when", "tested in this order"
   pub refused-exactly : (bs : List ℕ) (k : ℕ)
       → (step-of (from-start T calls) bs .reply ≡ not-accepted k) ↔ Weighs (room-of T) (heard-by T calls) bs (refused k)
-  -- 7: "after it the alive handles, the outstanding buffers, or a thread's items or frames would exceed room"
+  -- 7: "after it the alive handles, the outstanding buffers, or a thread's items or frames would exceed room", or the identities stated
   pub seven-exactly : (bs : List ℕ) → (step-of (from-start T calls) bs .reply ≡ not-accepted 7) ↔ Out-of-room (room-of T) (heard-by T calls) bs
   -- the list is the history's: its leaks, all and nothing besides
   pub lists : (ns : List ℕ) → list-of (from-start T calls) ns ≡ list-after (heard-by T calls) ns
@@ -121,8 +125,14 @@ pub record From-a-start (T : Tables) (calls : List (List ℕ)) : Type 0 where
   pub reference-numbers : Exact references (from-start T calls .references) (past-references (room-of T .references) (heard-by T calls))
   -- and each pin row
   pub pin-numbers : Exact pins (from-start T calls .pins) (past-pins (room-of T .pins) (heard-by T calls))
-  -- each number of the class table: the super declared of its class, or 0
+  -- each number of the class table is the one that the lines heard leave there
   pub class-numbers : from-start T calls .classes ≡ past-classes (length (T .classes)) (heard-by T calls)
+  -- that of a class is the super declared of it, or 0
+  pub supers-are : (c : ℕ) → super-in (from-start T calls .classes) c ≡ super-of (heard-by T calls) c
+  -- what is found of an identity is what its last M stated
+  pub identities-are : (x : ℕ) → identity-in (from-start T calls .classes) x ≡ identity-of (heard-by T calls) x
+  -- as many places are used as identities are stated: room is not counted from M lines
+  pub places-used : used-places (from-start T calls .classes) ≡ length (identities (heard-by T calls))
   -- every number of rows, marks, book and class table is fixed by the lines heard, whatever stood there before the start and whatever was refused since
   pub fixed-by-history : (S : Tables) → Alike S T → (others : List (List ℕ)) → heard-by T others ≡ heard-by T calls → from-start S others ≡ from-start T calls
 

@@ -1,11 +1,10 @@
 -- The lent tables hold what the accepted lines say, and nothing besides. Assumes nothing.
-use Prim.Native.Nat.{ℕ, suc, _≤_}
+use Prim.Native.Nat.{ℕ, _≤_}
 use mathlib.Core.Path.{_≡_}
 use mathlib.Core.List.{List, [], _∷_}
 use mathlib.Core.Option.{Option, none, some}
-use lib.ListN.{length}
+use lib.ListN.{length, replicate}
 use Rattle.lines.specs.Line.{classes}
-use Rattle.rows.specs.Table.{each}
 use Rattle.rows.specs.View.{view}
 use Rattle.rows.specs.References.{references}
 use Rattle.rows.specs.Pins.{pins}
@@ -19,13 +18,14 @@ use Rattle.history.specs.Items.{items}
 use Rattle.history.specs.Frames.{frames}
 use Rattle.history.specs.Capacities.{capacities}
 use Rattle.history.specs.Thread.{pending, monitors, env-of}
-use Rattle.history.specs.Classes.{super-of}
 use Rattle.history.specs.Statements.{class-stated}
 use Rattle.history.specs.Acceptance.{Room}
 use Rattle.book.specs.Layout.{whole, cell}
 use Rattle.book.specs.Threads.{Thread, thread-in, items-in, lines-in, closed-in}
 use Rattle.book.specs.Changes.{Kept}
+use Rattle.classes.specs.Identities.{identity-room}
 use Rattle.tables.specs.Tables.{Tables, reference-of, pin-row-of}
+use Rattle.tables.specs.Acting.{classes-after}
 use Rattle.demands.specs.PastRows.{padded, reference-rows, pin-rows}
 
 module _ {A B : Type 0} where
@@ -49,9 +49,10 @@ past-references n past = encoded (reference-row past) (padded n (reference-rows 
 unfoldable pub past-pins : ℕ → History → List (Option PinRow)
 past-pins n past = encoded pin-row (padded n (pin-rows past))
 
--- a class table of n numbers by the history: the super declared of each class, 0 where none is
+-- a class table of n numbers as the lines leave it
 unfoldable pub past-classes : ℕ → History → List ℕ
-past-classes n past = each (λ i. super-of past (suc i)) n
+past-classes n [] = replicate n 0
+past-classes n (e ∷ past) = classes-after e (past-classes n past)
 
 -- a thread by the history, but for its open items
 unfoldable pub past-thread : ℕ → History → Thread
@@ -74,6 +75,7 @@ pub record Tied (room : Room) (T : Tables) (past : History) : Type 0 where
   pub long : whole ≤ length (T .book)
   pub class-table : T .classes ≡ past-classes (length (T .classes)) past
   pub all-classes : classes ≤ length (T .classes)
+  pub places : identity-room (T .classes) ≡ room .identities
 
 -- the open items, and the counts that stand with them
 pub record Items-tied (b : List ℕ) (past : History) : Type 0 where
