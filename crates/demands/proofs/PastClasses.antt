@@ -123,8 +123,8 @@ module _ (room : Room) (n : ℕ) (long : classes ≤ n) (fits : (n - classes) / 
         record {
           as-long = declared-length table c s ∙ h .as-long;
           supers = λ d.
-          declared-super table c s y (omega (arith, h .as-long, leb-true c classes (and-right (leb 1 c) (leb c classes) y))) d
-          ∙ ap (λ (u : ℕ). if eqb d c then s else u) (h .supers d);
+              declared-super table c s y (omega (arith, h .as-long, leb-true c classes (and-right (leb 1 c) (leb c classes) y))) d
+              ∙ ap (λ (u : ℕ). if eqb d c then s else u) (h .supers d);
           placed = declared-placed table c s y (h .placed);
           stated = λ x. declared-identity table c s y x ∙ h .stated x;
           known = λ x. declared-stands table c s y x ∙ h .known x;

@@ -161,15 +161,7 @@ fn on_event(
             class,
             isstatic,
             isfinal,
-        } => events::identify::identify(
-            book,
-            classes,
-            identity,
-            sort,
-            class,
-            isstatic,
-            isfinal,
-        ),
+        } => events::identify::identify(book, classes, identity, sort, class, isstatic, isfinal),
         Event::End => events::end::end(rows, marks, pins, pinmarks, book, line),
         Event::Refused(k) => answers::refused(k),
     }

@@ -8,7 +8,7 @@ use borrow.Author.Tests.{leb-false, le-leb, lt-leb, eq-eqb}
 use lib.Dec.{leb, ltb, eqb}
 use lib.ListN.{length, take}
 use Rattle.words.specs.Choice.{if_then_else_}
-use Rattle.lines.specs.Line.{Line, N, X, C, R, A, D, Z, K, O, states, is-thread}
+use Rattle.lines.specs.Line.{Line, N, X, C, R, A, D, Z, K, O, M, states, is-thread}
 use Rattle.lines.specs.Reading.{Read, says, refused, read}
 use Rattle.lines.specs.Events.{result-in-line, event-of, slots-of}
 use Rattle.lines.specs.declared.Event.{Event}
@@ -93,7 +93,7 @@ module _ (T : Tables) (fit : unfit-tables T ≡ false) (few : lines-in (T .book)
         long = omega (arith, x .as-long, f .long);
         lines = omega (arith, one-line-more n T line e, few);
         others = λ s a b o. as-fit-elsewhere x s a o ∙ f .others s a b o;
-        classes = unfold acted in ap (λ (m : ℕ). ltb m all-classes) (same-length e T) ∙ f .classes;
+        classes = unfold acted in ap (λ (m : ℕ). ltb m all-classes) (same-length e (T .classes)) ∙ f .classes;
       }
 
   fit-line : (e : Line) → Fit-but (on-read (says e) T .left) (thread-of e)
@@ -110,6 +110,7 @@ module _ (T : Tables) (fit : unfit-tables T ≡ false) (few : lines-in (T .book)
   fit-event (Event.Detach t) hs = fit-line (D t)
   fit-event (Event.Declare c s) hs = fit-line (states (K c s))
   fit-event (Event.State t h c) hs = fit-line (states (O t h c))
+  fit-event (Event.Identify x sort c static final) hs = fit-line (states (M x sort c static final))
   fit-event Event.End hs = fit-line Z
   fit-event (Event.Refused k) hs = fit-so T 0 fit
 

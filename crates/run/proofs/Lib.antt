@@ -13,3 +13,4 @@ mod Stating
 mod Touching
 mod Fitting
 mod Guided
+mod Parts

@@ -4,6 +4,7 @@ pub mod Running
 pub mod Way
 pub mod Fit
 pub mod Unshown
+pub mod Parts
 -- words
 pub mod Following
 pub mod Passing

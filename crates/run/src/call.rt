@@ -1,8 +1,8 @@
 // C: weighed by the guides; where it is accepted, what it does to rows, guides and book.
-use answers::Answer;
-use book::Top;
 use crate::kept;
 use crate::kept_pins;
+use answers::Answer;
+use book::Top;
 use facts::Place;
 use rows::Number;
 use words::Handle;

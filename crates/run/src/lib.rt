@@ -3,6 +3,7 @@ mod attach;
 mod bits;
 mod call;
 mod detach;
+mod dispatch;
 mod enter;
 mod fit;
 mod kept;

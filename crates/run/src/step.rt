@@ -1,30 +1,19 @@
 // One line of the trace over tables that have guides.
-use answers::Answer;
-use book::Top;
-use crate::attach;
-use crate::call;
-use crate::detach;
-use crate::enter;
+use crate::dispatch;
 use crate::fit;
-use crate::leave;
-use crate::returns;
-use crate::state;
+use answers::Answer;
 use judge::items;
-use lines::Event;
 use rows::Number;
-use words::Handle;
 ghost use mathlib.Core.Path.{_≡_};
-ghost use Prim.Native.Nat.{suc, _<_, _≤_};
-ghost use Rattle.lines.specs.Line.{most-handles};
+ghost use Prim.Native.Nat.{suc, _<_};
 ghost use Rattle.history.specs.Replies.{most-lines};
 ghost use Rattle.rows.specs.Table.{table};
 ghost use Rattle.guide.specs.References.{Guides};
 ghost use Rattle.guide.specs.Pins.{Guides as PinGuides};
-ghost use Rattle.book.specs.Threads.{lines-in, top-is};
+ghost use Rattle.book.specs.Threads.{lines-in};
 ghost use Rattle.tables.specs.Tables.{tables};
 ghost use Rattle.events.specs.Outcome.{leaves};
-ghost use Rattle.judge.specs.Event.{slots-named};
-ghost use Rattle.judge.specs.Outcome.{event-outcome, step-outcome};
+ghost use Rattle.judge.specs.Outcome.{step-outcome};
 ghost use Rattle.run.specs.Fit.{Fit-but};
 
 // The number of the next accepted line.
@@ -33,129 +22,6 @@ fn next_number(book: &[u64]) -> u32
     ensures { λ r. ⌜ r ≡ suc (lines-in (now (book .entry))) ⌝ }
 {
     book::lines_of(book) as u32 + 1
-}
-
-// A line that was read, or the number given instead of it. Line number `line`; `top` is on top of its thread's `many` open items.
-fn on_event(
-    event: Event,
-    handles: [Handle; 8],
-    rows: &mut [Number],
-    marks: &mut [u64],
-    guide: &mut [u64],
-    pins: &mut [Number],
-    pinmarks: &mut [u64],
-    pinguide: &mut [u64],
-    book: &mut [u64],
-    classes: &mut [Number],
-    top: Top,
-    many: u32,
-    line: u32,
-) -> Answer
-    requires { ⌜ (slots-named event ≤ most-handles) × Guides (table (now rows) (now marks)) (now guide) × PinGuides (table (now pins) (now pinmarks)) (now pinguide) ⌝ }
-    ensures outcome { λ r. ⌜ leaves r (tables (now (rows .exit)) (now (marks .exit)) (now (pins .exit)) (now (pinmarks .exit)) (now (book .exit)) (now (classes .exit))) ≡ event-outcome line event handles (top-is top) many (tables (now (rows .entry)) (now (marks .entry)) (now (pins .entry)) (now (pinmarks .entry)) (now (book .entry)) (now (classes .entry))) ⌝ }
-    ensures guided { λ _. ⌜ Guides (table (now (rows .exit)) (now (marks .exit))) (now (guide .exit)) × PinGuides (table (now (pins .exit)) (now (pinmarks .exit))) (now (pinguide .exit)) ⌝ }
-{
-    match event {
-        Event::Enter { thread, env, count } => enter::enter(
-            rows,
-            marks,
-            guide,
-            book,
-            top,
-            many,
-            line,
-            thread,
-            env,
-            &handles[..count as usize],
-        ),
-        Event::Leave { thread, result } => leave::leave(
-            rows,
-            marks,
-            guide,
-            pins,
-            pinmarks,
-            pinguide,
-            book,
-            top,
-            line,
-            thread,
-            result,
-        ),
-        Event::Call {
-            thread,
-            env,
-            function,
-            a,
-            b,
-            c,
-            ..
-        } => call::call(
-            rows,
-            marks,
-            guide,
-            pins,
-            pinmarks,
-            pinguide,
-            book,
-            classes,
-            top,
-            many,
-            line,
-            thread,
-            env,
-            function,
-            a,
-            b,
-            c,
-        ),
-        Event::Return {
-            thread,
-            function,
-            result,
-            status,
-            pending,
-        } => returns::returns(
-            rows,
-            marks,
-            guide,
-            pins,
-            pinmarks,
-            pinguide,
-            book,
-            top,
-            line,
-            thread,
-            function,
-            result,
-            status,
-            pending,
-        ),
-        Event::Attach { thread, env } => {
-            attach::attach(rows, marks, guide, book, top, many, line, thread, env)
-        }
-        Event::Detach { thread } => detach::detach(
-            rows,
-            marks,
-            guide,
-            pins,
-            pinmarks,
-            pinguide,
-            book,
-            top,
-            line,
-            thread,
-        ),
-        Event::Declare { class, superclass } => {
-            events::declare::declare(book, classes, class, superclass)
-        }
-        Event::State {
-            thread,
-            handle,
-            class,
-        } => state::state(rows, marks, guide, book, classes, thread, handle, class),
-        Event::End => events::end::end(rows, marks, pins, pinmarks, book, line),
-        Event::Refused(k) => answers::refused(k),
-    }
 }
 
 // What `judge::step` answers and leaves, by the guides. Since the book was found fit, `touched` is the one thread that a line has touched; then it is this line's.
@@ -187,7 +53,7 @@ pub(crate) fn step(
     *touched = t;
     let top = book::top_item(book, t);
     let many = book::items_of(book, t);
-    let answer = on_event(
+    let answer = dispatch::on_event(
         event,
         handles,
         rows,
