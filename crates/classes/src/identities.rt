@@ -9,7 +9,8 @@ ghost use Prim.Native.Nat.{_-_, _≤_};
 ghost use Rattle.history.specs.Identities.{not-stated};
 ghost use Rattle.classes.specs.Identities.{identity-room, first-from, is-for, place-of, identity-in, with-identity};
 
-const NUMBERS: usize = 4;
+// So many to a place.
+pub const NUMBERS: usize = 4;
 
 // Where the places begin.
 const FROM: usize = CLASSES as usize;

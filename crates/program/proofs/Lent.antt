@@ -1,5 +1,5 @@
 -- The tables that the program lends, and what an input has printed over them. Assumes nothing.
-use Prim.Native.Nat.{ℕ, _*_, _/_, min}
+use Prim.Native.Nat.{ℕ, _+_, _-_, _*_, _/_, min}
 use mathlib.Core.Path.{_≡_, sym, ap, subst, _∙_}
 use mathlib.Core.Bool.{Bool, true, false}
 use mathlib.Core.List.{List, [], _++_, append-nil}
@@ -13,6 +13,7 @@ use Rattle.rows.specs.Pins.{pins}
 use Rattle.history.specs.Acceptance.{Room}
 use Rattle.history.specs.Report.{run, lines-of, report}
 use Rattle.history.specs.Runs.{program-room}
+use Rattle.classes.specs.Identities.{identity-numbers, identity-room}
 use Rattle.book.specs.Layout.{whole}
 use Rattle.tables.specs.Tables.{Tables, tables}
 use Rattle.tables.specs.Stepping.{start-of}
@@ -27,10 +28,14 @@ use Rattle.program.proofs.Records.{leaks-shown}
 abbrev pub marks-for : ℕ → ℕ
 marks-for rows = rows / word
 
+-- the classes, and behind them the places of identities
+abbrev pub class-numbers : ℕ
+class-numbers = classes + program-room .identities * identity-numbers
+
 unfoldable pub lent : Tables
 lent =
     tables (replicate (program-room .references * references .stride) 0) (replicate (marks-for (program-room .references)) 0) (replicate (program-room .pins * pins .stride) 0)
-    (replicate (marks-for (program-room .pins)) 0) (replicate whole 0) (replicate classes 0)
+    (replicate (marks-for (program-room .pins)) 0) (replicate whole 0) (replicate class-numbers 0)
 
 -- ---- the start, which clears whatever the lent tables hold
 
@@ -38,7 +43,7 @@ long-as : (n : ℕ) → length (replicate {A = ℕ} n 0) ≡ n
 long-as n = length-replicate {A = ℕ} n 0
 
 pub start-lent : (rs ms ps ns b cs : List ℕ) → length rs ≡ program-room .references * references .stride → length ms ≡ marks-for (program-room .references)
-    → length ps ≡ program-room .pins * pins .stride → length ns ≡ marks-for (program-room .pins) → length b ≡ whole → length cs ≡ classes → start-of (tables rs ms ps ns b cs) ≡ start-of lent
+    → length ps ≡ program-room .pins * pins .stride → length ns ≡ marks-for (program-room .pins) → length b ≡ whole → length cs ≡ class-numbers → start-of (tables rs ms ps ns b cs) ≡ start-of lent
 unfolding lent
 start-lent rs ms ps ns b cs r m p n w c =
     start-is (tables rs ms ps ns b cs) lent
@@ -48,7 +53,7 @@ start-lent rs ms ps ns b cs r m p n w c =
       pin-rows = p ∙ sym (long-as (program-room .pins * pins .stride));
       pin-marks = n ∙ sym (long-as (marks-for (program-room .pins)));
       books = w ∙ sym (long-as whole);
-      class-tables = c ∙ sym (long-as classes);
+      class-tables = c ∙ sym (long-as class-numbers);
     })
 
 -- ---- its room is the program's
@@ -57,17 +62,18 @@ rows-are : (stride rows marks : ℕ) → min (min (length (replicate {A = ℕ} r
 rows-are stride rows marks = λ i. min (min (long-as rows i / stride) (long-as marks i * word)) most
 
 room-lent : room-of lent ≡ program-room
-unfolding room-of room lent
+unfolding room-of room identity-room lent
 room-lent =
     λ i.
     record {
       references = rows-are (references .stride) (program-room .references * references .stride) (marks-for (program-room .references)) i;
       pins = rows-are (pins .stride) (program-room .pins * pins .stride) (marks-for (program-room .pins)) i;
+      identities = (long-as class-numbers i - classes) / identity-numbers;
     }
 
 long-lent : Long lent
 unfolding lent
-long-lent = (omega (arith, long-as whole), omega (arith, long-as classes))
+long-lent = (omega (arith, long-as whole), omega (arith, long-as class-numbers))
 
 report-is : (input : List ℕ) → report program-room input ≡ printed (run-in (start-of lent) [] (lines-of input))
 unfolding report-in

@@ -25,10 +25,12 @@ ghost use Rattle.program.specs.Printing.{Newest, Due, Has-read, Has-prin
 ghost use Rattle.program.specs.Progress.{buffer-size, most-findings, Few};
 ghost use Rattle.program.specs.Running.{Unread, More-read, Fits, Turned, last-line, Finished, Ends, Good, Records-left, Leaks-left};
 
-// The program lends so many reference and pin rows.
+// The program lends so many reference and pin rows, and room for so many identities.
 const REFERENCE_ROWS: usize = 1024;
 
 const PIN_ROWS: usize = 256;
+
+const IDENTITIES: usize = 1024;
 
 const REFERENCE_NUMBERS: usize = REFERENCE_ROWS * rows::references::STRIDE;
 
@@ -40,7 +42,8 @@ const PIN_MARKS: usize = PIN_ROWS / rows::WORD;
 
 const BOOK_NUMBERS: usize = book::WHOLE;
 
-const CLASS_NUMBERS: usize = lines::ranges::CLASSES as usize;
+const CLASS_NUMBERS: usize =
+    lines::ranges::CLASSES as usize + IDENTITIES * classes::identities::NUMBERS;
 
 // So many numbers of records are lent to the list of the leaks, a record for each row.
 const LEAK_NUMBERS: usize = (REFERENCE_ROWS + PIN_ROWS) * leaks::NUMBERS;

@@ -21,6 +21,9 @@ call-tight κs args = (tt, λ x y p q. by-rows-and-book x y (p []) (q []))
 pub declare-tight : Tight act.declare.declare.ended act.declare.declare.Reads.Asked act.declare.declare.Reads.Learnt
 declare-tight κs args = (tt, λ x y p q. by (λ (T : Tables). given (x .reply) (T .book, (T .classes, x .left .1 .1))) (p [] [] [] [] 0 0) (q [] [] [] [] 0 0))
 
+pub identify-tight : Tight act.identify.identify.ended act.identify.identify.Reads.Asked act.identify.identify.Reads.Learnt
+identify-tight κs args = (tt, λ x y p q. by (λ (T : Tables). given (x .reply) (T .book, (T .classes, x .left .1 .1))) (p [] [] [] []) (q [] [] [] []))
+
 pub detach-book-tight : Tight act.detach.write_book.ended act.detach.write_book.Reads.Asked act.detach.write_book.Reads.Learnt
 detach-book-tight κs args = (tt, by-slice)
 

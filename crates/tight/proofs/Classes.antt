@@ -17,3 +17,15 @@ declare-tight κs args = (tt, by-slice)
 
 pub clear-tight : Tight classes.clear.ended classes.clear.Reads.Asked classes.clear.Reads.Learnt
 clear-tight κs args = (tt, by-slice)
+
+pub identity-room-tight : Tight classes.identities.room.ended classes.identities.room.Reads.Asked classes.identities.room.Reads.Learnt
+identity-room-tight κs args = (tt, by-reply)
+
+pub place-of-tight : Tight classes.identities.place_of.ended classes.identities.place_of.Reads.Asked classes.identities.place_of.Reads.Learnt
+place-of-tight κs args = (tt, by-reply)
+
+pub stated-tight : Tight classes.identities.stated.ended classes.identities.stated.Reads.Asked classes.identities.stated.Reads.Learnt
+stated-tight κs args = (tt, by-reply)
+
+pub put-tight : Tight classes.identities.put.ended classes.identities.put.Reads.Asked classes.identities.put.Reads.Learnt
+put-tight κs args = (tt, by-slice)

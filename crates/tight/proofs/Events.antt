@@ -25,6 +25,12 @@ declare-tight κs args = (
   λ x y p q. by (λ (o : Outcome). given (o .answer) (o .left .book, (o .left .classes, x .left .1 .1))) (p [] [] [] [] 0 none 0) (q [] [] [] [] 0 none 0),
 )
 
+pub identify-tight : Tight events.identify.identify.ended events.identify.identify.Reads.Asked events.identify.identify.Reads.Learnt
+identify-tight κs args = (
+  tt,
+  λ x y p q. by (λ (o : Outcome). given (o .answer) (o .left .book, (o .left .classes, x .left .1 .1))) (p [] [] [] [] 0 none 0) (q [] [] [] [] 0 none 0),
+)
+
 pub detach-tight : Tight events.detach.detach.ended events.detach.detach.Reads.Asked events.detach.detach.Reads.Learnt
 detach-tight κs args = (
   tt,

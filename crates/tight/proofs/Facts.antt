@@ -41,3 +41,15 @@ is-reserved-tight κs args = (tt, by-reply)
 
 pub class-made-tight : Tight facts.classes.class_made.ended facts.classes.class_made.Reads.Asked facts.classes.class_made.Reads.Learnt
 class-made-tight κs args = (tt, by-reply)
+
+pub is-identity-place-tight : Tight facts.results.is_identity_place.ended facts.results.is_identity_place.Reads.Asked facts.results.is_identity_place.Reads.Learnt
+is-identity-place-tight κs args = (tt, by-reply)
+
+pub wanted-of-tight : Tight facts.identities.wanted_of.ended facts.identities.wanted_of.Reads.Asked facts.identities.wanted_of.Reads.Learnt
+wanted-of-tight κs args = (tt, by-reply)
+
+pub suits-tight : Tight facts.identities.suits.ended facts.identities.suits.Reads.Asked facts.identities.suits.Reads.Learnt
+suits-tight κs args = (tt, by-reply)
+
+pub writes-field-tight : Tight facts.identities.writes_field.ended facts.identities.writes_field.Reads.Asked facts.identities.writes_field.Reads.Learnt
+writes-field-tight κs args = (tt, by-reply)

@@ -27,5 +27,8 @@ weir-declare-tight κs args = (tt, by-reply-and-slice)
 pub weir-state-tight : Tight recorder.weir_state.ended recorder.weir_state.Reads.Asked recorder.weir_state.Reads.Learnt
 weir-state-tight κs args = (tt, by-reply-and-slice)
 
+pub weir-identify-tight : Tight recorder.weir_identify.ended recorder.weir_identify.Reads.Asked recorder.weir_identify.Reads.Learnt
+weir-identify-tight κs args = (tt, by-reply-and-slice)
+
 pub weir-end-tight : Tight recorder.weir_end.ended recorder.weir_end.Reads.Asked recorder.weir_end.Reads.Learnt
 weir-end-tight κs args = (tt, by-reply-and-slice)

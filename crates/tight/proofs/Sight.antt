@@ -10,6 +10,9 @@ call-tight κs args asked = by-reply
 pub declare-tight : Tight sight.declare.declare.ended sight.declare.declare.Reads.Asked sight.declare.declare.Reads.Learnt
 declare-tight κs args = (tt, λ x y p q. by-reply x y (p [] [] [] [] []) (q [] [] [] [] []))
 
+pub identify-tight : Tight sight.identify.identify.ended sight.identify.identify.Reads.Asked sight.identify.identify.Reads.Learnt
+identify-tight κs args = (tt, λ x y p q. by-reply x y (p [] [] [] [] []) (q [] [] [] [] []))
+
 pub detach-tight : Tight-where sight.detach.detach.ended sight.detach.detach.Reads.Asked sight.detach.detach.Reads.Learnt
 detach-tight κs args asked = λ x y p q. by-reply x y (p [] [] []) (q [] [] [])
 

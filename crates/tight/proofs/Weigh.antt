@@ -47,3 +47,6 @@ return-findings-tight κs args = (tt, by-reply)
 
 pub state-refusal-tight : Tight weigh.state.refusal.ended weigh.state.refusal.Reads.Asked weigh.state.refusal.Reads.Learnt
 state-refusal-tight κs args = (tt, by-reply)
+
+pub identify-refusal-tight : Tight weigh.identify.refusal.ended weigh.identify.refusal.Reads.Asked weigh.identify.refusal.Reads.Learnt
+identify-refusal-tight κs args = (tt, by-reply)
