@@ -42,8 +42,8 @@ const PIN_MARKS: usize = PIN_ROWS / rows::WORD;
 
 const BOOK_NUMBERS: usize = book::WHOLE;
 
-const CLASS_NUMBERS: usize =
-    lines::ranges::CLASSES as usize + IDENTITIES * classes::identities::NUMBERS;
+const CLASS_NUMBERS: usize = lines::ranges::CLASSES as usize
+    + IDENTITIES * classes::identities::NUMBERS;
 
 // So many numbers of records are lent to the list of the leaks, a record for each row.
 const LEAK_NUMBERS: usize = (REFERENCE_ROWS + PIN_ROWS) * leaks::NUMBERS;

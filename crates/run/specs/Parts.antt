@@ -3,19 +3,33 @@ use mathlib.Core.Bool.{Bool, true, false}
 use Rattle.lines.specs.declared.Event.{Event}
 use Rattle.lines.specs.declared.Event.the-variants as Event
 
--- it opens or closes a native or an attached item
-abbrev pub is-native : Event → Bool
-is-native (Event.Enter t env n) = true
-is-native (Event.Leave t r) = true
-is-native (Event.Call t env f a b c n) = false
-is-native (Event.Return t f h s p) = false
-is-native (Event.Attach t env) = true
-is-native (Event.Detach t) = true
-is-native (Event.Declare c s) = false
-is-native (Event.State t h c) = false
-is-native (Event.Identify x sort c static final) = false
-is-native Event.End = false
-is-native (Event.Refused k) = false
+-- it opens a native or an attached item
+abbrev pub opens : Event → Bool
+opens (Event.Enter t env n) = true
+opens (Event.Leave t r) = false
+opens (Event.Call t env f a b c n) = false
+opens (Event.Return t f h s p) = false
+opens (Event.Attach t env) = true
+opens (Event.Detach t) = false
+opens (Event.Declare c s) = false
+opens (Event.State t h c) = false
+opens (Event.Identify x sort c static final) = false
+opens Event.End = false
+opens (Event.Refused k) = false
+
+-- it closes one
+abbrev pub closes : Event → Bool
+closes (Event.Enter t env n) = false
+closes (Event.Leave t r) = true
+closes (Event.Call t env f a b c n) = false
+closes (Event.Return t f h s p) = false
+closes (Event.Attach t env) = false
+closes (Event.Detach t) = true
+closes (Event.Declare c s) = false
+closes (Event.State t h c) = false
+closes (Event.Identify x sort c static final) = false
+closes Event.End = false
+closes (Event.Refused k) = false
 
 -- it opens or closes a call
 abbrev pub is-call : Event → Bool

@@ -26,7 +26,7 @@ ghost use Rattle.tables.specs.Tables.{tables};
 ghost use Rattle.events.specs.Outcome.{leaves};
 ghost use Rattle.judge.specs.Event.{slots-named};
 ghost use Rattle.judge.specs.Outcome.{event-outcome};
-ghost use Rattle.run.specs.Parts.{is-native, is-call};
+ghost use Rattle.run.specs.Parts.{opens, closes, is-call};
 
 // K, O, M and Z, or the number given instead of a line. Line number `line`.
 fn on_statement(
@@ -40,7 +40,7 @@ fn on_statement(
     classes: &mut [Number],
     line: u32,
 ) -> Answer
-    requires { ⌜ (is-native event ≡ false) × (is-call event ≡ false) × Guides (table (now rows) (now marks)) (now guide) ⌝ }
+    requires { ⌜ (opens event ≡ false) × (closes event ≡ false) × (is-call event ≡ false) × Guides (table (now rows) (now marks)) (now guide) ⌝ }
     ensures outcome { λ r. ⌜ ((hs : List ℕ) (top : Option Item) (many : ℕ) → leaves r (tables (now (rows .exit)) (now (marks .entry)) (now (pins .entry)) (now (pinmarks .entry)) (now (book .exit)) (now (classes .exit))) ≡ event-outcome line event hs top many (tables (now (rows .entry)) (now (marks .entry)) (now (pins .entry)) (now (pinmarks .entry)) (now (book .entry)) (now (classes .entry)))) ⌝ }
     ensures guided { λ _. ⌜ Guides (table (now (rows .exit)) (now (marks .entry))) (now (guide .entry)) ⌝ }
 {
@@ -81,7 +81,7 @@ fn on_call(
     many: u32,
     line: u32,
 ) -> Answer
-    requires { ⌜ (is-native event ≡ false) × Guides (table (now rows) (now marks)) (now guide) × PinGuides (table (now pins) (now pinmarks)) (now pinguide) ⌝ }
+    requires { ⌜ (opens event ≡ false) × (closes event ≡ false) × Guides (table (now rows) (now marks)) (now guide) × PinGuides (table (now pins) (now pinmarks)) (now pinguide) ⌝ }
     ensures outcome { λ r. ⌜ ((hs : List ℕ) → leaves r (tables (now (rows .exit)) (now (marks .exit)) (now (pins .exit)) (now (pinmarks .exit)) (now (book .exit)) (now (classes .exit))) ≡ event-outcome line event hs (top-is top) many (tables (now (rows .entry)) (now (marks .entry)) (now (pins .entry)) (now (pinmarks .entry)) (now (book .entry)) (now (classes .entry)))) ⌝ }
     ensures guided { λ _. ⌜ Guides (table (now (rows .exit)) (now (marks .exit))) (now (guide .exit)) × PinGuides (table (now (pins .exit)) (now (pinmarks .exit))) (now (pinguide .exit)) ⌝ }
 {
@@ -149,7 +149,69 @@ fn on_call(
     }
 }
 
-// N, X, A and D, or what is left to `on_call`. Line number `line`; `top` is on top of its thread's `many` open items.
+// X and D, or what is left to `on_call`. Line number `line`; `top` is on top of its thread's `many` open items.
+fn on_leave(
+    event: Event,
+    rows: &mut [Number],
+    marks: &mut [u64],
+    guide: &mut [u64],
+    pins: &mut [Number],
+    pinmarks: &mut [u64],
+    pinguide: &mut [u64],
+    book: &mut [u64],
+    classes: &mut [Number],
+    top: Top,
+    many: u32,
+    line: u32,
+) -> Answer
+    requires { ⌜ (opens event ≡ false) × Guides (table (now rows) (now marks)) (now guide) × PinGuides (table (now pins) (now pinmarks)) (now pinguide) ⌝ }
+    ensures outcome { λ r. ⌜ ((hs : List ℕ) → leaves r (tables (now (rows .exit)) (now (marks .exit)) (now (pins .exit)) (now (pinmarks .exit)) (now (book .exit)) (now (classes .exit))) ≡ event-outcome line event hs (top-is top) many (tables (now (rows .entry)) (now (marks .entry)) (now (pins .entry)) (now (pinmarks .entry)) (now (book .entry)) (now (classes .entry)))) ⌝ }
+    ensures guided { λ _. ⌜ Guides (table (now (rows .exit)) (now (marks .exit))) (now (guide .exit)) × PinGuides (table (now (pins .exit)) (now (pinmarks .exit))) (now (pinguide .exit)) ⌝ }
+{
+    match event {
+        Event::Leave { thread, result } => leave::leave(
+            rows,
+            marks,
+            guide,
+            pins,
+            pinmarks,
+            pinguide,
+            book,
+            top,
+            line,
+            thread,
+            result,
+        ),
+        Event::Detach { thread } => detach::detach(
+            rows,
+            marks,
+            guide,
+            pins,
+            pinmarks,
+            pinguide,
+            book,
+            top,
+            line,
+            thread,
+        ),
+        _ => on_call(
+            event,
+            rows,
+            marks,
+            guide,
+            pins,
+            pinmarks,
+            pinguide,
+            book,
+            classes,
+            top,
+            many,
+            line,
+        ),
+    }
+}
+
+// N and A, or what is left to `on_leave`. Line number `line`; `top` is on top of its thread's `many` open items.
 pub(crate) fn on_event(
     event: Event,
     handles: [Handle; 8],
@@ -182,35 +244,10 @@ pub(crate) fn on_event(
             env,
             &handles[..count as usize],
         ),
-        Event::Leave { thread, result } => leave::leave(
-            rows,
-            marks,
-            guide,
-            pins,
-            pinmarks,
-            pinguide,
-            book,
-            top,
-            line,
-            thread,
-            result,
-        ),
         Event::Attach { thread, env } => {
             attach::attach(rows, marks, guide, book, top, many, line, thread, env)
         }
-        Event::Detach { thread } => detach::detach(
-            rows,
-            marks,
-            guide,
-            pins,
-            pinmarks,
-            pinguide,
-            book,
-            top,
-            line,
-            thread,
-        ),
-        _ => on_call(
+        _ => on_leave(
             event,
             rows,
             marks,

@@ -5,7 +5,7 @@ use borrow.Author.Needs.{needs, sfits-of}
 use Rattle.tables.specs.Tables.{Tables, tables}
 use Rattle.events.specs.Outcome.{leaves}
 use Rattle.judge.proofs.Dispatch.{of-call, of-return}
-use Rattle.run.proofs.Parts.{no-call}
+use Rattle.run.proofs.Parts.{calls-not}
 use Rattle.run.proofs.dispatch.on_call.Statement.{statement}
 use Rattle.run.proofs.dispatch.on_call.Tie as tie
 
@@ -28,7 +28,7 @@ on-statement-requires : tie.Need-on-statement-requires
 on-statement-requires c κs =
     let match = c .before .before .before .before .before .before .before in
     let start = at-start (match .before) in
-    (start .pre .0, no-call (start .args .event) (match .match .keys3), start .pre .1)
+    (start .pre .0, start .pre .1, calls-not (start .args .event) (match .match .keys3), start .pre .2)
 
 returns : tie.Need-returns
 returns c =
@@ -53,16 +53,16 @@ returns-3 c =
     let done = at-on-statement c in
     let start = at-start (done .before .before .before .before .before .before .before .before .before) in
     let args = start .args in
-    ((λ hs. done .on-statement .ensures .0 hs _ (args .many)), (done .on-statement .ensures .1, start .pre .2))
+    ((λ hs. done .on-statement .ensures .0 hs _ (args .many)), (done .on-statement .ensures .1, start .pre .3))
 
 pub on-call-spec : {M : Type 1} → statement M
 on-call-spec =
     tie.close
     (tie.spec
     (λ c. search needs)
-    (λ c κs. let pre = at-start (c .before .before .before .before .before .before .before .before .before .before .before) .pre in (pre .1, pre .2))
+    (λ c κs. let pre = at-start (c .before .before .before .before .before .before .before .before .before .before .before) .pre in (pre .2, pre .3))
     (λ c. search needs)
-    (λ c κs. let pre = at-start (c .before .before .before .before .before .before .before .before .before .before) .pre in (pre .1, pre .2))
+    (λ c κs. let pre = at-start (c .before .before .before .before .before .before .before .before .before .before) .pre in (pre .2, pre .3))
     on-statement-requires
     (λ c. at-call c .call .kept .0)
     (λ c. at-call c .call .kept .1 .0)

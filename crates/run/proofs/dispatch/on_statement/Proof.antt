@@ -33,7 +33,7 @@ returns c =
     let start = at-start (event .before .before) in
     let args = start .args in
     let last = declare .declare .last in
-    ((λ hs top many. of-declare _ _ hs top many (given start) (leaves (declare .declare .result) (tables (args .rows .now) (args .marks .now) (args .pins .now) (args .pinmarks .now) (last .0) (last .1 .0))) (event .event .given .1) (declare .declare .ensures (args .rows .now) (args .marks .now) (args .pins .now) (args .pinmarks .now) _ top many)), start .pre .2)
+    ((λ hs top many. of-declare _ _ hs top many (given start) (leaves (declare .declare .result) (tables (args .rows .now) (args .marks .now) (args .pins .now) (args .pinmarks .now) (last .0) (last .1 .0))) (event .event .given .1) (declare .declare .ensures (args .rows .now) (args .marks .now) (args .pins .now) (args .pinmarks .now) _ top many)), start .pre .3)
 
 returns-2 : tie.Need-returns-2
 returns-2 c =
@@ -51,12 +51,12 @@ returns-3 c =
     let start = at-start (event .before .before) in
     let args = start .args in
     let last = identify .identify .last in
-    ((λ hs top many. of-identify _ _ hs top many (given start) (leaves (identify .identify .result) (tables (args .rows .now) (args .marks .now) (args .pins .now) (args .pinmarks .now) (last .0) (last .1 .0))) (event .event3 .given .1) (identify .identify .ensures (args .rows .now) (args .marks .now) (args .pins .now) (args .pinmarks .now) _ top many)), start .pre .2)
+    ((λ hs top many. of-identify _ _ hs top many (given start) (leaves (identify .identify .result) (tables (args .rows .now) (args .marks .now) (args .pins .now) (args .pinmarks .now) (last .0) (last .1 .0))) (event .event3 .given .1) (identify .identify .ensures (args .rows .now) (args .marks .now) (args .pins .now) (args .pinmarks .now) _ top many)), start .pre .3)
 
 returns-4 : tie.Need-returns-4
 returns-4 c =
     let start = at-start (c .before .before .before .before) in
-    ((λ hs top many. of-refused _ _ hs top many (given start) _ _ (c .before .before .event4 .given .1) (c .refused .ensures) refl), start .pre .2)
+    ((λ hs top many. of-refused _ _ hs top many (given start) _ _ (c .before .before .event4 .given .1) (c .refused .ensures) refl), start .pre .3)
 
 returns-5 : tie.Need-returns-5
 returns-5 c =
@@ -65,7 +65,7 @@ returns-5 c =
     let start = at-start (match .before) in
     let args = start .args in
     let last = end .end .last in
-    ((λ hs top many. of-end _ _ hs top many (given start) (leaves (end .end .result) (tables (args .rows .now) (args .marks .now) (args .pins .now) (args .pinmarks .now) (last .1 .1 .1 .1 .0) (args .classes .now))) (ends (args .event) (match .match .keys5) (start .pre .0) (start .pre .1)) (end .end .ensures (args .classes .now) top many)), start .pre .2)
+    ((λ hs top many. of-end _ _ hs top many (given start) (leaves (end .end .result) (tables (args .rows .now) (args .marks .now) (args .pins .now) (args .pinmarks .now) (last .1 .1 .1 .1 .0) (args .classes .now))) (ends (args .event) (match .match .keys5) (start .pre .0) (start .pre .1) (start .pre .2)) (end .end .ensures (args .classes .now) top many)), start .pre .3)
 
 pub on-statement-spec : {M : Type 1} → statement M
 on-statement-spec =
@@ -74,7 +74,7 @@ on-statement-spec =
     (λ c. search needs)
     (λ c κs. search needs)
     (λ c. search needs)
-    (λ c κs. at-start (c .before .before .before .before .before .before) .pre .2)
+    (λ c κs. at-start (c .before .before .before .before .before .before) .pre .3)
     (λ c. search needs)
     (λ c κs. search needs)
     (λ c. search needs)
