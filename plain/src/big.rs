@@ -7,15 +7,16 @@ pub mod slot;
 
 use crate::judge::Judge;
 use crate::limits::*;
+use crate::room::{Room, LENT};
 use accepted::Accepted;
 use balanced::Balance;
 use std::io::{self, Write};
 
-/// A kind of big trace, and the reference rows it takes; all take the pin rows that the program lends.
+/// A kind of big trace, and the room it takes.
 #[derive(Clone, Copy, Debug)]
 pub struct Kind {
     pub name: &'static str,
-    pub reference_rows: usize,
+    pub room: Room,
     manner: Manner,
 }
 
@@ -25,8 +26,8 @@ enum Manner {
     Recorded,
 }
 
-/// The rows of a kind that says nothing else: those for 2,000 handles alive, more than the program lends.
-const ROWS: usize = 2_048;
+/// The room of a kind that says nothing else: rows for 2,000 handles alive, more than the program lends.
+const ROOM: Room = of_rows(2_048);
 
 /// 2,000 handles alive.
 const STEADY: Balance = Balance {
@@ -119,7 +120,7 @@ pub const KINDS: [Kind; 11] = [
         },
     ),
     Kind {
-        reference_rows: 16_384,
+        room: of_rows(16_384),
         ..balanced(
             "crowd",
             Balance {
@@ -132,7 +133,7 @@ pub const KINDS: [Kind; 11] = [
     },
     // As steady, in the rows that the program lends, with numbers such as a VM of 64 bits gives.
     Kind {
-        reference_rows: REFERENCE_ROWS,
+        room: LENT,
         ..balanced(
             "wide",
             Balance {
@@ -145,15 +146,20 @@ pub const KINDS: [Kind; 11] = [
     },
     Kind {
         name: "recorded",
-        reference_rows: ROWS,
+        room: ROOM,
         manner: Manner::Recorded,
     },
 ];
 
+/// So many reference rows, and all else as the program lends it.
+const fn of_rows(references: usize) -> Room {
+    Room { references, ..LENT }
+}
+
 const fn balanced(name: &'static str, balance: Balance) -> Kind {
     Kind {
         name,
-        reference_rows: ROWS,
+        room: ROOM,
         manner: Manner::Balanced(balance),
     }
 }
@@ -169,7 +175,7 @@ fn alive(handles: usize) -> Kind {
     };
     let rows = handles + handles / 32 + 64;
     Kind {
-        reference_rows: rows.next_multiple_of(64).min(MOST_ROOM),
+        room: of_rows(rows.next_multiple_of(64).min(MOST_ROOM)),
         ..balanced("alive", balance)
     }
 }
@@ -185,7 +191,7 @@ pub fn kind(name: &str) -> Option<Kind> {
 
 /// Writes a trace of this kind and of so many lines, the last a Z; there must be one line at least.
 pub fn big(kind: &Kind, lines: usize, output: &mut impl Write) -> io::Result<()> {
-    let judge = Judge::indexed(kind.reference_rows, PIN_ROWS);
+    let judge = Judge::indexed(kind.room);
     let trace = Accepted::new(judge, output);
     match &kind.manner {
         Manner::Balanced(balance) => balanced::write(balance, trace, lines),

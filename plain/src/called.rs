@@ -65,6 +65,13 @@ pub enum Handed {
         handle: Handle,
         class: Class,
     },
+    Identify {
+        identity: Handle,
+        sort: u32,
+        class: Class,
+        is_static: u32,
+        is_final: u32,
+    },
     End,
 }
 
@@ -124,6 +131,13 @@ impl Handed {
                 handle,
                 class: class.try_into().ok()?,
             },
+            (b'M', &[identity, sort, class, is_static, is_final]) => Handed::Identify {
+                identity,
+                sort: sort.try_into().ok()?,
+                class: class.try_into().ok()?,
+                is_static: is_static.try_into().ok()?,
+                is_final: is_final.try_into().ok()?,
+            },
             (b'Z', &[]) => Handed::End,
             _ => return None,
         };
@@ -140,6 +154,7 @@ impl Handed {
             Handed::Detach { .. } => b'D',
             Handed::Declare { .. } => b'K',
             Handed::State { .. } => b'O',
+            Handed::Identify { .. } => b'M',
             Handed::End => b'Z',
         }
     }
@@ -211,6 +226,19 @@ impl Handed {
                 thread,
                 handle,
                 class,
+            },
+            Handed::Identify {
+                identity,
+                sort,
+                class,
+                is_static,
+                is_final,
+            } => Event::M {
+                identity,
+                sort,
+                class,
+                is_static,
+                is_final,
             },
             Handed::End => Event::Z,
         };

@@ -1,8 +1,9 @@
 //! Traces chosen by what they show: short ones that show together all that many made traces show.
 
-use crate::limits::{self, PIN_ROWS, REFERENCE_ROWS};
+use crate::limits;
 use crate::make::{make, profile, Made, DENSE, PROFILES};
 use crate::random::Random;
+use crate::room::{Room, LENT};
 use crate::sights::sights;
 use std::collections::BTreeMap;
 
@@ -82,7 +83,7 @@ fn shortened(
 
 /// The sights of a trace by their numbers; a new one gets the next.
 fn shows(made: &Made, numbers: &mut BTreeMap<String, usize>) -> Vec<usize> {
-    let sights = sights(&made.trace, made.reference_rows, made.pin_rows);
+    let sights = sights(&made.trace, made.room);
     let number = |sight| {
         let next = numbers.len();
         *numbers.entry(sight).or_insert(next)
@@ -98,9 +99,13 @@ fn candidate(seed: u64) -> Made {
         2 => random.pick(&PROFILES),
         _ => *profile("edges").expect("a profile"),
     };
-    let (reference_rows, pin_rows) = match random.below(3) {
-        0 => (random.below(9), random.below(5)),
-        _ => (REFERENCE_ROWS, PIN_ROWS),
+    let room = match random.below(3) {
+        0 => Room {
+            references: random.below(9),
+            pins: random.below(5),
+            identities: random.below(5),
+        },
+        _ => LENT,
     };
     let lines = match profile.usual_lines {
         (fewest, most) if most <= MOST_LINES => random.between(fewest, most),
@@ -108,12 +113,11 @@ fn candidate(seed: u64) -> Made {
     } as usize;
     let mut made = Made {
         name: format!(
-            "traces --profile {} --seed {seed} --lines {lines} --rooms {reference_rows} {pin_rows}",
+            "traces --profile {} --seed {seed} --lines {lines} --rooms {room}",
             profile.name
         ),
-        reference_rows,
-        pin_rows,
-        trace: make(&profile, seed, lines, reference_rows, pin_rows),
+        room,
+        trace: make(&profile, seed, lines, room),
     };
     let cut = |line: &[u8]| match line {
         [body @ .., b'\n'] => [&body[..body.len().min(MOST_BYTES)], b"\n"].concat(),

@@ -13,19 +13,20 @@ use crate::judge::Judge;
 use crate::lent::book::{Fault, Top};
 use crate::lent::classes::is_reserved;
 use crate::lent::leaks::Leak;
-use crate::lent::lookup::Handles;
+use crate::lent::lookup::{Handles, Identities};
 use crate::lent::references::HANDLE;
 use crate::lent::rows::THREAD;
 use crate::lent::Tables;
 use crate::limits::*;
 use crate::line::{self, Event};
 use crate::refusal::*;
+use crate::room::Room;
 use crate::standing::Standing;
 use std::collections::BTreeMap;
 use std::fmt;
 
 /// The causes of refusals from a start, but for those that every line has.
-const CAUSES: [(Refusal, &str); 44] = [
+const CAUSES: [(Refusal, &str); 47] = [
     (NO_LINE, "long"),
     (NO_LINE, "no LF"),
     (MALFORMED, NO_LETTER),
@@ -55,6 +56,7 @@ const CAUSES: [(Refusal, &str); 44] = [
     (WRONG_CLASS, "K of itself"),
     (WRONG_CLASS, "K super"),
     (WRONG_CLASS, "O class"),
+    (WRONG_CLASS, "M class"),
     (NOT_ALIVE, "O null"),
     (NOT_ALIVE, "O identity"),
     (NOT_ALIVE, "O another's local"),
@@ -64,12 +66,14 @@ const CAUSES: [(Refusal, &str); 44] = [
     (OUT_OF_STEP, "A or D after Z"),
     (OUT_OF_STEP, "K after Z"),
     (OUT_OF_STEP, "O after Z"),
+    (OUT_OF_STEP, "M after Z"),
     (NO_ROOM, "N handles"),
     (NO_ROOM, "N items"),
     (NO_ROOM, "N frames"),
     (NO_ROOM, "R handles"),
     (NO_ROOM, "R buffers"),
     (NO_ROOM, "R frames"),
+    (NO_ROOM, "M identities"),
 ];
 
 /// Those that come up over foreign tables alone; line 1,000,001 from a start is left to a trace of its own.
@@ -312,9 +316,9 @@ impl Coverage {
         }
     }
 
-    /// Adds what a judge with these rows says of a trace; the judge as it is then.
-    pub fn add_trace(&mut self, trace: &[u8], reference_rows: usize, pin_rows: usize) -> Judge {
-        let mut judge = Judge::new(reference_rows, pin_rows);
+    /// Adds what a judge with this room says of a trace; the judge as it is then.
+    pub fn add_trace(&mut self, trace: &[u8], room: Room) -> Judge {
+        let mut judge = Judge::new(room);
         for line in trace.split_inclusive(|&byte| byte == b'\n') {
             self.look(&judge.tables(), line);
             let stepped = judge.step(line);
@@ -644,6 +648,15 @@ pub fn grounds(tables: &Tables, event: &Event) -> Vec<(Refusal, &'static str)> {
             handle,
             class,
         } => against_statement(tables, thread, handle, class),
+        Event::M {
+            identity, class, ..
+        } => {
+            let has_room = tables.identities.has_room_for(identity);
+            vec![
+                (WRONG_CLASS, "M class", !tables.classes.is_known(class)),
+                (NO_ROOM, "M identities", !has_room),
+            ]
+        }
         Event::Z => Vec::new(),
     };
     if book.is_closed() {
@@ -652,6 +665,7 @@ pub fn grounds(tables: &Tables, event: &Event) -> Vec<(Refusal, &'static str)> {
             Event::A { .. } | Event::D { .. } => "A or D after Z",
             Event::K { .. } => "K after Z",
             Event::O { .. } => "O after Z",
+            Event::M { .. } => "M after Z",
             _ => "after Z",
         };
         grounds.insert(0, (OUT_OF_STEP, cause, true));

@@ -2,7 +2,7 @@
 
 use crate::damage::{MALFORMED, NUMBERS};
 use crate::facts::*;
-use crate::form::{with_fields, Kind, CAPACITY, ENV, HANDLE, RESULT};
+use crate::form::{with_fields, Kind, CAPACITY, ENV, HANDLE, IDENTITY, RESULT};
 use crate::limits::{Field, Handle, MOST_HANDLES, THREADS};
 use crate::random::Random;
 use crate::twin::HIGH;
@@ -26,6 +26,12 @@ pub fn edge_line(random: &mut Random) -> Vec<u8> {
         b'O' => {
             let handle = random.between(0, 20).into();
             vec![thread, handle, random.between(1, 20).into()]
+        }
+        b'M' => {
+            let [sort, class, is_static, is_final] = [(1, 2), (1, 20), (0, 1), (0, 1)]
+                .map(|(least, greatest)| random.between(least, greatest).into());
+            let identity = Field::from(4 * random.between(1, 5));
+            vec![identity, sort, class, is_static, is_final]
         }
         _ => answer_fields(thread, random),
     };
@@ -72,6 +78,10 @@ fn edges(kind: Kind) -> Vec<Field> {
             edges.extend(all.chain(greatest - 3..greatest));
         }
         ENV => edges.extend(Field::from(HIGH) - 1..=Field::from(HIGH) + 1),
+        IDENTITY => {
+            let middle = Field::from(HIGH);
+            edges.extend((1..=8).chain(middle - 4..middle + 4));
+        }
         CAPACITY => edges.push(1),
         _ => {}
     }

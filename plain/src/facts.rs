@@ -1,6 +1,7 @@
 //! The facts of the 229 JNI functions: the places and result of each, and where it is allowed.
 
 use crate::class::{CLASS, STRING, THROWABLE};
+use crate::identity::{wanted, Wanted};
 use crate::limits::{Class, Handle};
 
 pub const FIRST_FUNCTION: u32 = 4;
@@ -67,7 +68,7 @@ pub enum PlaceKind {
     Local,
     Global,
     Weak,
-    Identity,
+    Identity(Wanted),
     Buffer(Family),
 }
 
@@ -103,7 +104,7 @@ impl Facts {
             PlaceKind::Local => 'l',
             PlaceKind::Global => 'g',
             PlaceKind::Weak => 'w',
-            PlaceKind::Identity => 'i',
+            PlaceKind::Identity(_) => 'i',
             PlaceKind::Buffer(_) => 'b',
         };
         let result = match self.result {
@@ -127,6 +128,15 @@ impl Facts {
             _ => '-',
         };
         self.classes.map(letter).iter().collect()
+    }
+
+    /// What is wanted of the identity, if there is a place for one.
+    pub fn wanted(&self) -> Option<Wanted> {
+        let wanted = |place: PlaceKind| match place {
+            PlaceKind::Identity(wanted) => Some(wanted),
+            _ => None,
+        };
+        self.places.into_iter().find_map(wanted)
     }
 
     /// The family of a get or a release.
@@ -226,7 +236,7 @@ const fn place_kind(letter: u8, function: u32) -> PlaceKind {
         b'l' => PlaceKind::Local,
         b'g' => PlaceKind::Global,
         b'w' => PlaceKind::Weak,
-        b'i' => PlaceKind::Identity,
+        b'i' => PlaceKind::Identity(wanted(function)),
         b'b' => PlaceKind::Buffer(family(function)),
         _ => panic!("no such place kind"),
     }

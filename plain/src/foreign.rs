@@ -3,6 +3,7 @@
 mod classes;
 mod contents;
 mod crowd;
+mod identities;
 mod lengths;
 mod lines;
 mod pieces;

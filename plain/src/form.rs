@@ -1,6 +1,7 @@
 //! The forms of lines: the letter and the fields of each, and the range of each kind of field.
 
 use crate::facts::{FIRST_FUNCTION, LAST_FUNCTION};
+use crate::identity::{FIELD, METHOD};
 use crate::limits::{Field, Handle, MOST_CLASSES, MOST_HANDLES, THREADS};
 
 /// A kind of field: the least and the greatest number it may be.
@@ -23,6 +24,10 @@ pub const CAPACITY: Kind = Kind(i32::MIN as Field, i32::MAX as Field);
 pub const RESULT: Kind = Kind(CAPACITY.0, HANDLE.1);
 pub const PENDING: Kind = Kind(0, 1);
 pub const CLASS: Kind = Kind(1, MOST_CLASSES as Field);
+/// An identity that is stated: a multiple of 4 in this range.
+pub const IDENTITY: Kind = Kind(4, Handle::MAX as Field - 3);
+pub const SORT: Kind = Kind(METHOD as Field, FIELD as Field);
+pub const FLAG: Kind = Kind(0, 1);
 
 #[derive(Debug)]
 pub struct Form {
@@ -32,7 +37,7 @@ pub struct Form {
     pub handles: usize,
 }
 
-pub static FORMS: [Form; 9] = [
+pub static FORMS: [Form; 10] = [
     Form {
         letter: b'N',
         fields: &[THREAD, ENV],
@@ -71,6 +76,11 @@ pub static FORMS: [Form; 9] = [
     Form {
         letter: b'O',
         fields: &[THREAD, HANDLE, CLASS],
+        handles: 0,
+    },
+    Form {
+        letter: b'M',
+        fields: &[IDENTITY, SORT, CLASS, FLAG, FLAG],
         handles: 0,
     },
     Form {

@@ -6,8 +6,9 @@ use crate::lent::lookup::{Lookup, Scan};
 use crate::lent::slices::Slices;
 use crate::lent::Tables;
 use crate::refusal::Refusal;
+use crate::room::Room;
 
-/// A judge that finds rows by a scan if nothing else is said.
+/// A judge that scans its rows if nothing else is said.
 #[derive(Clone, Debug, PartialEq, Eq)]
 pub struct Judge<L = Scan> {
     slices: Slices,
@@ -15,22 +16,22 @@ pub struct Judge<L = Scan> {
 }
 
 impl Judge {
-    pub fn new(reference_rows: usize, pin_rows: usize) -> Judge {
-        Judge::with(Scan, reference_rows, pin_rows)
+    pub fn new(room: Room) -> Judge {
+        Judge::with(Scan, room)
     }
 }
 
 impl<L: Lookup> Judge<L> {
     /// A judge that finds rows in this way.
-    pub fn with(lookup: L, reference_rows: usize, pin_rows: usize) -> Judge<L> {
+    pub fn with(lookup: L, room: Room) -> Judge<L> {
         Judge {
-            slices: Slices::new(reference_rows, pin_rows),
+            slices: Slices::new(room),
             lookup,
         }
     }
 
     /// What the judge knows.
-    pub fn tables(&mut self) -> Tables<'_, L::Handles<'_>, L::Buffers<'_>> {
+    pub fn tables(&mut self) -> Tables<'_, L::Handles<'_>, L::Buffers<'_>, L::Identities<'_>> {
         self.lookup.tables(self.slices.lend())
     }
 

@@ -5,6 +5,7 @@
 
 pub mod book;
 pub mod classes;
+pub mod identities;
 pub mod leaks;
 pub mod lookup;
 pub mod piece;
@@ -17,13 +18,15 @@ mod step;
 
 use book::Book;
 use classes::Classes;
+use identities::Places;
 use pins::Pins;
 use references::References;
 
-/// What is seen in the six lent slices; rows are scanned if nothing else is said.
-pub struct Tables<'a, H = References<'a>, B = Pins<'a>> {
+/// What is seen in the six lent slices; rows are scanned and places looked through if nothing else is said.
+pub struct Tables<'a, H = References<'a>, B = Pins<'a>, I = Places<'a>> {
     pub references: H,
     pub pins: B,
     pub book: Book<'a>,
     pub classes: Classes<'a>,
+    pub identities: I,
 }

@@ -6,7 +6,7 @@ pub type Handle = u64;
 pub type Number = Handle;
 /// A number of the thread book, or the marks of as many rows as it has bits.
 pub type Word = u64;
-/// The number of a class, and a number of the class table.
+/// The number of a class.
 pub type Class = u32;
 /// A number on a line, wider than the range of every field.
 pub type Field = i128;
@@ -25,14 +25,12 @@ pub const MOST_FRAMES: usize = 64;
 /// The room for new locals in the frame of a native or of an attached item; the handles on an N line come on top.
 pub const NEW_LOCALS: u32 = 16;
 
-/// The greatest number of a class, and so the numbers of a whole class table.
+/// The greatest number of a class, and so the supers of a whole class table.
 pub const MOST_CLASSES: usize = 4_095;
 
-/// The numbers of a reference row and of a pin row.
+/// The numbers of a reference row, of a pin row and of an identity.
 pub const REFERENCE_NUMBERS: usize = 5;
 pub const PIN_NUMBERS: usize = 4;
+pub const IDENTITY_NUMBERS: usize = 4;
 /// The most rows that count as room.
 pub const MOST_ROOM: usize = 65_536;
-/// The reference rows and pin rows the program lends.
-pub const REFERENCE_ROWS: usize = 1_024;
-pub const PIN_ROWS: usize = 256;

@@ -1,4 +1,4 @@
-//! A line of a trace: the nine events, the reader and the writer of one line.
+//! A line of a trace: the ten events, the reader and the writer of one line.
 
 use crate::facts::{known, PlaceKind, ResultKind, GLOBAL, LOCAL, WEAK};
 use crate::form::{form, MOST_NUMBERS};
@@ -48,6 +48,14 @@ pub enum Event {
         thread: u32,
         handle: Handle,
         class: Class,
+    },
+    /// An identity is stated: its sort, its class, and whether it is static and final.
+    M {
+        identity: Handle,
+        sort: u32,
+        class: Class,
+        is_static: u32,
+        is_final: u32,
     },
     /// End of the run.
     Z,
@@ -101,6 +109,13 @@ impl Event {
                 thread: thread.try_into().ok()?,
                 handle: handle.try_into().ok()?,
                 class: class.try_into().ok()?,
+            },
+            (b'M', &[identity, sort, class, is_static, is_final]) => Event::M {
+                identity: identity.try_into().ok()?,
+                sort: sort.try_into().ok()?,
+                class: class.try_into().ok()?,
+                is_static: is_static.try_into().ok()?,
+                is_final: is_final.try_into().ok()?,
             },
             (b'Z', &[]) => Event::Z,
             _ => return None,
@@ -164,12 +179,25 @@ impl Event {
                 let numbers = [thread.into(), handle.into(), class.into()];
                 (b'O', Numbers::of(numbers))
             }
+            Event::M {
+                identity,
+                sort,
+                class,
+                is_static,
+                is_final,
+            } => {
+                let mut numbers = Numbers::of([identity.into()]);
+                for number in [sort, class, is_static, is_final] {
+                    numbers.push(number.into());
+                }
+                (b'M', numbers)
+            }
             Event::Z => (b'Z', Numbers::of([])),
         };
         Some(parts)
     }
 
-    /// Whether each N handle, unused place, capacity and result is what is said of it.
+    /// Whether each N handle, unused place, capacity, result and stated identity is what is said of it.
     fn fits(&self) -> bool {
         match *self {
             Event::N { count, handles, .. } => {
@@ -189,6 +217,7 @@ impl Event {
             Event::R {
                 function, result, ..
             } => is_result(known(function).result, result),
+            Event::M { identity, .. } => identity.is_multiple_of(4),
             Event::X { .. }
             | Event::A { .. }
             | Event::D { .. }

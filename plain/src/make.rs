@@ -15,14 +15,14 @@ use crate::limits::*;
 use crate::line::{self, Event};
 use crate::random::Random;
 use crate::refusal::Refusal;
+use crate::room::Room;
 use crate::twin::{twin_of, ADDRESS, HIGH};
 
-/// A trace, how it is made, and the rows of the judge that it is for.
+/// A trace, how it is made, and the room of the judge that it is for.
 #[derive(Clone, Debug)]
 pub struct Made {
     pub name: String,
-    pub reference_rows: usize,
-    pub pin_rows: usize,
+    pub room: Room,
     pub trace: Vec<u8>,
 }
 
@@ -495,14 +495,8 @@ pub fn profile(name: &str) -> Option<&'static Profile> {
     profiles.find(|profile| profile.name == name)
 }
 
-/// Makes a trace of about that many lines, for a judge with those rows.
-pub fn make(
-    profile: &Profile,
-    seed: u64,
-    lines: usize,
-    reference_rows: usize,
-    pin_rows: usize,
-) -> Vec<u8> {
+/// Makes a trace of about that many lines, for a judge with that room.
+pub fn make(profile: &Profile, seed: u64, lines: usize, room: Room) -> Vec<u8> {
     let mut random = Random::new(seed);
     let mut threads: Vec<u32> = (1..=THREADS).collect();
     for index in 0..threads.len() {
@@ -516,7 +510,7 @@ pub fn make(
         profile,
         random,
         bases,
-        judge: Judge::new(reference_rows, pin_rows),
+        judge: Judge::new(room),
         threads,
         lines: Vec::new(),
     };
@@ -842,7 +836,7 @@ impl Maker<'_> {
         }
         let is_handle = !matches!(
             kind,
-            PlaceKind::Unused | PlaceKind::Identity | PlaceKind::Buffer(_)
+            PlaceKind::Unused | PlaceKind::Identity(_) | PlaceKind::Buffer(_)
         );
         if is_handle && self.random.percent(self.profile.stale) {
             let kind = self.random.pick(&[LOCAL, LOCAL, GLOBAL, WEAK]);
@@ -862,7 +856,7 @@ impl Maker<'_> {
             PlaceKind::Local => self.alive(thread, LOCAL).or(Some(0)),
             PlaceKind::Global => self.alive(thread, GLOBAL).or(Some(0)),
             PlaceKind::Weak => self.alive(thread, WEAK).or(Some(0)),
-            PlaceKind::Identity => Some(self.number(0)),
+            PlaceKind::Identity(_) => Some(self.number(0)),
             PlaceKind::Buffer(family) => self.outstanding(thread, family),
         };
         match good {

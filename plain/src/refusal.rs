@@ -15,7 +15,7 @@ pub const ALREADY_ALIVE: Refusal = 6;
 pub const NO_ROOM: Refusal = 7;
 /// The lent thread book is unfit, or the lent class table short.
 pub const UNFIT_TABLES: Refusal = 8;
-/// K of a class declared or reserved, or a super or a stated class that is neither.
+/// K of a class declared or reserved, or a super, or a class that O or M states, that is neither.
 pub const WRONG_CLASS: Refusal = 9;
 /// O on a handle not alive.
 pub const NOT_ALIVE: Refusal = 10;

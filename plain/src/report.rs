@@ -5,6 +5,7 @@ use crate::lent::leaks::Leak;
 use crate::lent::lookup::Lookup;
 use crate::limits::MOST_BYTES;
 use crate::refusal::Refusal;
+use crate::room::Room;
 use std::io::{self, BufWriter, ErrorKind, Read, Write};
 
 const BUFFER_BYTES: usize = 1 << 16;
@@ -12,22 +13,22 @@ const BUFFER_BYTES: usize = 1 << 16;
 const NEVER: &str = "memory neither fails to read nor to write";
 
 /// The report on an input held in memory.
-pub fn report(input: &[u8], reference_rows: usize, pin_rows: usize) -> Vec<u8> {
-    judged(input, reference_rows, pin_rows).0
+pub fn report(input: &[u8], room: Room) -> Vec<u8> {
+    judged(input, room).0
 }
 
 /// The same, and a line for each leak behind it where the trace is closed.
-pub fn report_and_leaks(input: &[u8], reference_rows: usize, pin_rows: usize) -> Vec<u8> {
-    let (mut output, mut judge) = judged(input, reference_rows, pin_rows);
+pub fn report_and_leaks(input: &[u8], room: Room) -> Vec<u8> {
+    let (mut output, mut judge) = judged(input, room);
     if let Ok(leaks) = judge.leaks() {
         write_leaks(&leaks, &mut output).expect(NEVER);
     }
     output
 }
 
-fn judged(mut input: &[u8], reference_rows: usize, pin_rows: usize) -> (Vec<u8>, Judge) {
+fn judged(mut input: &[u8], room: Room) -> (Vec<u8>, Judge) {
     let mut output = Vec::new();
-    let judge = Judge::new(reference_rows, pin_rows);
+    let judge = Judge::new(room);
     let judge = judge_input(judge, &mut input, &mut output).expect(NEVER);
     (output, judge)
 }

@@ -21,6 +21,7 @@ use crate::lent::Tables;
 use crate::limits::*;
 use crate::line::{self, Event};
 use crate::refusal::{Refusal, ALREADY_ALIVE, NOT_ALIVE, WRONG_CLASS};
+use crate::room::Room;
 use classes::Classed;
 use past::{Frame, Past};
 use std::collections::BTreeSet;
@@ -32,9 +33,9 @@ type Pin = [Number; PIN_NUMBERS];
 type Buffer = [Number; 3];
 
 /// What the lines of a trace show, up to the first that is refused.
-pub fn sights(trace: &[u8], reference_rows: usize, pin_rows: usize) -> BTreeSet<String> {
+pub fn sights(trace: &[u8], room: Room) -> BTreeSet<String> {
     let mut watch = Watch {
-        judge: Judge::new(reference_rows, pin_rows),
+        judge: Judge::new(room),
         past: Past::default(),
         classed: Classed::default(),
         findings: 0,
@@ -243,6 +244,7 @@ impl Watch {
                 let shown = self.classed.class_event(&self.judge.tables(), event);
                 self.sights.extend(shown);
             }
+            Event::M { .. } => {}
             Event::Z => self.close(),
         }
     }
@@ -385,7 +387,7 @@ impl Watch {
         };
         match kind {
             PlaceKind::Unused => {}
-            PlaceKind::Identity => self.show(format!("i: {class}")),
+            PlaceKind::Identity(_) => self.show(format!("i: {class}")),
             PlaceKind::Buffer(family) => self.buffer(thread, family, value),
             _ => {
                 let references = self.judge.tables().references;
@@ -536,7 +538,7 @@ fn letter(event: &Event) -> char {
     letter.into()
 }
 
-/// The thread of an event; K and Z are of none.
+/// The thread of an event; K, M and Z are of none.
 fn thread(event: &Event) -> u32 {
     match *event {
         Event::N { thread, .. }
@@ -546,7 +548,7 @@ fn thread(event: &Event) -> u32 {
         | Event::A { thread, .. }
         | Event::D { thread }
         | Event::O { thread, .. } => thread,
-        Event::K { .. } | Event::Z => 0,
+        Event::K { .. } | Event::M { .. } | Event::Z => 0,
     }
 }
 

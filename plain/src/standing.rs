@@ -24,18 +24,16 @@ impl Standing {
         if stated == 0 {
             return Standing::Unstated;
         }
-        let Ok(mut class) = Class::try_from(stated) else {
-            return Standing::Lost;
-        };
+        let mut class = stated;
         for supers in 0..=MOST_CLASSES {
-            if class == fixed {
+            if class == fixed.into() {
                 return match supers {
                     0 => Standing::Itself,
                     _ => Standing::Below(supers),
                 };
             }
-            if is_reserved(class) {
-                return Standing::Under(class, supers);
+            if let Some(reserved) = Class::try_from(class).ok().filter(|&one| is_reserved(one)) {
+                return Standing::Under(reserved, supers);
             }
             match classes.superclass(class) {
                 None => return Standing::Lost,

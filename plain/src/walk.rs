@@ -6,12 +6,11 @@ mod attached;
 use crate::class::{FIRST_DECLARED, OBJECT, STRING};
 use crate::facts::*;
 use crate::form::FORMS;
-use crate::limits::{
-    Field, Handle, MOST_BYTES, MOST_FRAMES, MOST_HANDLES, MOST_ITEMS, PIN_ROWS, REFERENCE_ROWS,
-};
+use crate::limits::{Field, Handle, MOST_BYTES, MOST_FRAMES, MOST_HANDLES, MOST_ITEMS};
 use crate::line;
 use crate::make::Made;
 use crate::refusal::OUT_OF_RANGE;
+use crate::room::LENT;
 use crate::twin::{ADDRESS, HIGH};
 
 /// After these lines a local 5, a global 6 and a weak 7 are alive, stated to be a class, a string and a throwable.
@@ -325,8 +324,7 @@ fn made(name: String, lines: &[String]) -> Made {
 fn of_bytes(name: String, trace: Vec<u8>) -> Made {
     Made {
         name,
-        reference_rows: REFERENCE_ROWS,
-        pin_rows: PIN_ROWS,
+        room: LENT,
         trace,
     }
 }

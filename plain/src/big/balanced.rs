@@ -10,6 +10,7 @@ use crate::lent::references::owner;
 use crate::limits::*;
 use crate::line::Event;
 use crate::random::Random;
+use crate::room::LENT;
 use crate::twin::ADDRESS;
 use std::io::{self, Write};
 
@@ -176,7 +177,7 @@ impl<W: Write> Maker<'_, W> {
         };
         let places = [0, 1, 2].map(|index| match (facts.places[index], facts.classes[index]) {
             (PlaceKind::Unused, _) => 0,
-            (PlaceKind::Identity, _) => self.number(0),
+            (PlaceKind::Identity(_), _) => self.number(0),
             (_, Some(_)) if self.random.below(300) == 0 => none,
             _ => self.random.pick(&classes),
         });
@@ -251,7 +252,7 @@ impl<W: Write> Maker<'_, W> {
         let kinds = known(function).places;
         let places = kinds.map(|kind| match kind {
             PlaceKind::Unused => 0,
-            PlaceKind::Identity => self.number(0),
+            PlaceKind::Identity(_) => self.number(0),
             _ if self.random.below(300) == 0 => self.any(thread, LOCAL),
             _ => self.handle(thread),
         });
@@ -289,7 +290,7 @@ impl<W: Write> Maker<'_, W> {
     fn get_or_release(&mut self, thread: u32) -> io::Result<()> {
         let array = self.handle(thread);
         let outstanding = self.trace.judge.tables().pins.used();
-        if outstanding < PIN_ROWS - THREADS as usize && self.random.percent(4) {
+        if outstanding < LENT.pins - THREADS as usize && self.random.percent(4) {
             return self.put_call(thread, CRITICAL_ARRAY.get(), [array, 0, 0], 0);
         }
         let gets = if outstanding + 10 < self.balance.outstanding {

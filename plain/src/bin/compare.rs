@@ -2,10 +2,10 @@
 //! first trace they differ on. With `--leaks` the other judge is run with `--leaks` too, and what both list is compared.
 
 use plain::coverage::Coverage;
-use plain::limits::{PIN_ROWS, REFERENCE_ROWS};
 use plain::make::{make, profile, Made, Profile, PROFILES};
 use plain::random::Random;
 use plain::report::{report, report_and_leaks};
+use plain::room::LENT;
 use plain::shrink::shrink;
 use plain::walk::walk;
 use std::io::{self, Read, Write};
@@ -108,7 +108,7 @@ fn compare(wish: Wish) -> io::Result<bool> {
             break;
         }
         traces += 1;
-        let mut judge = coverage.add_trace(&made.trace, REFERENCE_ROWS, PIN_ROWS);
+        let mut judge = coverage.add_trace(&made.trace, LENT);
         if wish.other.leaks {
             coverage.add_list(&judge.leaks());
         }
@@ -132,9 +132,8 @@ fn made(seed: u64, index: u64, leaks: bool) -> Made {
             "traces --seed {seed} --profile {} --lines {lines}",
             profile.name
         ),
-        reference_rows: REFERENCE_ROWS,
-        pin_rows: PIN_ROWS,
-        trace: make(profile, seed, lines, REFERENCE_ROWS, PIN_ROWS),
+        room: LENT,
+        trace: make(profile, seed, lines, LENT),
     }
 }
 
@@ -159,7 +158,7 @@ impl Other {
     /// What the plain judge prints.
     fn wanted(&self, trace: &[u8]) -> Vec<u8> {
         let print = if self.leaks { report_and_leaks } else { report };
-        print(trace, REFERENCE_ROWS, PIN_ROWS)
+        print(trace, LENT)
     }
 
     /// Shrinks the trace and tells it with both reports.

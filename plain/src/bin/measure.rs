@@ -2,8 +2,8 @@
 
 use plain::judge::Judge;
 use plain::lent::lookup::Lookup;
-use plain::limits::{PIN_ROWS, REFERENCE_ROWS};
 use plain::line::read;
+use plain::room::{Room, LENT};
 use std::hint::black_box;
 use std::process::ExitCode;
 use std::time::Instant;
@@ -13,7 +13,7 @@ const ROUNDS: u32 = 7;
 
 fn main() -> ExitCode {
     let arguments: Vec<String> = std::env::args().skip(1).collect();
-    let Some((reference_rows, file)) = wish(&arguments) else {
+    let Some((room, file)) = wish(&arguments) else {
         eprintln!("usage: measure [--rows REFERENCE_ROWS] TRACE");
         return ExitCode::from(2);
     };
@@ -31,10 +31,10 @@ fn main() -> ExitCode {
         }
     });
     let judge = best(lines.len(), || {
-        judge_all(Judge::new(reference_rows, PIN_ROWS), &lines);
+        judge_all(Judge::new(room), &lines);
     });
     let indexed = best(lines.len(), || {
-        judge_all(Judge::indexed(reference_rows, PIN_ROWS), &lines);
+        judge_all(Judge::indexed(room), &lines);
     });
     println!("{} lines, {} bytes", lines.len(), trace.len());
     println!("reader {reader:.1} ns/line");
@@ -43,11 +43,14 @@ fn main() -> ExitCode {
     ExitCode::SUCCESS
 }
 
-/// The reference rows, and the file with the trace.
-fn wish(arguments: &[String]) -> Option<(usize, &str)> {
+/// The room, and the file with the trace.
+fn wish(arguments: &[String]) -> Option<(Room, &str)> {
     match arguments {
-        [file] => Some((REFERENCE_ROWS, file)),
-        [option, rows, file] if option == "--rows" => Some((rows.parse().ok()?, file)),
+        [file] => Some((LENT, file)),
+        [option, rows, file] if option == "--rows" => {
+            let references = rows.parse().ok()?;
+            Some((Room { references, ..LENT }, file))
+        }
         _ => None,
     }
 }

@@ -2,18 +2,18 @@
 
 use plain::judge::Judge;
 use plain::lent::lookup::Lookup;
-use plain::limits::{PIN_ROWS, REFERENCE_ROWS};
 use plain::report::{judge_input, write_leaks};
+use plain::room::{Room, LENT};
 use std::io;
 use std::process::ExitCode;
 
-const USAGE: &str = "usage: plain [--indexed] [--leaks] [--rooms REFERENCE_ROWS PIN_ROWS] < TRACE";
+const USAGE: &str =
+    "usage: plain [--indexed] [--leaks] [--rooms REFERENCE_ROWS PIN_ROWS IDENTITIES] < TRACE";
 
 struct Wish {
     indexed: bool,
     leaks: bool,
-    reference_rows: usize,
-    pin_rows: usize,
+    room: Room,
 }
 
 fn main() -> ExitCode {
@@ -23,11 +23,10 @@ fn main() -> ExitCode {
         eprintln!("{USAGE}");
         return ExitCode::from(2);
     };
-    let (reference_rows, pin_rows) = (wish.reference_rows, wish.pin_rows);
     let judged = if wish.indexed {
-        judge(Judge::indexed(reference_rows, pin_rows), wish.leaks)
+        judge(Judge::indexed(wish.room), wish.leaks)
     } else {
-        judge(Judge::new(reference_rows, pin_rows), wish.leaks)
+        judge(Judge::new(wish.room), wish.leaks)
     };
     match judged {
         Ok(()) => ExitCode::SUCCESS,
@@ -47,18 +46,15 @@ fn wish(arguments: &[&str]) -> Option<Wish> {
         ["--leaks", rooms @ ..] => (true, rooms),
         rooms => (false, rooms),
     };
-    let (reference_rows, pin_rows) = match rooms {
-        [] => (REFERENCE_ROWS, PIN_ROWS),
-        ["--rooms", reference_rows, pin_rows] => {
-            (reference_rows.parse().ok()?, pin_rows.parse().ok()?)
-        }
+    let room = match rooms {
+        [] => LENT,
+        ["--rooms", references, pins, identities] => Room::of(references, pins, identities)?,
         _ => return None,
     };
     Some(Wish {
         indexed,
         leaks,
-        reference_rows,
-        pin_rows,
+        room,
     })
 }
 

@@ -1,12 +1,13 @@
 //! Prints made traces: one of a profile from a seed, a big one of a kind, or several with the plain judge's reports and leaks.
 //!
-//! Of several, each has a line `REFERENCE_ROWS PIN_ROWS BYTES REPORT_BYTES NAME`, then its bytes, then those of its report with its leaks.
+//! Of several, each has a line `REFERENCE_ROWS PIN_ROWS IDENTITIES BYTES REPORT_BYTES NAME`, then its bytes, then those of its report with its leaks.
 
 use plain::big::{self, big, natives};
 use plain::chosen::chosen;
-use plain::limits::{MOST_LINES, PIN_ROWS, REFERENCE_ROWS};
+use plain::limits::MOST_LINES;
 use plain::make::{make, profile, Made, Profile, DENSE, PROFILES};
 use plain::report::report_and_leaks;
+use plain::room::{Room, LENT};
 use plain::walk::walk;
 use std::io::{self, BufWriter, Write};
 use std::process::ExitCode;
@@ -17,8 +18,7 @@ enum Wish {
         profile: &'static Profile,
         seed: u64,
         lines: usize,
-        reference_rows: usize,
-        pin_rows: usize,
+        room: Room,
     },
     Big {
         kind: big::Kind,
@@ -68,7 +68,7 @@ fn big_wish(kind: &str, lines: &str) -> Option<Wish> {
 
 fn made_wish(arguments: &[&str]) -> Option<Wish> {
     let (mut seed, mut named, mut lines) = (1, None, 100);
-    let (mut reference_rows, mut pin_rows) = (REFERENCE_ROWS, PIN_ROWS);
+    let mut room = LENT;
     let mut rest = arguments;
     loop {
         rest = match *rest {
@@ -84,9 +84,8 @@ fn made_wish(arguments: &[&str]) -> Option<Wish> {
                 lines = number.parse().ok()?;
                 after
             }
-            ["--rooms", references, pins, ref after @ ..] => {
-                reference_rows = references.parse().ok()?;
-                pin_rows = pins.parse().ok()?;
+            ["--rooms", references, pins, identities, ref after @ ..] => {
+                room = Room::of(references, pins, identities)?;
                 after
             }
             [] => break,
@@ -97,8 +96,7 @@ fn made_wish(arguments: &[&str]) -> Option<Wish> {
         profile,
         seed,
         lines,
-        reference_rows,
-        pin_rows,
+        room,
     })
 }
 
@@ -109,17 +107,16 @@ fn print(wish: Wish) -> io::Result<()> {
             profile,
             seed,
             lines,
-            reference_rows,
-            pin_rows,
-        } => output.write_all(&make(profile, seed, lines, reference_rows, pin_rows))?,
+            room,
+        } => output.write_all(&make(profile, seed, lines, room))?,
         Wish::Big { kind, lines } => big(&kind, lines, &mut output)?,
         Wish::Natives { lines } => natives(lines, &mut output)?,
         Wish::Several(traces) => {
             for made in traces {
-                let (rows, pins) = (made.reference_rows, made.pin_rows);
-                let report = report_and_leaks(&made.trace, rows, pins);
+                let report = report_and_leaks(&made.trace, made.room);
                 let (bytes, report_bytes) = (made.trace.len(), report.len());
-                writeln!(output, "{rows} {pins} {bytes} {report_bytes} {}", made.name)?;
+                let room = made.room;
+                writeln!(output, "{room} {bytes} {report_bytes} {}", made.name)?;
                 output.write_all(&made.trace)?;
                 output.write_all(&report)?;
             }
@@ -130,7 +127,7 @@ fn print(wish: Wish) -> io::Result<()> {
 
 fn usage() {
     eprintln!(
-        "usage: traces --profile NAME [--seed S] [--lines N] [--rooms REFERENCE_ROWS PIN_ROWS]"
+        "usage: traces --profile NAME [--seed S] [--lines N] [--rooms REFERENCE_ROWS PIN_ROWS IDENTITIES]"
     );
     eprintln!("       traces --big KIND N, at most {MOST_LINES} lines, accepted to the last");
     eprintln!("       traces --big natives N, any number of lines, without a Z");

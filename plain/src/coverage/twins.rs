@@ -73,7 +73,7 @@ pub fn of_accepted(tables: &Tables, event: &Event, findings: &Findings) -> Vec<&
             let beside = has_twin_env(tables, env).then_some("an env is attached beside");
             beside.into_iter().collect()
         }
-        Event::D { .. } | Event::K { .. } | Event::Z => Vec::new(),
+        Event::D { .. } | Event::K { .. } | Event::M { .. } | Event::Z => Vec::new(),
     }
 }
 
@@ -122,7 +122,7 @@ fn of_call(tables: &Tables, event: &Event, findings: &Findings) -> Vec<&'static 
         let rule = rule.map(|found| found.rule);
         seen.extend(null(value));
         match facts.places[index] {
-            PlaceKind::Unused | PlaceKind::Identity => {}
+            PlaceKind::Unused | PlaceKind::Identity(_) => {}
             PlaceKind::Buffer(family) => {
                 let owner = pins::owner(thread, family);
                 let rows = &tables.pins.rows;

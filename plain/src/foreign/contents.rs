@@ -2,6 +2,7 @@
 
 use super::classes;
 use super::crowd::crowd;
+use super::identities;
 use super::lengths::{great, of_book, of_classes, of_rows};
 use crate::facts::{FIRST_FUNCTION, GLOBAL, LAST_FUNCTION, LOCAL, PUSH_LOCAL_FRAME, WEAK};
 use crate::lent::book::*;
@@ -11,6 +12,7 @@ use crate::lent::slices::Slices;
 use crate::limits::*;
 use crate::make;
 use crate::random::Random;
+use crate::room::Room;
 use crate::twin::{twin_of, HIGH};
 
 /// Tables, and lines of a trace that may follow.
@@ -40,24 +42,26 @@ pub fn make(random: &mut Random) -> Foreign {
 
 /// Six empty slices.
 fn nothing() -> Slices {
-    let mut slices = Slices::new(0, 0);
-    slices.book.clear();
-    slices.classes.clear();
-    slices
+    Slices {
+        rows: Vec::new(),
+        marks: Vec::new(),
+        pins: Vec::new(),
+        pin_marks: Vec::new(),
+        book: Vec::new(),
+        classes: Vec::new(),
+    }
 }
 
 /// Any numbers.
 fn wild(random: &mut Random) -> Slices {
     let mut slices = lengths(random);
-    for number in slices.rows.iter_mut().chain(&mut slices.pins) {
+    let numbers = slices.rows.iter_mut().chain(&mut slices.pins);
+    for number in numbers.chain(&mut slices.classes) {
         *number = random.number();
     }
     let words = slices.marks.iter_mut().chain(&mut slices.pin_marks);
     for number in words.chain(&mut slices.book) {
         *number = random.number();
-    }
-    for number in &mut slices.classes {
-        *number = random.number() as Class;
     }
     slices
 }
@@ -74,7 +78,7 @@ fn small(random: &mut Random) -> Slices {
     twin_columns(random, &mut slices);
     some_marks(random, &mut slices.marks);
     some_marks(random, &mut slices.pin_marks);
-    classes::small(random, &mut slices.classes);
+    small_classes(random, &mut slices.classes);
     small_book(random, &mut slices.book, threads);
     if random.percent(15) && slices.book.len() >= WHOLE {
         spoil_book(random, &mut slices.book);
@@ -84,7 +88,11 @@ fn small(random: &mut Random) -> Slices {
 
 /// About as many rows as a room can have, all of them used but some at its end.
 fn full(random: &mut Random) -> Slices {
-    let mut slices = Slices::new(great(random), great(random));
+    let mut slices = Slices::new(Room {
+        references: great(random),
+        pins: great(random),
+        identities: random.below(20),
+    });
     let mut global = [0; REFERENCE_NUMBERS];
     global[HANDLE] = GLOBAL;
     fill(&mut slices.rows, || global);
@@ -100,7 +108,7 @@ fn full(random: &mut Random) -> Slices {
         marks[last - 1] >>= random.below(5);
         marks[last] = random.number();
     }
-    classes::small(random, &mut slices.classes);
+    small_classes(random, &mut slices.classes);
     small_book(random, &mut slices.book, 2);
     slices
 }
@@ -116,10 +124,11 @@ fn started(random: &mut Random) -> Slices {
 fn damaged(random: &mut Random, follow: &mut Vec<Vec<u8>>) -> Slices {
     let mut slices = traced(random, follow);
     for _ in 0..random.below(7) {
-        match random.below(13) {
+        match random.below(15) {
             0 => damage_row(random, &mut slices.rows),
             9 | 10 => damage_class(random, &mut slices.rows),
-            11 | 12 => classes::damage(random, &mut slices.classes),
+            11 | 12 => classes::damage(random, split(&mut slices.classes).0),
+            13 | 14 => identities::damage(random, split(&mut slices.classes).1),
             1 => damage_row(random, &mut slices.pins),
             2 => damage_marks(random, &mut slices.marks),
             3 => damage_marks(random, &mut slices.pin_marks),
@@ -138,10 +147,14 @@ fn traced(random: &mut Random, follow: &mut Vec<Vec<u8>>) -> Slices {
         .classes
         .resize(slices.classes.len().max(MOST_CLASSES), 0);
     let tables = slices.tables();
-    let (references, pins) = (tables.references.rows.room(), tables.pins.rows.room());
+    let room = Room {
+        references: tables.references.rows.room(),
+        pins: tables.pins.rows.room(),
+        identities: tables.identities.room(),
+    };
     let profile = &make::PROFILES[random.below(make::PROFILES.len())];
     let lines = random.between(2, 120) as usize;
-    let trace = make::make(profile, random.number(), lines, references, pins);
+    let trace = make::make(profile, random.number(), lines, room);
     let mut lines: Vec<Vec<u8>> = trace
         .split_inclusive(|&byte| byte == b'\n')
         .map(Vec::from)
@@ -166,6 +179,18 @@ fn lengths(random: &mut Random) -> Slices {
         book: vec![0; of_book(random)],
         classes: vec![0; of_classes(random)],
     }
+}
+
+/// A class table, and identities behind it.
+fn small_classes(random: &mut Random, numbers: &mut [Number]) {
+    let (supers, behind) = split(numbers);
+    classes::small(random, supers);
+    identities::small(random, behind);
+}
+
+/// The supers as far as they are lent, and the identities behind them.
+fn split(numbers: &mut [Number]) -> (&mut [Number], &mut [Number]) {
+    numbers.split_at_mut(numbers.len().min(MOST_CLASSES))
 }
 
 // ---- rows and marks

@@ -3,7 +3,7 @@
 use crate::lent::book::WHOLE;
 use crate::lent::leaks::RECORD;
 use crate::lent::rows::WORD;
-use crate::limits::{MOST_CLASSES, MOST_ROOM};
+use crate::limits::{IDENTITY_NUMBERS, MOST_CLASSES, MOST_ROOM};
 use crate::random::Random;
 
 /// How many numbers of rows, so many to a row, and how many words of marks are lent.
@@ -42,13 +42,19 @@ pub fn of_book(random: &mut Random) -> usize {
     }
 }
 
-/// How many numbers of a class table are lent: mostly a whole one.
+/// How many numbers of a class table and of identities behind it are lent: mostly a whole table, and few places or none.
 pub fn of_classes(random: &mut Random) -> usize {
+    let places = match random.below(10) {
+        0 => 0,
+        1..=6 => random.between(1, 8) as usize,
+        7 | 8 => random.pick(&[16, 17, 24, 25, 31, 32]),
+        _ => random.below(300),
+    };
+    let past = random.pick(&[0, 0, 0, 1, 2, 3]);
     match random.below(40) {
         0 => random.pick(&[0, 1, MOST_CLASSES - 1, MOST_CLASSES / 2]),
         1 => random.below(MOST_CLASSES),
-        2..=9 => MOST_CLASSES + 1 + random.below(300),
-        _ => MOST_CLASSES,
+        _ => MOST_CLASSES + IDENTITY_NUMBERS * places + past,
     }
 }
 

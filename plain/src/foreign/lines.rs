@@ -1,11 +1,13 @@
 //! Lines to step over foreign tables: those of a trace, damaged and odd ones, and lines aimed at what stands in the tables.
 
-use super::classes;
+use super::{classes, identities};
 use crate::class::{OBJECT, THROWABLE};
 use crate::damage::{damage_bytes, damage_fields, odd_line};
 use crate::edge::edge_line;
 use crate::facts::*;
+use crate::identity::{FIELD, METHOD};
 use crate::lent::book::{Top, OF_NATIVE};
+use crate::lent::identities::IDENTITY;
 use crate::lent::pins::{self, Pin, BUFFER, FAMILY};
 use crate::lent::references::{self, Reference, CLASS, HANDLE};
 use crate::lent::rows::{Rows, THREAD};
@@ -106,6 +108,7 @@ impl Aim<'_, '_> {
         let choice = random.below(100);
         match self.top(thread) {
             _ if random.percent(8) => self.class_event(thread, random),
+            _ if random.percent(6) => self.identify(random),
             _ if choice < 4 => self.enter(thread, random),
             _ if choice < 7 => self.leave(thread, random),
             _ if choice < 10 => self.call(thread, random),
@@ -169,7 +172,7 @@ impl Aim<'_, '_> {
         let facts = known(function);
         let places = [0, 1, 2].map(|index| match (facts.places[index], pin) {
             (PlaceKind::Unused, _) => 0,
-            (PlaceKind::Identity, _) if random.percent(60) => 8,
+            (PlaceKind::Identity(_), _) if random.percent(85) => self.identity(random),
             (PlaceKind::Buffer(_), Some(pin)) if random.percent(20) => twin_of(pin[BUFFER], random),
             (PlaceKind::Buffer(_), Some(pin)) => pin[BUFFER],
             (PlaceKind::Buffer(family), None) => self.buffer(thread, family, random),
@@ -242,6 +245,30 @@ impl Aim<'_, '_> {
                 0 => random.between(OBJECT, THROWABLE),
                 _ => classes::one(random),
             },
+        }
+    }
+
+    fn identify(&self, random: &mut Random) -> Event {
+        Event::M {
+            identity: self.identity(random),
+            sort: random.between(METHOD, FIELD),
+            class: classes::one(random),
+            is_static: random.between(0, 1),
+            is_final: random.between(0, 1),
+        }
+    }
+
+    /// An identity that stands at some place, its twin, or another that lines name.
+    fn identity(&self, random: &mut Random) -> Handle {
+        let places = self.tables.identities.all();
+        let other = identities::one(random);
+        if places.is_empty() || random.percent(25) {
+            return other;
+        }
+        match random.pick(places)[IDENTITY] / 4 * 4 {
+            0 => other,
+            identity if random.percent(6) => twin_of(identity, random),
+            identity => identity,
         }
     }
 

@@ -6,7 +6,7 @@ use crate::damage::odd_line;
 use crate::facts::{FIRST_FUNCTION, PUSH_LOCAL_FRAME};
 use crate::lent::slices::Slices;
 use crate::lent::Tables;
-use crate::limits::{Class, Handle, Number, Word, MOST_BYTES, MOST_ROOM, THREADS};
+use crate::limits::{Handle, Number, Word, MOST_BYTES, MOST_ROOM, THREADS};
 use crate::line::read;
 use crate::random::Random;
 use crate::refusal::*;
@@ -54,15 +54,14 @@ const RARE: [(Refusal, &str); 27] = [
 const ANY: &str = "";
 
 /// A piece for these tables, which are left as the lines that it is made of leave them.
-pub fn piece<Numbers, Words, Supers>(
-    slices: &mut Slices<Numbers, Words, Supers>,
+pub fn piece<Numbers, Words>(
+    slices: &mut Slices<Numbers, Words>,
     follow: &mut Vec<Vec<u8>>,
     random: &mut Random,
 ) -> Vec<u8>
 where
     Numbers: DerefMut<Target = [Number]>,
     Words: DerefMut<Target = [Word]>,
-    Supers: DerefMut<Target = [Class]>,
 {
     let is_great = slices.rows.len() + slices.pins.len() > MOST_ROOM;
     let wished = random.pick(&RARE);

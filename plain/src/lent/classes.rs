@@ -3,14 +3,14 @@
 use crate::class::{FIRST_DECLARED, OBJECT};
 use crate::limits::{Class, Number, MOST_CLASSES};
 
-/// The numbers of classes 1 to 4,095, as far as they are lent. Those of reserved classes are not looked at.
-pub struct Classes<'a>(&'a mut [Class]);
+/// The supers of classes 1 to 4,095, as far as they are lent. Those of reserved classes are not looked at.
+pub struct Classes<'a>(&'a mut [Number]);
 
 impl<'a> Classes<'a> {
-    /// Numbers past the last class are neither read nor written.
-    pub fn new(classes: &'a mut [Class]) -> Classes<'a> {
-        let length = classes.len().min(MOST_CLASSES);
-        Classes(&mut classes[..length])
+    /// The class table, and the numbers behind it.
+    pub fn split(numbers: &'a mut [Number]) -> (Classes<'a>, &'a mut [Number]) {
+        let (supers, behind) = numbers.split_at_mut(numbers.len().min(MOST_CLASSES));
+        (Classes(supers), behind)
     }
 
     /// Refusal 8. All that is asked below is asked of a whole table.
@@ -20,33 +20,34 @@ impl<'a> Classes<'a> {
 
     /// Whether a class is reserved or declared; any number but 0 declares it.
     pub fn is_known(&self, class: Class) -> bool {
-        is_reserved(class) || self.0[index(class)] != 0
+        is_reserved(class) || self.0[class as usize - 1] != 0
     }
 
     pub fn declare(&mut self, class: Class, superclass: Class) {
-        self.0[index(class)] = superclass;
+        self.0[class as usize - 1] = superclass.into();
     }
 
     /// The super of a class by its number; the root has none, nor has what is no class or is not declared.
-    pub fn superclass(&self, class: Class) -> Option<Class> {
+    pub fn superclass(&self, class: Number) -> Option<Number> {
+        const ROOT: Number = OBJECT as Number;
+        const DECLARED: Number = FIRST_DECLARED as Number;
         match class {
-            0 | OBJECT => None,
-            _ if is_reserved(class) => Some(OBJECT),
+            0 | ROOT => None,
+            ..DECLARED => Some(ROOT),
             _ => {
-                let superclass = self.0.get(index(class));
+                let index = usize::try_from(class - 1).ok()?;
+                let superclass = self.0.get(index);
                 superclass.copied().filter(|&superclass| superclass != 0)
             }
         }
     }
 
-    /// Whether the class stated in a row, wider than a class, is this one or below it. A chain of supers has at most as many classes as there are; a longer
+    /// Whether the class stated in a row is this one or below it. A chain of supers has at most as many classes as there are; a longer
     /// one goes in a circle.
     pub fn is_within(&self, stated: Number, other: Class) -> bool {
-        let Ok(mut class) = Class::try_from(stated) else {
-            return false;
-        };
+        let mut class = stated;
         for _ in 0..=MOST_CLASSES {
-            if class == other {
+            if class == other.into() {
                 return true;
             }
             match self.superclass(class) {
@@ -60,8 +61,4 @@ impl<'a> Classes<'a> {
 
 pub fn is_reserved(class: Class) -> bool {
     (OBJECT..FIRST_DECLARED).contains(&class)
-}
-
-fn index(class: Class) -> usize {
-    class as usize - 1
 }

@@ -1,10 +1,12 @@
-//! What the rules ask of the alive handles and the outstanding buffers, however their rows are found.
+//! What the rules ask of the alive handles, the outstanding buffers and the stated identities, however they are found.
 
+use super::identities::Places;
 use super::pins::Pins;
 use super::references::References;
 use super::slices::Lent;
 use super::Tables;
 use crate::facts::Family;
+use crate::identity::Stated;
 use crate::limits::{Class, Handle, Number};
 
 /// The alive handles.
@@ -56,7 +58,19 @@ pub trait Buffers {
     fn release(&mut self, thread: u32, family: Family, buffer: Handle);
 }
 
-/// A way to find rows.
+/// The stated identities.
+pub trait Identities {
+    /// What is stated of an identity, if anything.
+    fn stated(&self, identity: Handle) -> Option<Stated>;
+
+    /// Whether it can be stated: it is known, or there is a free place for it.
+    fn has_room_for(&self, identity: Handle) -> bool;
+
+    /// States an identity, anew if it is known; there must be room for it.
+    fn state(&mut self, identity: Handle, stated: Stated);
+}
+
+/// A way to find rows and identities.
 pub trait Lookup {
     type Handles<'a>: Handles
     where
@@ -64,19 +78,25 @@ pub trait Lookup {
     type Buffers<'a>: Buffers
     where
         Self: 'a;
+    type Identities<'a>: Identities
+    where
+        Self: 'a;
 
     /// What is seen in six lent slices.
-    fn tables<'a>(&'a mut self, lent: Lent<'a>)
-        -> Tables<'a, Self::Handles<'a>, Self::Buffers<'a>>;
+    fn tables<'a>(
+        &'a mut self,
+        lent: Lent<'a>,
+    ) -> Tables<'a, Self::Handles<'a>, Self::Buffers<'a>, Self::Identities<'a>>;
 }
 
-/// All rows are scanned for each lookup and each count.
+/// All rows are scanned for each lookup and each count, and an identity is looked for from its own place on.
 #[derive(Clone, Copy, Debug, PartialEq, Eq)]
 pub struct Scan;
 
 impl Lookup for Scan {
     type Handles<'a> = References<'a>;
     type Buffers<'a> = Pins<'a>;
+    type Identities<'a> = Places<'a>;
 
     fn tables<'a>(&'a mut self, lent: Lent<'a>) -> Tables<'a> {
         lent.scanned()

@@ -2,39 +2,42 @@
 
 use super::book::{Book, WHOLE};
 use super::classes::Classes;
+use super::identities::Places;
 use super::pins::Pins;
 use super::references::References;
 use super::rows::{Rows, WORD};
 use super::Tables;
 use crate::findings::Findings;
-use crate::limits::{Class, Number, Word, MOST_CLASSES, PIN_NUMBERS, REFERENCE_NUMBERS};
+use crate::limits::{Number, Word, IDENTITY_NUMBERS, MOST_CLASSES, PIN_NUMBERS, REFERENCE_NUMBERS};
 use crate::refusal::Refusal;
+use crate::room::Room;
 use std::ops::DerefMut;
 
 /// Six slices; their numbers are owned if nothing else is said.
 #[derive(Clone, Debug, PartialEq, Eq)]
-pub struct Slices<Numbers = Vec<Number>, Words = Vec<Word>, Supers = Vec<Class>> {
+pub struct Slices<Numbers = Vec<Number>, Words = Vec<Word>> {
     pub rows: Numbers,
     pub marks: Words,
     pub pins: Numbers,
     pub pin_marks: Words,
     pub book: Words,
-    pub classes: Supers,
+    /// The supers, and the identities behind them.
+    pub classes: Numbers,
 }
 
 /// Six slices as they are lent.
-pub type Lent<'a> = Slices<&'a mut [Number], &'a mut [Word], &'a mut [Class]>;
+pub type Lent<'a> = Slices<&'a mut [Number], &'a mut [Word]>;
 
 impl Slices {
-    /// Slices of so many rows, a whole book and a whole class table, as a start leaves them.
-    pub fn new(reference_rows: usize, pin_rows: usize) -> Slices {
+    /// Slices of so much room, a whole book and a whole class table, as a start leaves them.
+    pub fn new(room: Room) -> Slices {
         Slices {
-            rows: vec![0; reference_rows * REFERENCE_NUMBERS],
-            marks: vec![0; reference_rows.div_ceil(WORD)],
-            pins: vec![0; pin_rows * PIN_NUMBERS],
-            pin_marks: vec![0; pin_rows.div_ceil(WORD)],
+            rows: vec![0; room.references * REFERENCE_NUMBERS],
+            marks: vec![0; room.references.div_ceil(WORD)],
+            pins: vec![0; room.pins * PIN_NUMBERS],
+            pin_marks: vec![0; room.pins.div_ceil(WORD)],
             book: vec![0; WHOLE],
-            classes: vec![0; MOST_CLASSES],
+            classes: vec![0; MOST_CLASSES + room.identities * IDENTITY_NUMBERS],
         }
     }
 }
@@ -42,6 +45,7 @@ impl Slices {
 impl<'a> Lent<'a> {
     /// What is seen in them, their rows being scanned.
     pub fn scanned(self) -> Tables<'a> {
+        let (classes, identities) = Classes::split(self.classes);
         Tables {
             references: References {
                 rows: Rows::new(self.rows, self.marks),
@@ -50,16 +54,16 @@ impl<'a> Lent<'a> {
                 rows: Rows::new(self.pins, self.pin_marks),
             },
             book: Book::new(self.book),
-            classes: Classes::new(self.classes),
+            classes,
+            identities: Places::new(identities),
         }
     }
 }
 
-impl<Numbers, Words, Supers> Slices<Numbers, Words, Supers>
+impl<Numbers, Words> Slices<Numbers, Words>
 where
     Numbers: DerefMut<Target = [Number]>,
     Words: DerefMut<Target = [Word]>,
-    Supers: DerefMut<Target = [Class]>,
 {
     pub fn lend(&mut self) -> Lent<'_> {
         Slices {

@@ -1,16 +1,17 @@
 //! One step over the tables: a line's findings or the number of its refusal, and what an accepted line leaves.
 
 use super::book::Top;
-use super::lookup::{Buffers, Handles};
+use super::lookup::{Buffers, Handles, Identities};
 use super::Tables;
 use crate::class::CLASS;
 use crate::facts::*;
 use crate::findings::Findings;
+use crate::identity::Stated;
 use crate::limits::*;
 use crate::line::{self, Event};
 use crate::refusal::*;
 
-impl<H: Handles, B: Buffers> Tables<'_, H, B> {
+impl<H: Handles, B: Buffers, I: Identities> Tables<'_, H, B, I> {
     /// Judges one lent line; a refused line changes nothing.
     pub fn step(&mut self, line: &[u8]) -> Result<Findings, Refusal> {
         if self.is_unfit() {
@@ -63,6 +64,20 @@ impl<H: Handles, B: Buffers> Tables<'_, H, B> {
                 handle,
                 class,
             } => self.state(thread, handle, class)?,
+            Event::M {
+                identity,
+                sort,
+                class,
+                is_static,
+                is_final,
+            } => {
+                let stated = Stated {
+                    sort: sort.into(),
+                    is_static: is_static.into(),
+                    is_final: is_final.into(),
+                };
+                self.identify(identity, class, stated)?
+            }
             Event::Z => self.close(&mut findings),
         }
         self.book.count_line();
@@ -331,6 +346,18 @@ impl<H: Handles, B: Buffers> Tables<'_, H, B> {
         Ok(())
     }
 
+    /// M: an identity is stated. Its class is kept nowhere.
+    fn identify(&mut self, identity: Handle, class: Class, stated: Stated) -> Result<(), Refusal> {
+        if !self.classes.is_known(class) {
+            return Err(WRONG_CLASS);
+        }
+        if !self.identities.has_room_for(identity) {
+            return Err(NO_ROOM);
+        }
+        self.identities.state(identity, stated);
+        Ok(())
+    }
+
     /// Z: end of the run.
     fn close(&mut self, findings: &mut Findings) {
         let buffers = self.pins.used() as Word;
@@ -360,8 +387,11 @@ impl<H: Handles, B: Buffers> Tables<'_, H, B> {
     ) -> Option<u8> {
         match kind {
             PlaceKind::Unused => None,
-            PlaceKind::Handle | PlaceKind::Identity | PlaceKind::Buffer(_) if value == 0 => Some(7),
-            PlaceKind::Identity => (!value.is_multiple_of(4)).then_some(4),
+            PlaceKind::Handle | PlaceKind::Identity(_) | PlaceKind::Buffer(_) if value == 0 => {
+                Some(7)
+            }
+            PlaceKind::Identity(_) if !value.is_multiple_of(4) => Some(4),
+            PlaceKind::Identity(wanted) => wanted.breach(self.identities.stated(value)),
             PlaceKind::Buffer(family) => {
                 (!self.pins.is_outstanding(thread, family, value)).then_some(8)
             }

@@ -1,6 +1,7 @@
 //! What classes show: how each handle came to its class or to none, how that stands to its place, and what an earlier class would have told.
 
 use super::{few, letter, thread};
+use crate::class::FIRST_DECLARED;
 use crate::facts::*;
 use crate::lent::classes::is_reserved;
 use crate::lent::lookup::Handles;
@@ -63,7 +64,7 @@ impl Classed {
             (Some(fixed), Some(stated)) => self.alive(tables, own, value, stated, fixed, &place),
             (Some(fixed), None) => vec![self.not_alive(tables, own, value, fixed)],
             (None, Some(stated)) if stated != 0 && "rolgwX".contains(letter) => {
-                let root = root(tables, stated.try_into().expect("a class"));
+                let root = root(tables, stated);
                 vec![format!("no class: {letter}, stated below {root}")]
             }
             _ => Vec::new(),
@@ -120,7 +121,8 @@ impl Classed {
         let is_open = |thread| tables.book.items(thread) > 0;
         match *event {
             Event::K { superclass, .. } => {
-                let (root, is_reserved) = (root(tables, superclass), is_reserved(superclass));
+                let (root, is_reserved) =
+                    (root(tables, superclass.into()), is_reserved(superclass));
                 let items = (1..=THREADS).any(is_open);
                 vec![
                     format!("K below {root}, directly {is_reserved}"),
@@ -208,7 +210,12 @@ impl Classed {
                 self.handles.insert(key, came);
                 self.last.insert(key, class.into());
             }
-            Event::X { .. } | Event::A { .. } | Event::D { .. } | Event::K { .. } | Event::Z => {}
+            Event::X { .. }
+            | Event::A { .. }
+            | Event::D { .. }
+            | Event::K { .. }
+            | Event::M { .. }
+            | Event::Z => {}
         }
     }
 
@@ -247,8 +254,9 @@ fn key(thread: u32, handle: Handle) -> Key {
 }
 
 /// The reserved class that a class is, or is below.
-fn root(tables: &Tables, mut class: Class) -> Class {
-    while let (false, Some(superclass)) = (is_reserved(class), tables.classes.superclass(class)) {
+fn root(tables: &Tables, mut class: Number) -> Number {
+    const FIRST: Number = FIRST_DECLARED as Number;
+    while let (FIRST.., Some(superclass)) = (class, tables.classes.superclass(class)) {
         class = superclass;
     }
     class

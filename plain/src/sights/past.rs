@@ -297,7 +297,7 @@ impl Past {
                     _ => {}
                 }
             }
-            Event::X { .. } | Event::K { .. } | Event::O { .. } | Event::Z => {}
+            Event::X { .. } | Event::K { .. } | Event::O { .. } | Event::M { .. } | Event::Z => {}
         }
         if let (true, Some(top)) = (is_uncovered, happened.frames.last_mut()) {
             top.since = format!("uncovered by {}", letter(event));

@@ -4,6 +4,7 @@ use crate::called::Handed;
 use crate::damage::{add_digits, damage_bytes, damage_fields, odd_line, MALFORMED, NUMBERS};
 use crate::edge::edge_line;
 use crate::facts::*;
+use crate::identity::{FIELD, METHOD};
 use crate::limits::{
     Class, Field, Handle, Number, MOST_BYTES, MOST_CLASSES, MOST_HANDLES, THREADS,
 };
@@ -15,7 +16,7 @@ const PIECES: [&str; 20] = [
     "\n", "\r", " ", "N", "Z", "x",
 ];
 const BYTES: &[u8] = b"NXCRZKOADMnz\t\t\t\t\t0123456789--+ \n\r\0\xff";
-const LETTERS: &[u8] = b"NXCRZKOAD";
+const LETTERS: &[u8] = b"NXCRZKOADM";
 
 /// A line that is good, damaged, at an edge, several in one, or any bytes.
 pub fn line(random: &mut Random) -> Vec<u8> {
@@ -127,8 +128,15 @@ fn good(random: &mut Random) -> Handed {
         random.between(FIRST_FUNCTION, LAST_FUNCTION)
     };
     let facts = known(function);
-    match random.below(28) {
+    match random.below(31) {
         0 => Handed::End,
+        28..31 => Handed::Identify {
+            identity: of_kind(0, random).max(4),
+            sort: random.between(METHOD, FIELD),
+            class: class(random),
+            is_static: random.between(0, 1),
+            is_final: random.between(0, 1),
+        },
         24..26 => Handed::Attach { thread, env },
         26..28 => Handed::Detach { thread },
         20..22 => Handed::Declare {
@@ -258,6 +266,19 @@ fn spoil(handed: &mut Handed, random: &mut Random) {
                 1 => *handle = number(random),
                 _ => *class = other_class(random),
             },
+            Handed::Identify {
+                identity,
+                sort,
+                class,
+                is_static,
+                is_final,
+            } => match random.below(5) {
+                0 => *identity = number(random),
+                1 => *sort = other_flag(random),
+                2 => *class = other_class(random),
+                3 => *is_static = other_flag(random),
+                _ => *is_final = other_flag(random),
+            },
             Handed::End => {}
         }
     }
@@ -297,6 +318,16 @@ fn other_class(random: &mut Random) -> Class {
         1 => MOST_CLASSES as Class + random.between(0, 2),
         2 => one + (1 << 12),
         3 => one + (1 << 16),
+        _ => narrow(random),
+    }
+}
+
+/// Sorts and flags about both ends, and such as would be one if they were cut to 8 or 16 bits.
+fn other_flag(random: &mut Random) -> u32 {
+    let one = random.between(0, 3);
+    match random.below(4) {
+        0..2 => one,
+        2 => one + random.pick(&[1 << 8, 1 << 16]),
         _ => narrow(random),
     }
 }

@@ -6,7 +6,7 @@ use crate::limits::{Class, Field, Handle, MOST_BYTES, MOST_HANDLES, THREADS};
 use crate::twin::{ADDRESS, HIGH};
 
 /// Of which all lines of up to four bytes are made.
-const SOME: [u8; 16] = *b"NXCRADKOZ\t\n\r-019";
+const SOME: [u8; 17] = *b"NXCRADKOMZ\t\n\r-019";
 /// Of which all lines of five bytes and an LF are made; X, A, D and K have good ones.
 const FEW: [u8; 10] = *b"XADKZ\t\n-01";
 /// The functions that are tried, those that are none among them.
@@ -15,7 +15,7 @@ const FUNCTIONS: u32 = 301;
 const MOST_COUNT: usize = 12;
 
 /// Good lines, written with spaces for tabs.
-const GOOD: [&str; 21] = [
+const GOOD: [&str; 23] = [
     "N 1 100",
     "N 16 18446744073709551615 5 4294967297 18446744073709551613",
     "N 1 100 1 5 9 13 17 21 25 29",
@@ -36,6 +36,8 @@ const GOOD: [&str; 21] = [
     "K 4095 4094",
     "O 1 5 2",
     "O 16 18446744073709551615 4095",
+    "M 8 1 2 0 0",
+    "M 18446744073709551612 2 4095 1 1",
     "Z",
 ];
 
@@ -276,6 +278,7 @@ pub fn handed() -> Vec<Handed> {
         0x8000_0005,
         Class::MAX,
     ];
+    const FLAGS: [u32; 8] = [0, 1, 2, 3, 256, 257, 65_537, u32::MAX];
     const SIGNED: [i32; 6] = [0, 1, -1, 5, i32::MIN, i32::MAX];
     let threads = (0..=THREADS + 2).chain([256, 257, 65_537, u32::MAX]);
     let mut all = vec![Handed::End];
@@ -304,6 +307,20 @@ pub fn handed() -> Vec<Handed> {
         }
         for handle in HANDLES {
             all.push(state(1, handle, class));
+        }
+        for flags in [[0, 0], [0, 1], [1, 0], [1, 1]] {
+            all.push(identify(8, 1, class, flags));
+            all.push(identify(8, 2, class, flags));
+        }
+    }
+    for sort in FLAGS {
+        for identity in HANDLES {
+            all.push(identify(identity, sort, 2, [0, 1]));
+        }
+        for is_static in FLAGS {
+            for is_final in FLAGS {
+                all.push(identify(8, sort, 2, [is_static, is_final]));
+            }
         }
     }
     for count in (0..=10).chain([256, 264, 65_536, u32::MAX]) {
@@ -344,6 +361,17 @@ fn state(thread: u32, handle: Handle, class: Class) -> Handed {
         thread,
         handle,
         class,
+    }
+}
+
+fn identify(identity: Handle, sort: u32, class: Class, flags: [u32; 2]) -> Handed {
+    let [is_static, is_final] = flags;
+    Handed::Identify {
+        identity,
+        sort,
+        class,
+        is_static,
+        is_final,
     }
 }
 

@@ -1,6 +1,6 @@
 //! What lines do, and the breaches judged on them.
 
-use crate::common::{findings, judged, judged_with, line, strs, told, TWO_EQUAL_TURNED};
+use crate::common::{findings, judged, judged_with, line, room, strs, told, TWO_EQUAL_TURNED};
 use plain::judge::Judge;
 
 /// Takes the lines of some parts together.
@@ -342,12 +342,13 @@ fn x_ends_the_locals_and_frames_of_its_native_and_no_others() {
         "R 1 6 13 0",
         "X 1 9",
         "R 1 4 0 0",
+        "M 8 1 1 0 0",
         "C 1 100 67 9 13 8 0",
         "R 1 67 0 0",
         "C 1 100 20 5 0 0 0",
     ];
     let (mut judge, found) = judged(&lines);
-    assert_eq!(found, ["10 11 1 9", "10 11 2 13", "12 11 0 0"]);
+    assert_eq!(found, ["11 11 1 9", "11 11 2 13", "13 11 0 0"]);
     assert_eq!(judge.tables().book.frames(1), 1);
     assert_eq!(judge.tables().references.rows.used(), 1);
 }
@@ -493,7 +494,7 @@ fn a_release_by_another_thread_counts_unless_critical() {
 
 #[test]
 fn a_release_ends_the_lowest_row_which_need_not_be_the_oldest() {
-    let (mut judge, _) = judged_with(4, 4, &TWO_EQUAL_TURNED);
+    let (mut judge, _) = judged_with(room(4, 4), &TWO_EQUAL_TURNED);
     let unused = [0; 4];
     assert_eq!(
         judge.tables().pins.rows.all(),
@@ -520,7 +521,7 @@ fn a_new_row_is_the_lowest_free_one_and_an_ended_row_is_zero() {
         "C 1 100 6 0 0 0 0",
         "R 1 6 9 0",
     ];
-    let (mut judge, _) = judged_with(6, 1, &lines);
+    let (mut judge, _) = judged_with(room(6, 1), &lines);
     assert_eq!(
         judge.tables().references.rows.all(),
         [
@@ -542,7 +543,7 @@ fn a_new_row_is_the_lowest_free_one_and_an_ended_row_is_zero() {
 
 #[test]
 fn rows_past_the_first_word_of_marks_are_taken_in_order() {
-    let mut judge = Judge::new(130, 0);
+    let mut judge = Judge::new(room(130, 0));
     for thread in 1..=16 {
         let base = 32 * (thread - 1);
         let handles: Vec<String> = (0..8).map(|k| (base + 4 * k + 1).to_string()).collect();
@@ -745,7 +746,7 @@ fn z_counts_all_threads_and_critical_buffers_and_is_not_judged_for_rule_3() {
 
 #[test]
 fn findings_carry_the_number_of_the_accepted_line() {
-    let mut judge = Judge::new(8, 8);
+    let mut judge = Judge::new(room(8, 8));
     assert!(judge.step(b"garbage\n").is_err());
     assert!(judge.step(&line("N 1 100")).is_ok());
     assert!(judge.step(&line("N 1 100")).is_err());

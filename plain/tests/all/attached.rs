@@ -1,6 +1,6 @@
 //! Threads that start in C: A and D from a start.
 
-use crate::common::{findings, judged, judged_with, refusal, refusal_with, Lent};
+use crate::common::{findings, judged, judged_with, refusal, refusal_with, room, Lent};
 use plain::judge::Judge;
 use plain::lent::book::{Top, FRAMES, ITEMS, MONITORS, PENDING};
 use plain::lent::slices::Slices;
@@ -161,7 +161,7 @@ fn an_env_is_that_of_the_first_n_or_a_for_ever() {
 
 #[test]
 fn a_refused_a_leaves_no_env_and_4_comes_before_5() {
-    let mut judge = Judge::new(8, 8);
+    let mut judge = Judge::new(room(8, 8));
     let line = crate::common::line;
     judge.step(&line("A 1 100")).unwrap();
     assert_eq!(judge.step(&line("A 2 100")), Err(5));
@@ -229,9 +229,9 @@ fn a_clears_what_is_pending_and_d_does_not() {
 
 #[test]
 fn a_needs_no_row_and_makes_none() {
-    judged_with(0, 0, &["A 1 100", "D 1"]);
+    judged_with(room(0, 0), &["A 1 100", "D 1"]);
     assert_eq!(
-        refusal_with(0, 0, &["A 1 100", "C 1 100 6 0 0 0 0", "R 1 6 5 0"]),
+        refusal_with(room(0, 0), &["A 1 100", "C 1 100 6 0 0 0 0", "R 1 6 5 0"]),
         7
     );
 }
@@ -415,7 +415,7 @@ fn d_may_break_both_rules_3_first() {
 #[test]
 fn an_attached_item_is_marked_with_function_1_and_a_native_with_0() {
     use plain::lent::book::{ASKED, CAPACITIES, ENV, FUNCTIONS, NATIVES, PUSHED};
-    let mut lent = Slices::after(8, 8, &["A 1 100"]);
+    let mut lent = Slices::after(room(8, 8), &["A 1 100"]);
     for (column, number) in [
         (ENV, 100),
         (PENDING, 0),
@@ -442,7 +442,7 @@ fn an_attached_item_is_marked_with_function_1_and_a_native_with_0() {
 #[test]
 fn a_popped_attached_item_and_its_frame_keep_their_numbers() {
     use plain::lent::book::{CAPACITIES, ENV, FUNCTIONS, NATIVES};
-    let mut lent = Slices::after(8, 8, &["A 1 100", "D 1"]);
+    let mut lent = Slices::after(room(8, 8), &["A 1 100", "D 1"]);
     for (column, number) in [
         (ENV, 100),
         (FRAMES, 0),

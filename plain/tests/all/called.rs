@@ -72,6 +72,11 @@ fn numbers_are_left_in_their_order_and_0_past_them() {
             b'O',
             &[16, u64::MAX, 4_095],
         ),
+        (
+            "M 18446744073709551612 2 4095 0 1",
+            b'M',
+            &[u64::MAX - 3, 2, 4_095, 0, 1],
+        ),
         ("Z", b'Z', &[]),
     ] {
         let mut ten = [0; 10];
@@ -104,6 +109,7 @@ fn what_is_read_is_what_the_writer_is_handed() {
         "D 2",
         "K 5 1",
         "O 1 0 2",
+        "M 18446744073709551612 1 4095 1 0",
         "Z",
     ] {
         let (letter, numbers, count) = said(text);
@@ -122,7 +128,9 @@ fn what_is_read_is_what_the_writer_is_handed() {
     assert_eq!(Handed::of(b'A', &[1; 3]), None);
     assert_eq!(Handed::of(b'D', &[]), None);
     assert_eq!(Handed::of(b'D', &[1; 2]), None);
-    assert_eq!(Handed::of(b'M', &[]), None);
+    assert_eq!(Handed::of(b'M', &[4; 4]), None);
+    assert_eq!(Handed::of(b'M', &[4; 6]), None);
+    assert_eq!(Handed::of(b'P', &[]), None);
     const HIGH: u64 = 1 << 32;
     for (letter, numbers) in [
         (b'N', &[HIGH + 1, 100][..]),
@@ -137,6 +145,10 @@ fn what_is_read_is_what_the_writer_is_handed() {
         (b'D', &[HIGH + 1]),
         (b'K', &[5, HIGH + 1]),
         (b'O', &[1, 5, HIGH + 2]),
+        (b'M', &[8, HIGH + 1, 2, 0, 0]),
+        (b'M', &[8, 1, HIGH + 2, 0, 0]),
+        (b'M', &[8, 1, 2, HIGH, 0]),
+        (b'M', &[8, 1, 2, 0, HIGH + 1]),
     ] {
         assert_eq!(Handed::of(letter, numbers), None, "{numbers:?}");
     }

@@ -1,6 +1,6 @@
 //! Classes: those declared, those stated of handles, the places that have one, and refusals 9 and 10.
 
-use crate::common::{findings, judged, refusal, Lent};
+use crate::common::{findings, judged, refusal, room, Lent};
 use plain::facts::{known, FIRST_FUNCTION, LAST_FUNCTION};
 use plain::judge::Judge;
 use plain::lent::classes::Classes;
@@ -63,7 +63,7 @@ fn a_class_is_below_another_by_a_chain_of_supers() {
 
 #[test]
 fn the_longest_chain_has_all_classes() {
-    let mut judge = Judge::new(8, 8);
+    let mut judge = Judge::new(room(8, 8));
     let mut step = |text: String| judge.step(&crate::common::line(&text));
     for class in 5..=4_095 {
         let superclass = if class == 5 { 2 } else { class - 1 };
@@ -104,17 +104,17 @@ fn each_place_is_judged_by_its_own_class() {
 
 #[test]
 fn both_places_of_11_and_the_second_of_32_and_64() {
-    let opening = ["N 1 100 5 9", "O 1 5 2", "O 1 9 3"];
+    let opening = ["N 1 100 5 9", "O 1 5 2", "O 1 9 3", "M 8 1 1 0 0"];
     let found = |call| findings(&[&opening[..], &[call]].concat());
     assert_eq!(found("C 1 100 11 5 5 0 0"), NONE);
-    assert_eq!(found("C 1 100 11 9 5 0 0"), ["4 4 1 9"]);
-    assert_eq!(found("C 1 100 11 5 9 0 0"), ["4 4 2 9"]);
-    assert_eq!(found("C 1 100 11 9 9 0 0"), ["4 4 1 9", "4 4 2 9"]);
+    assert_eq!(found("C 1 100 11 9 5 0 0"), ["5 4 1 9"]);
+    assert_eq!(found("C 1 100 11 5 9 0 0"), ["5 4 2 9"]);
+    assert_eq!(found("C 1 100 11 9 9 0 0"), ["5 4 1 9", "5 4 2 9"]);
     assert_eq!(found("C 1 100 32 9 5 0 0"), NONE);
-    assert_eq!(found("C 1 100 32 5 9 0 0"), ["4 4 2 9"]);
+    assert_eq!(found("C 1 100 32 5 9 0 0"), ["5 4 2 9"]);
     assert_eq!(found("C 1 100 64 9 5 8 0"), NONE);
-    assert_eq!(found("C 1 100 64 5 9 8 0"), ["4 4 2 9"]);
-    assert_eq!(found("C 1 100 64 5 9 9 0"), ["4 4 2 9", "4 4 3 9"]);
+    assert_eq!(found("C 1 100 64 5 9 8 0"), ["5 4 2 9"]);
+    assert_eq!(found("C 1 100 64 5 9 9 0"), ["5 4 2 9", "5 4 3 9"]);
 }
 
 #[test]
@@ -175,7 +175,7 @@ fn the_result_of_31_is_a_class() {
     assert_eq!(condemned(&lines, 5), [false; 3]);
     let null = ["N 1 100 5", "C 1 100 31 5 0 0 0", "R 1 31 0 0"];
     assert_eq!(condemned(&null, 5), [false; 3]);
-    let lent = Slices::after(8, 8, &lines);
+    let lent = Slices::after(room(8, 8), &lines);
     assert_eq!(lent.rows[5..10], [1, 9, 1, 3, 2]);
 }
 
@@ -203,7 +203,7 @@ fn other_results_have_none() {
         let places: Vec<&str> = places.chars().map(value).collect();
         let call = format!("C 1 100 {function} {} 0", places.join(" "));
         let answer = format!("R 1 {function} 77 0");
-        let lent = Slices::after(8, 8, &["N 1 100 5", &call, &answer]);
+        let lent = Slices::after(room(8, 8), &["N 1 100 5", &call, &answer]);
         let made = lent.rows.as_chunks::<REFERENCE_NUMBERS>().0;
         let made = made.iter().find(|row| row[1] == 77).unwrap();
         assert_eq!(made[CLASS], if function == 31 { 2 } else { 0 }, "{call}");
@@ -256,7 +256,7 @@ fn a_statement_ends_with_the_handle() {
         "R 1 21 6 0",
     ];
     assert_eq!(condemned(&global, 6), [false; 3]);
-    let mut lent = Slices::after(2, 0, &["N 1 100 5", "O 1 5 3"]);
+    let mut lent = Slices::after(room(2, 0), &["N 1 100 5", "O 1 5 3"]);
     assert_eq!(lent.rows[..5], [1, 5, 1, 1, 3]);
     lent.accepts("X 1 0");
     assert_eq!(lent.rows, [0; 10]);
@@ -330,7 +330,7 @@ fn k_and_o_are_in_step_with_items_open_or_none() {
 #[test]
 fn o_leaves_a_thread_without_lines_as_it_was() {
     let opening = ["N 1 100 5", "C 1 100 21 5 0 0 0", "R 1 21 6 0"];
-    let mut lent = Slices::after(8, 8, &opening);
+    let mut lent = Slices::after(room(8, 8), &opening);
     let book = lent.book.clone();
     lent.accepts("O 2 6 3");
     assert_eq!(lent.book[1..], book[1..]);
@@ -354,7 +354,7 @@ fn they_count_as_lines() {
     assert_eq!(findings(&lines), ["4 10 1 6"]);
     let lines = ["K 5 1", "N 1 100 5", "C 1 100 21 5 0 0 0", "R 1 21 6 0"];
     assert_eq!(
-        Slices::after(8, 8, &lines).rows[5..10],
+        Slices::after(room(8, 8), &lines).rows[5..10],
         [0, 6, 0, 4, 0],
         "the making line"
     );
@@ -407,7 +407,7 @@ fn o_on_what_is_not_alive_is_10() {
     ] {
         assert_eq!(refused(line), 10, "{line}");
     }
-    let mut lent = Slices::after(8, 8, &opening);
+    let mut lent = Slices::after(room(8, 8), &opening);
     for line in ["O 1 5 2", "O 2 13 2", "O 1 6 2", "O 2 6 2", "O 16 6 2"] {
         lent.accepts(line);
     }
@@ -415,10 +415,10 @@ fn o_on_what_is_not_alive_is_10() {
 
 #[test]
 fn neither_gives_7_where_all_is_full() {
-    let mut lent = Slices::after(1, 0, &["N 1 100 5"]);
+    let mut lent = Slices::after(room(1, 0), &["N 1 100 5"]);
     lent.accepts("K 5 1");
     lent.accepts("O 1 5 5");
-    let mut empty = Slices::new(0, 0);
+    let mut empty = Slices::new(room(0, 0));
     empty.accepts("K 5 1");
     assert_eq!(empty.refuses("O 1 5 5"), 10);
 }
@@ -427,7 +427,7 @@ fn neither_gives_7_where_all_is_full() {
 
 #[test]
 fn k_writes_the_super_at_its_class_and_nothing_else() {
-    let mut lent = Slices::after(2, 2, &["K 5 3"]);
+    let mut lent = Slices::after(room(2, 2), &["K 5 3"]);
     assert_eq!(lent.classes[4], 3);
     lent.accepts("K 4095 5");
     assert_eq!(lent.classes[4_094], 5);
@@ -441,7 +441,7 @@ fn k_writes_the_super_at_its_class_and_nothing_else() {
 
 #[test]
 fn o_writes_the_fifth_number_and_nothing_else() {
-    let mut lent = Slices::after(3, 0, &["K 300 1", "N 1 100 5 9"]);
+    let mut lent = Slices::after(room(3, 0), &["K 300 1", "N 1 100 5 9"]);
     let mut before = lent.clone();
     lent.accepts("O 1 9 300");
     before.rows[9] = 300;
@@ -461,11 +461,13 @@ fn standings_agree_with_what_is_judged() {
         (10, 10),
         (11, 12),
         (13, 4_096),
+        (14, (1 << 32) + 2),
+        (15, u64::MAX),
         (4_095, 6),
     ] {
         classes[class - 1] = superclass;
     }
-    let classes = Classes::new(&mut classes);
+    let (classes, _) = Classes::split(&mut classes);
     for stated in (1..20).chain([4_094, 4_095, 4_096, 1 << 32, (1 << 32) + 2, u64::MAX]) {
         for fixed in 2..=4 {
             let standing = Standing::of(&classes, stated, fixed);
@@ -481,5 +483,7 @@ fn standings_agree_with_what_is_judged() {
     assert_eq!(of(10), Standing::Circle);
     assert_eq!(of(11), Standing::Lost);
     assert_eq!(of(13), Standing::Lost);
+    assert_eq!(of(14), Standing::Lost);
+    assert_eq!(of(15), Standing::Lost);
     assert_eq!(of(4_096), Standing::Lost);
 }

@@ -7,7 +7,8 @@ use plain::lent::references::CLASS;
 use plain::lent::reply::list_reply;
 use plain::lent::rows::WORD;
 use plain::lent::slices::Slices;
-use plain::limits::{Class, Number, PIN_NUMBERS, PIN_ROWS, REFERENCE_NUMBERS, REFERENCE_ROWS};
+use plain::limits::{Number, PIN_NUMBERS, REFERENCE_NUMBERS};
+use plain::room::{Room, LENT};
 
 /// A line given with spaces for tabs and without its LF.
 pub fn line(text: &str) -> Vec<u8> {
@@ -35,10 +36,19 @@ pub fn told(findings: &Findings) -> Vec<String> {
         .collect()
 }
 
+/// Room for so many rows, and for as many identities as the program lends.
+pub fn room(references: usize, pins: usize) -> Room {
+    Room {
+        references,
+        pins,
+        ..LENT
+    }
+}
+
 /// A judge that has accepted all the lines, and their findings.
 #[track_caller]
-pub fn judged_with(reference_rows: usize, pin_rows: usize, lines: &[&str]) -> (Judge, Vec<String>) {
-    let mut judge = Judge::new(reference_rows, pin_rows);
+pub fn judged_with(room: Room, lines: &[&str]) -> (Judge, Vec<String>) {
+    let mut judge = Judge::new(room);
     let mut findings = Vec::new();
     for text in lines {
         match judge.step(&line(text)) {
@@ -51,7 +61,7 @@ pub fn judged_with(reference_rows: usize, pin_rows: usize, lines: &[&str]) -> (J
 
 #[track_caller]
 pub fn judged(lines: &[&str]) -> (Judge, Vec<String>) {
-    judged_with(REFERENCE_ROWS, PIN_ROWS, lines)
+    judged_with(LENT, lines)
 }
 
 /// The findings of lines that are all accepted.
@@ -63,13 +73,13 @@ pub fn findings(lines: &[&str]) -> Vec<String> {
 /// The number by which the last line is refused, the others being accepted.
 #[track_caller]
 pub fn refusal(lines: &[&str]) -> u8 {
-    refusal_with(REFERENCE_ROWS, PIN_ROWS, lines)
+    refusal_with(LENT, lines)
 }
 
 #[track_caller]
-pub fn refusal_with(reference_rows: usize, pin_rows: usize, lines: &[&str]) -> u8 {
+pub fn refusal_with(room: Room, lines: &[&str]) -> u8 {
     let (last, before) = lines.split_last().expect("a line");
-    let (mut judge, _) = judged_with(reference_rows, pin_rows, before);
+    let (mut judge, _) = judged_with(room, before);
     judge.step(&line(last)).expect_err("a refused last line")
 }
 
@@ -88,8 +98,8 @@ pub const TWO_EQUAL_TURNED: [&str; 9] = [
 
 /// What the tests do with lent tables.
 pub trait Lent {
-    /// Tables of so many rows that have accepted these lines.
-    fn after(reference_rows: usize, pin_rows: usize, lines: &[&str]) -> Self;
+    /// Tables of so much room that have accepted these lines.
+    fn after(room: Room, lines: &[&str]) -> Self;
 
     /// A step, which must leave everything untouched where it refuses.
     fn tested_step(&mut self, line: &[u8]) -> Result<Findings, u8>;
@@ -113,7 +123,7 @@ pub trait Lent {
     fn class_in(&mut self, index: usize) -> &mut Number;
 
     /// The super of a class.
-    fn superclass(&mut self, class: usize) -> &mut Class;
+    fn superclass(&mut self, class: usize) -> &mut Number;
 
     /// Writes a pin row and marks it.
     fn put_pin(&mut self, index: usize, row: [Number; PIN_NUMBERS]);
@@ -121,8 +131,8 @@ pub trait Lent {
 
 impl Lent for Slices {
     #[track_caller]
-    fn after(reference_rows: usize, pin_rows: usize, lines: &[&str]) -> Slices {
-        let mut lent = Slices::new(reference_rows, pin_rows);
+    fn after(room: Room, lines: &[&str]) -> Slices {
+        let mut lent = Slices::new(room);
         for text in lines {
             lent.accepts(text);
         }
@@ -178,7 +188,7 @@ impl Lent for Slices {
         &mut self.rows[index * REFERENCE_NUMBERS + CLASS]
     }
 
-    fn superclass(&mut self, class: usize) -> &mut Class {
+    fn superclass(&mut self, class: usize) -> &mut Number {
         &mut self.classes[class - 1]
     }
 

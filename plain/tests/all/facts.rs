@@ -4,8 +4,9 @@ use plain::class::{CLASS, STRING, THROWABLE};
 use plain::facts::{
     facts, Facts, Family, PlaceKind, ResultKind, FIRST_FUNCTION, LAST_FUNCTION, WITH_CLASS,
 };
+use plain::identity::{Wanted, FIELD, METHOD};
 
-const RANGES: [(&str, &str); 32] = [
+const RANGES: [(&str, &str); 39] = [
     ("4, 16-18, 219, 228, 232", "--- -"),
     ("6, 15, 163, 167, 175-182, 229", "--- L"),
     ("5, 20, 25", "o-- L"),
@@ -47,6 +48,13 @@ const RANGES: [(&str, &str); 32] = [
     ("11, 32, 64-93", "class-second"),
     ("164-166, 168-170, 220, 221, 224, 225", "string-first"),
     ("13", "throwable-first"),
+    ("28-30, 34-93", "a method that isn't static"),
+    ("114-143", "a static method"),
+    ("95-112", "a field that isn't static"),
+    ("145-162", "a static field"),
+    ("9", "any method"),
+    ("12", "any field"),
+    ("104-112, 154-162", "writes"),
 ];
 
 fn numbers(ranges: &str) -> Vec<u32> {
@@ -73,7 +81,7 @@ fn every_function_stands_in_its_range_alone() {
             .iter()
             .filter(|(ranges, _)| numbers(ranges).contains(&function))
             .map(|&(_, row)| row)
-            .filter(|row| row.contains(' '))
+            .filter(|row| row.len() == 5 && row.contains(' '))
             .collect();
         assert_eq!(rows, [row(facts)], "{function}");
     }
@@ -132,6 +140,31 @@ fn classes_of_places() {
     assert!(WITH_CLASS
         .iter()
         .all(|&function| facts(function).unwrap().classes != [None; 3]));
+}
+
+#[test]
+fn identities_wanted() {
+    let wanting = |is_wished: &dyn Fn(Wanted) -> bool| -> Vec<u32> {
+        let wished = functions().filter(|(_, facts)| facts.wanted().is_some_and(is_wished));
+        wished.map(|(function, _)| function).collect()
+    };
+    let listed = |name: &str| {
+        let (ranges, _) = RANGES.iter().find(|(_, row)| *row == name).unwrap();
+        numbers(ranges)
+    };
+    for (name, sort, is_static) in [
+        ("a method that isn't static", METHOD, Some(false)),
+        ("a static method", METHOD, Some(true)),
+        ("a field that isn't static", FIELD, Some(false)),
+        ("a static field", FIELD, Some(true)),
+        ("any method", METHOD, None),
+        ("any field", FIELD, None),
+    ] {
+        let is_such = |wanted: Wanted| (wanted.sort, wanted.is_static) == (sort, is_static);
+        assert_eq!(wanting(&is_such), listed(name), "{name}");
+    }
+    assert_eq!(wanting(&|wanted| wanted.writes), listed("writes"));
+    assert_eq!(wanting(&|_| true).len(), 131);
 }
 
 #[test]

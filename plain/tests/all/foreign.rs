@@ -1,6 +1,6 @@
 //! Lent tables with foreign contents: what each number means, and that none leads astray.
 
-use crate::common::{line, Lent};
+use crate::common::{line, room, Lent};
 use plain::lent::book::*;
 use plain::lent::reply::{reply, MOST_NUMBERS, SHORT_FOUND};
 use plain::lent::rows::WORD;
@@ -9,13 +9,13 @@ use plain::limits::{PIN_NUMBERS, REFERENCE_NUMBERS};
 
 /// Tables in which thread 1, of env 100, is in a native and has made nothing.
 fn in_native() -> Slices {
-    Slices::after(8, 8, &["N 1 100"])
+    Slices::after(room(8, 8), &["N 1 100"])
 }
 
 /// Tables in which thread 1 has called a function.
 fn in_call(function: u32) -> Slices {
     let call = format!("C 1 100 {function} 0 0 0 0");
-    Slices::after(8, 8, &["N 1 100", &call])
+    Slices::after(room(8, 8), &["N 1 100", &call])
 }
 
 /// Whether a step refuses the tables for their book, whatever the line.
@@ -263,7 +263,7 @@ fn over_65536_rows_the_room_is_65536() {
 
 #[test]
 fn empty_slices_have_no_room() {
-    let mut lent = Slices::new(0, 0);
+    let mut lent = Slices::new(room(0, 0));
     lent.accepts("N 1 100");
     lent.accepts("C 1 100 165 0 0 0 0");
     assert_eq!(lent.refuses("R 1 165 8 0"), 7);
@@ -277,7 +277,7 @@ fn empty_slices_have_no_room() {
 
 #[test]
 fn rows_without_marks_and_marks_without_rows_are_no_room() {
-    let mut lent = Slices::new(8, 8);
+    let mut lent = Slices::new(room(8, 8));
     lent.marks.clear();
     lent.pins.clear();
     assert_eq!(lent.refuses("N 1 100 5"), 7);
@@ -500,7 +500,7 @@ fn an_env_has_all_64_bits() {
 
 #[test]
 fn an_env_that_another_thread_has_is_5_though_it_is_the_thread_s_own() {
-    let mut lent = Slices::new(8, 8);
+    let mut lent = Slices::new(room(8, 8));
     *lent.at(1, ENV) = 100;
     lent.clone().accepts("N 1 100");
     *lent.at(2, ENV) = 100;
@@ -614,7 +614,7 @@ fn a_call_may_be_item_65_in_a_foreign_book() {
 
 #[test]
 fn frames_may_be_left_without_items() {
-    let mut lent = Slices::new(8, 8);
+    let mut lent = Slices::new(room(8, 8));
     *lent.at(1, FRAMES) = 64;
     assert_eq!(lent.refuses("N 1 100"), 7);
     *lent.at(1, FRAMES) = 63;
@@ -684,7 +684,7 @@ fn no_step_is_taken_without_room_for_the_most_findings() {
 
 #[test]
 fn words_of_marks_have_64_rows() {
-    let mut lent = Slices::new(2 * WORD, 0);
+    let mut lent = Slices::new(room(2 * WORD, 0));
     lent.marks = vec![u64::MAX, 0];
     lent.accepts("N 1 100 5");
     assert_eq!(

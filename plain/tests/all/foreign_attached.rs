@@ -1,6 +1,6 @@
 //! Attached items in foreign tables: which items they are, and what A and D make of whatever stands there.
 
-use crate::common::Lent;
+use crate::common::{room, Lent};
 use plain::lent::book::*;
 use plain::lent::slices::Slices;
 use plain::limits::{PIN_NUMBERS, REFERENCE_NUMBERS};
@@ -9,7 +9,7 @@ const HIGH: u64 = 1 << 32;
 
 /// Tables in which thread 1, of env 100, is attached.
 fn attached() -> Slices {
-    Slices::after(8, 8, &["A 1 100"])
+    Slices::after(room(8, 8), &["A 1 100"])
 }
 
 #[test]
@@ -163,7 +163,7 @@ fn d_leaves_pending_and_the_env() {
 #[test]
 fn a_over_frames_without_items_is_one_frame_more() {
     for frames in [1, 2, 62, 63] {
-        let mut lent = Slices::new(8, 8);
+        let mut lent = Slices::new(room(8, 8));
         *lent.at(1, FRAMES) = frames;
         *lent.at(1, PUSHED + frames as usize) = 1;
         lent.accepts("A 1 100");
@@ -175,7 +175,7 @@ fn a_over_frames_without_items_is_one_frame_more() {
         lent.accepts("D 1");
         assert_eq!((*lent.at(1, FRAMES), lent.marks[0]), (0, 0));
     }
-    let mut lent = Slices::new(8, 8);
+    let mut lent = Slices::new(room(8, 8));
     *lent.at(1, FRAMES) = 64;
     assert_eq!(lent.refuses("A 1 100"), 7);
     *lent.at(2, ENV) = 100;
@@ -200,7 +200,7 @@ fn a_call_over_an_attached_item_64_is_7() {
 fn attached_items_are_counted_as_natives_for_8() {
     for natives in 1..=64 {
         for functions in [[1, 1], [1, 0], [0, 1]] {
-            let mut lent = Slices::new(8, 8);
+            let mut lent = Slices::new(room(8, 8));
             *lent.at(16, ITEMS) = 64;
             *lent.at(16, NATIVES) = u64::MAX >> (64 - natives);
             for index in 0..64 {
@@ -216,7 +216,7 @@ fn attached_items_are_counted_as_natives_for_8() {
 
 #[test]
 fn a_writes_a_mark_a_function_and_what_was_asked_over_any_numbers() {
-    let mut lent = Slices::new(8, 8);
+    let mut lent = Slices::new(room(8, 8));
     for column in [NATIVES, FUNCTIONS, ASKED, CAPACITIES, PUSHED] {
         *lent.at(1, column) = !1;
     }

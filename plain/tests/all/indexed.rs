@@ -1,18 +1,18 @@
 //! The indexed judge gives the plain judge's reply to each line, and leaves what it leaves in every slice.
 
-use crate::common::{trace, TWO_EQUAL_TURNED};
+use crate::common::{room, trace, TWO_EQUAL_TURNED};
 use plain::big::{big, kind, KINDS};
 use plain::judge::Judge;
-use plain::limits::{PIN_ROWS, REFERENCE_ROWS};
 use plain::make::{make, DENSE, PROFILES};
 use plain::random::Random;
+use plain::room::{Room, LENT};
 use plain::walk::walk;
 
 /// Runs both judges over a trace, past the lines that are refused; how many were accepted.
 #[track_caller]
-fn follow(trace: &[u8], reference_rows: usize, pin_rows: usize) -> usize {
-    let mut plain = Judge::new(reference_rows, pin_rows);
-    let mut indexed = Judge::indexed(reference_rows, pin_rows);
+fn follow(trace: &[u8], room: Room) -> usize {
+    let mut plain = Judge::new(room);
+    let mut indexed = Judge::indexed(room);
     let mut accepted = 0;
     for line in trace.split_inclusive(|&byte| byte == b'\n') {
         let told = String::from_utf8_lossy(line);
@@ -33,10 +33,13 @@ fn on_made_traces_damaged_ones_and_full_tables_among_them() {
             let mut random = Random::new(seed);
             let (fewest, most) = profile.usual_lines;
             let lines = random.between(fewest, most.min(fewest + 300)) as usize;
-            let reference_rows = random.pick(&[0, 3, 8, 64, 65, 200, REFERENCE_ROWS]);
-            let pin_rows = random.pick(&[0, 1, 8, 63, PIN_ROWS]);
-            let trace = make(profile, seed, lines, reference_rows, pin_rows);
-            accepted += follow(&trace, reference_rows, pin_rows);
+            let room = Room {
+                references: random.pick(&[0, 3, 8, 64, 65, 200, LENT.references]),
+                pins: random.pick(&[0, 1, 8, 63, LENT.pins]),
+                identities: random.pick(&[0, 1, 2, 7, 30, LENT.identities]),
+            };
+            let trace = make(profile, seed, lines, room);
+            accepted += follow(&trace, room);
         }
     }
     assert!(accepted > 20_000, "{accepted}");
@@ -45,7 +48,7 @@ fn on_made_traces_damaged_ones_and_full_tables_among_them() {
 #[test]
 fn on_the_walk() {
     for made in walk() {
-        follow(&made.trace, made.reference_rows, made.pin_rows);
+        follow(&made.trace, made.room);
     }
 }
 
@@ -55,7 +58,7 @@ fn on_big_traces_of_each_kind() {
     for kind in KINDS.into_iter().chain(several) {
         let mut trace = Vec::new();
         big(&kind, 20_000, &mut trace).unwrap();
-        let accepted = follow(&trace, kind.reference_rows, PIN_ROWS);
+        let accepted = follow(&trace, kind.room);
         assert_eq!(accepted, 20_000, "{}", kind.name);
     }
 }
@@ -76,5 +79,5 @@ fn on_equal_buffers_of_which_the_lowest_row_is_not_the_oldest() {
         &["Z"],
     ];
     let lines = lines.concat();
-    assert_eq!(follow(&trace(&lines), 8, 4), lines.len());
+    assert_eq!(follow(&trace(&lines), room(8, 4)), lines.len());
 }

@@ -1,11 +1,11 @@
 //! The leak list: a record for each outstanding buffer and each global or weak alive, by making line, rule and row.
 
-use crate::common::{trace, Lent, TWO_EQUAL_TURNED};
+use crate::common::{room, trace, Lent, TWO_EQUAL_TURNED};
 use crate::maker::made_traces;
 use plain::lent::book::*;
 use plain::lent::slices::Slices;
-use plain::limits::{PIN_ROWS, REFERENCE_ROWS};
 use plain::report::{report, report_and_leaks};
+use plain::room::LENT;
 
 /// The records as `rule thread value line`.
 #[track_caller]
@@ -24,12 +24,12 @@ fn told(record: &[u64]) -> String {
 /// The records that lines from a start leave, Z the last of them.
 #[track_caller]
 fn leaks_after(lines: &[&str]) -> Vec<String> {
-    leaks(&mut Slices::after(8, 8, &[lines, &["Z"]].concat()))
+    leaks(&mut Slices::after(room(8, 8), &[lines, &["Z"]].concat()))
 }
 
 /// Tables that are closed and hold nothing.
 fn closed() -> Slices {
-    Slices::after(8, 8, &["Z"])
+    Slices::after(room(8, 8), &["Z"])
 }
 
 const NONE: [&str; 0] = [];
@@ -90,7 +90,7 @@ fn one_of_each_kind() {
         leaks_after(&lines),
         ["10 0 6 3", "8 0 8000 5", "10 0 7 7", "8 3 8001 9"]
     );
-    let mut lent = Slices::after(8, 8, &lines);
+    let mut lent = Slices::after(room(8, 8), &lines);
     assert_eq!(lent.accepts("Z"), ["10 8 0 2", "10 10 0 2"]);
 }
 
@@ -111,7 +111,7 @@ fn the_line_is_that_of_the_r_however_long_after_its_c() {
 
 #[test]
 fn a_refused_line_has_no_number() {
-    let mut lent = Slices::new(8, 8);
+    let mut lent = Slices::new(room(8, 8));
     assert_eq!(lent.refuses("N 17 100"), 3);
     lent.accepts("N 1 100 5");
     assert_eq!(lent.refuses("R 1 21 6 0"), 4);
@@ -173,7 +173,7 @@ fn a_buffer_got_again_in_a_lower_row_is_still_the_last_of_the_list() {
         "R 1 165 9 0",
     ];
     let lines = [&TWO_EQUAL[..], &again].concat();
-    let mut lent = Slices::after(8, 8, &lines);
+    let mut lent = Slices::after(room(8, 8), &lines);
     assert_eq!(lent.pins[..8], [0, 0, 9, 9, 0, 1, 8, 5]);
     lent.accepts("Z");
     assert_eq!(leaks(&mut lent), ["8 0 8 5", "8 0 9 9"]);
@@ -198,7 +198,7 @@ fn a_handle_ended_and_made_again_has_its_new_line() {
         "C 1 100 21 5 0 0 0",
         "R 1 21 6 0",
     ];
-    let mut lent = Slices::after(8, 8, &lines);
+    let mut lent = Slices::after(room(8, 8), &lines);
     assert_eq!(
         lent.rows[..15],
         [1, 5, 1, 1, 0, 0, 6, 0, 9, 0, 0, 7, 0, 5, 0]
@@ -228,7 +228,7 @@ fn critical_buffers_of_two_threads() {
 
 #[test]
 fn rows_carry_their_making_line_and_n_s_handles_that_of_n() {
-    let mut lent = Slices::after(8, 8, &["N 2 200", "N 1 100 5 9"]);
+    let mut lent = Slices::after(room(8, 8), &["N 2 200", "N 1 100 5 9"]);
     assert_eq!(lent.rows[..10], [1, 5, 1, 2, 0, 1, 9, 1, 2, 0]);
     lent.accepts("C 1 100 222 5 0 0 0");
     lent.accepts("R 1 222 8 0");
@@ -243,7 +243,7 @@ fn rows_carry_their_making_line_and_n_s_handles_that_of_n() {
 
 /// Tables after Z with two leaks.
 fn two_leaks() -> Slices {
-    Slices::after(8, 8, &[&TWO_EQUAL[..], &["Z"]].concat())
+    Slices::after(room(8, 8), &[&TWO_EQUAL[..], &["Z"]].concat())
 }
 
 #[test]
@@ -265,8 +265,8 @@ fn a_slice_of_fewer_whole_records_than_leaks_is_7() {
 
 #[test]
 fn before_z_it_is_4_whatever_the_slice() {
-    let mut open = Slices::after(8, 8, &TWO_EQUAL);
-    let mut empty = Slices::new(0, 0);
+    let mut open = Slices::after(room(8, 8), &TWO_EQUAL);
+    let mut empty = Slices::new(room(0, 0));
     for length in [0, 7, 8, 40] {
         assert_eq!(open.lists(length), (-4, vec![9; length]));
         assert_eq!(empty.lists(length), (-4, vec![9; length]));
@@ -275,7 +275,7 @@ fn before_z_it_is_4_whatever_the_slice() {
 
 #[test]
 fn an_unfit_book_is_8_whatever_else() {
-    for mut lent in [two_leaks(), Slices::after(8, 8, &TWO_EQUAL)] {
+    for mut lent in [two_leaks(), Slices::after(room(8, 8), &TWO_EQUAL)] {
         for (column, number) in [(ITEMS, 65), (FRAMES, 65), (MONITORS, 1_000_001)] {
             let mut unfit = lent.clone();
             *unfit.at(16, column) = number;
@@ -419,7 +419,7 @@ fn a_room_of_65536_rows_leaks_as_many() {
 #[test]
 fn the_leaks_follow_the_report_where_z_was_accepted() {
     let lines = |more: &[&'static str]| trace(&[&TWO_EQUAL[..], more].concat());
-    let told = |input: &[u8]| report_and_leaks(input, REFERENCE_ROWS, PIN_ROWS);
+    let told = |input: &[u8]| report_and_leaks(input, LENT);
     let leaks = ["leak 8 0 8 3", "leak 8 0 8 5"];
     let closed = [&["6 8 0 2", "end closed 6 0 1"], &leaks[..]].concat();
     assert_eq!(told(&lines(&["Z"])), trace(&closed));
@@ -439,8 +439,8 @@ fn each_leak_of_a_made_trace_is_what_its_line_makes_and_z_counts_them() {
 
 /// How many leaks a trace has. Each names the R that made it; the lines are in order; Z counts those of a rule.
 fn assert_leaks(trace: &[u8]) -> usize {
-    let whole = report_and_leaks(trace, REFERENCE_ROWS, PIN_ROWS);
-    let report = report(trace, REFERENCE_ROWS, PIN_ROWS);
+    let whole = report_and_leaks(trace, LENT);
+    let report = report(trace, LENT);
     let leaks = whole.strip_prefix(&report[..]).expect("the report first");
     let leaks = fields(leaks);
     let lines = fields(trace);

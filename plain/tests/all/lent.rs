@@ -8,11 +8,12 @@ use plain::lent::slices::Slices;
 use plain::limits::{Number, PIN_NUMBERS, REFERENCE_NUMBERS};
 use plain::make::{make, PROFILES};
 use plain::random::Random;
+use plain::room::Room;
 
 /// Runs the judge and the step over lent tables over a trace, refused lines among the others, and holds the replies to one another.
-fn follow(trace: &[u8], reference_rows: usize, pin_rows: usize) -> usize {
-    let mut judge = Judge::new(reference_rows, pin_rows);
-    let mut lent = Slices::new(reference_rows, pin_rows);
+fn follow(trace: &[u8], room: Room) -> usize {
+    let mut judge = Judge::new(room);
+    let mut lent = Slices::new(room);
     let (mut steps, mut accepted) = (0, 0);
     for line in trace.split_inclusive(|&byte| byte == b'\n') {
         for other in [line, b"N\t1\t1\t1\t5\n", b"R\t1\t6\t5\t0\n"] {
@@ -72,10 +73,13 @@ fn from_a_start_lent_tables_follow_the_judge() {
             let mut random = Random::new(seed);
             let (fewest, most) = profile.usual_lines;
             let lines = random.between(fewest, most.min(fewest + 300)) as usize;
-            let reference_rows = random.pick(&[0, 3, 8, 64, 65, 200, 2_048]);
-            let pin_rows = random.pick(&[0, 1, 8, 63, 256]);
-            let trace = make(profile, seed, lines, reference_rows, pin_rows);
-            steps += follow(&trace, reference_rows, pin_rows);
+            let room = Room {
+                references: random.pick(&[0, 3, 8, 64, 65, 200, 2_048]),
+                pins: random.pick(&[0, 1, 8, 63, 256]),
+                identities: random.pick(&[0, 1, 2, 7, 30, 1_024]),
+            };
+            let trace = make(profile, seed, lines, room);
+            steps += follow(&trace, room);
         }
     }
     assert!(steps > 50_000, "{steps}");

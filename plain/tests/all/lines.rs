@@ -2,10 +2,11 @@
 
 use crate::common::{findings, line, refusal};
 use plain::facts::{facts, PlaceKind, ResultKind, FIRST_FUNCTION, LAST_FUNCTION};
-use plain::limits::{MOST_BYTES, PIN_ROWS, REFERENCE_ROWS};
+use plain::limits::MOST_BYTES;
 use plain::line::{read, write, Event};
 use plain::make::{make, PROFILES};
 use plain::random::Random;
+use plain::room::LENT;
 
 /// What the reader says of a line given with spaces for tabs.
 fn said(text: &str) -> u8 {
@@ -90,6 +91,16 @@ fn every_event_is_read() {
             class: 4_095,
         })
     );
+    assert_eq!(
+        read(b"M\t18446744073709551612\t2\t4095\t1\t0\n"),
+        Ok(Event::M {
+            identity: u64::MAX - 3,
+            sort: 2,
+            class: 4_095,
+            is_static: 1,
+            is_final: 0,
+        })
+    );
     assert_eq!(read(b"Z\n"), Ok(Event::Z));
 }
 
@@ -161,6 +172,10 @@ fn field_counts_are_exact() {
         "O",
         "O 1 5",
         "O 1 5 2 0",
+        "M",
+        "M 8 1 2 0",
+        "M 8 1 2 0 0 0",
+        "M 1 8 1 2 0 0",
         "Z 0",
     ] {
         assert_eq!(said(wrong), 2, "{wrong}");
@@ -243,6 +258,10 @@ fn threads_functions_statuses_and_classes_are_not_cut_to_32_bits() {
             format!("K 5 {}", high + 1),
             format!("O {} 5 2", high + 1),
             format!("O 1 5 {}", high + 2),
+            format!("M 8 {} 2 0 0", high + 1),
+            format!("M 8 1 {} 0 0", high + 2),
+            format!("M 8 1 2 {high} 0"),
+            format!("M 8 1 2 0 {}", high + 1),
         ] {
             assert_eq!(said(&line), 3, "{line}");
         }
@@ -309,6 +328,12 @@ fn minus_one_is_a_number_in_every_field() {
         "O -1 5 2",
         "O 1 -1 2",
         "O 1 5 -1",
+        "M -1 1 2 0 0",
+        "M -4 1 2 0 0",
+        "M 8 -1 2 0 0",
+        "M 8 1 -1 0 0",
+        "M 8 1 2 -1 0",
+        "M 8 1 2 0 -1",
     ] {
         assert_eq!(said(line), 3, "{line}");
     }
@@ -340,13 +365,22 @@ fn an_lf_inside_a_lent_line_is_2_unless_1_comes_first() {
 
 #[test]
 fn other_letters_are_2() {
-    for letter in (0..=255).filter(|letter| !b"NXCRADKOZ".contains(letter)) {
+    for letter in (0..=255).filter(|letter| !b"NXCRADKOMZ".contains(letter)) {
         assert_eq!(read(&[letter, b'\n']), Err(2));
         assert_eq!(read(&[letter, b'\t', b'1', b'\n']), Err(2));
     }
     for other in [
-        "n 1 100", "a 1 100", "d 1", "o 1 5 2", "k 5 1", "M 8 1", "NN 1 100", "AA 1 100", "DD 1",
-        "KK 5 1", "ZZ",
+        "n 1 100",
+        "a 1 100",
+        "d 1",
+        "o 1 5 2",
+        "k 5 1",
+        "m 8 1 2 0 0",
+        "NN 1 100",
+        "AA 1 100",
+        "DD 1",
+        "KK 5 1",
+        "ZZ",
     ] {
         assert_eq!(said(other), 2, "{other}");
     }
@@ -413,20 +447,21 @@ fn the_r_result_is_checked_against_its_own_function_before_the_step() {
 #[test]
 fn kinds_in_used_places_of_c_are_rule_4_and_never_3() {
     for (call, finding) in [
-        ("C 1 100 31 8 0 0 0", "2 4 1 8"),
-        ("C 1 100 22 5 0 0 0", "2 4 1 5"),
-        ("C 1 100 22 7 0 0 0", "2 4 1 7"),
-        ("C 1 100 22 8 0 0 0", "2 4 1 8"),
-        ("C 1 100 23 6 0 0 0", "2 4 1 6"),
-        ("C 1 100 227 6 0 0 0", "2 4 1 6"),
-        ("C 1 100 24 8 5 0 0", "2 4 1 8"),
-        ("C 1 100 37 5 5 0 0", "2 4 2 5"),
-        ("C 1 100 37 5 6 0 0", "2 4 2 6"),
-        ("C 1 100 37 5 7 0 0", "2 4 2 7"),
-        ("C 1 100 67 5 5 9 0", "2 4 3 9"),
-        ("C 1 100 104 5 8 12 0", "2 4 3 12"),
+        ("C 1 100 31 8 0 0 0", "3 4 1 8"),
+        ("C 1 100 22 5 0 0 0", "3 4 1 5"),
+        ("C 1 100 22 7 0 0 0", "3 4 1 7"),
+        ("C 1 100 22 8 0 0 0", "3 4 1 8"),
+        ("C 1 100 23 6 0 0 0", "3 4 1 6"),
+        ("C 1 100 227 6 0 0 0", "3 4 1 6"),
+        ("C 1 100 24 8 5 0 0", "3 4 1 8"),
+        ("C 1 100 37 5 5 0 0", "3 4 2 5"),
+        ("C 1 100 37 5 6 0 0", "3 4 2 6"),
+        ("C 1 100 37 5 7 0 0", "3 4 2 7"),
+        ("C 1 100 67 5 5 9 0", "3 4 3 9"),
+        ("C 1 100 104 5 8 12 0", "3 4 3 12"),
     ] {
-        assert_eq!(findings(&["N 1 100 5", call]), [finding], "{call}");
+        let lines = ["N 1 100 5", "M 8 2 1 0 0", call];
+        assert_eq!(findings(&lines), [finding], "{call}");
     }
 }
 
@@ -538,6 +573,24 @@ fn both_ends_of_all_ranges() {
         ("O 1 18446744073709551616 2", 3),
         ("O 1 5 0", 3),
         ("O 1 5 4096", 3),
+        ("M 0 1 2 0 0", 3),
+        ("M 1 1 2 0 0", 3),
+        ("M 2 1 2 0 0", 3),
+        ("M 3 1 2 0 0", 3),
+        ("M 4 1 1 0 0", 0),
+        ("M 5 1 2 0 0", 3),
+        ("M 4294967295 1 2 0 0", 3),
+        ("M 4294967296 2 4095 1 1", 0),
+        ("M 18446744073709551612 2 4095 1 1", 0),
+        ("M 18446744073709551613 2 4095 1 1", 3),
+        ("M 18446744073709551615 2 4095 1 1", 3),
+        ("M 18446744073709551616 2 4095 1 1", 3),
+        ("M 8 0 2 0 0", 3),
+        ("M 8 3 2 0 0", 3),
+        ("M 8 1 0 0 0", 3),
+        ("M 8 1 4096 0 0", 3),
+        ("M 8 1 2 2 0", 3),
+        ("M 8 1 2 0 2", 3),
     ] {
         assert_eq!(said(line), expected, "{line}");
     }
@@ -571,6 +624,13 @@ fn the_writer_refuses_what_the_reader_would() {
         thread,
         handle,
         class,
+    };
+    let m = |identity, sort, class, is_static, is_final| Event::M {
+        identity,
+        sort,
+        class,
+        is_static,
+        is_final,
     };
     for bad in [
         n(0, 1, 0, [0; 8]),
@@ -614,6 +674,20 @@ fn the_writer_refuses_what_the_reader_would() {
         d(0),
         d(17),
         d(u32::MAX),
+        m(0, 1, 2, 0, 0),
+        m(5, 1, 2, 0, 0),
+        m(6, 1, 2, 0, 0),
+        m(u64::MAX, 1, 2, 0, 0),
+        m(8, 0, 2, 0, 0),
+        m(8, 3, 2, 0, 0),
+        m(8, 257, 2, 0, 0),
+        m(8, u32::MAX, 2, 0, 0),
+        m(8, 1, 0, 0, 0),
+        m(8, 1, 4_096, 0, 0),
+        m(8, 1, 2, 2, 0),
+        m(8, 1, 2, 256, 0),
+        m(8, 1, 2, 0, 2),
+        m(8, 1, 2, 0, u32::MAX),
         k(0, 1),
         k(4_096, 1),
         k(5, 0),
@@ -679,7 +753,7 @@ fn the_longest_lines_are_written() {
 fn what_is_written_is_read_and_what_is_read_is_written() {
     let mut lines = 0;
     for (seed, profile) in (1..).zip(&PROFILES) {
-        let trace = make(profile, seed, 300, REFERENCE_ROWS, PIN_ROWS);
+        let trace = make(profile, seed, 300, LENT);
         for line in trace.split_inclusive(|&byte| byte == b'\n') {
             if let Ok(event) = read(line) {
                 let mut buffer = [0; MOST_BYTES];
@@ -706,7 +780,14 @@ fn any_event_the_writer_takes_is_read_back() {
         };
         let thread = random.between(0, 17);
         let function = random.between(0, 240);
-        let event = match random.below(8) {
+        let event = match random.below(9) {
+            8 => Event::M {
+                identity: number(&mut random),
+                sort: random.between(0, 3),
+                class: random.between(0, 4_096),
+                is_static: random.between(0, 2),
+                is_final: random.between(0, 2),
+            },
             6 => Event::A {
                 thread,
                 env: number(&mut random),

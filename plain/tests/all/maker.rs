@@ -1,6 +1,6 @@
 //! The makers of traces and the shrinker.
 
-use crate::common::trace;
+use crate::common::{room, trace};
 use plain::big::slot::slot_of;
 use plain::big::{big, kind, natives, Kind, KINDS};
 use plain::chosen::{candidates, chosen};
@@ -12,10 +12,10 @@ use plain::lent::book::Top;
 use plain::lent::lookup::{Buffers, Handles};
 use plain::lent::references::HANDLE;
 use plain::lent::rows::THREAD;
-use plain::limits::{PIN_ROWS, REFERENCE_ROWS};
 use plain::make::{make, profile, Made, PROFILES};
 use plain::random::Random;
 use plain::report::report;
+use plain::room::{Room, LENT};
 use plain::shrink::shrink;
 use plain::sights::sights;
 use plain::walk::walk;
@@ -27,7 +27,7 @@ pub fn made_traces(seeds: u64) -> impl Iterator<Item = Vec<u8>> {
         PROFILES.iter().map(move |profile| {
             let (fewest, most) = profile.usual_lines;
             let lines = Random::new(seed).between(fewest, most) as usize;
-            make(profile, seed, lines, REFERENCE_ROWS, PIN_ROWS)
+            make(profile, seed, lines, LENT)
         })
     };
     (0..seeds).flat_map(made)
@@ -37,11 +37,11 @@ pub fn made_traces(seeds: u64) -> impl Iterator<Item = Vec<u8>> {
 fn every_refusal_rule_place_function_and_kind_of_leak_comes_up() {
     let mut coverage = Coverage::of_traces_and_lists();
     for trace in made_traces(60) {
-        let mut judge = coverage.add_trace(&trace, REFERENCE_ROWS, PIN_ROWS);
+        let mut judge = coverage.add_trace(&trace, LENT);
         coverage.add_list(&judge.leaks());
     }
     for made in walk() {
-        coverage.add_trace(&made.trace, made.reference_rows, made.pin_rows);
+        coverage.add_trace(&made.trace, made.room);
     }
     assert!(coverage.is_whole(), "{coverage}");
 }
@@ -52,7 +52,7 @@ fn the_walk_shows_what_each_function_takes_and_gives_and_what_it_does_not() {
     let of_functions =
         |made: &Made| ["function", "release"].contains(&made.name.split(' ').next().unwrap());
     for made in walk().into_iter().filter(of_functions) {
-        let report = report(&made.trace, made.reference_rows, made.pin_rows);
+        let report = report(&made.trace, made.room);
         let report = String::from_utf8(report).unwrap();
         let end: Vec<&str> = report.lines().last().unwrap().split('\t').collect();
         let accepted = made.lines().count() - usize::from(end[1] == "refused");
@@ -74,7 +74,7 @@ fn each_release_ends_the_buffer_of_its_family_alone() {
     let walk = walk();
     let releases = walk.iter().filter(|made| made.name.starts_with("release "));
     for (family, made) in releases.enumerate() {
-        let report = report(&made.trace, made.reference_rows, made.pin_rows);
+        let report = report(&made.trace, made.room);
         let report = String::from_utf8(report).unwrap();
         let things = report
             .lines()
@@ -92,7 +92,7 @@ fn each_release_ends_the_buffer_of_its_family_alone() {
 fn the_walk_goes_as_deep_as_a_thread_may_and_one_deeper() {
     let walk = walk();
     let deep = walk.iter().filter(|made| made.name.starts_with("deep "));
-    let reports = deep.map(|made| report(&made.trace, made.reference_rows, made.pin_rows));
+    let reports = deep.map(|made| report(&made.trace, made.room));
     let pushed = 1 + 63 * 2;
     let lines = [64, pushed + 1, pushed + 1];
     let expected = lines.map(|lines| format!("end\trefused\t{lines}\t7\t0\n").into_bytes());
@@ -102,7 +102,7 @@ fn the_walk_goes_as_deep_as_a_thread_may_and_one_deeper() {
 #[test]
 fn the_chosen_traces_show_all_that_the_candidates_show() {
     let shown = |traces: &[Made]| -> BTreeSet<String> {
-        let sights = |made: &Made| sights(&made.trace, made.reference_rows, made.pin_rows);
+        let sights = |made: &Made| sights(&made.trace, made.room);
         traces.iter().flat_map(sights).collect()
     };
     let (candidates, chosen) = (candidates(3), chosen(3));
@@ -118,8 +118,8 @@ fn the_chosen_traces_show_all_that_the_candidates_show() {
 #[test]
 fn what_leaks_show_comes_up() {
     let leaks = profile("leaks").unwrap();
-    let traces = (0..200).map(|seed| make(leaks, seed, 150, REFERENCE_ROWS, PIN_ROWS));
-    let sights = |trace: Vec<u8>| sights(&trace, REFERENCE_ROWS, PIN_ROWS);
+    let traces = (0..200).map(|seed| make(leaks, seed, 150, LENT));
+    let sights = |trace: Vec<u8>| sights(&trace, LENT);
     let shown: BTreeSet<String> = traces.flat_map(sights).collect();
     let mut wanted = Vec::new();
     for (earlier, later) in [(false, false), (false, true), (true, false), (true, true)] {
@@ -169,8 +169,8 @@ fn filled() -> Vec<String> {
 #[test]
 fn frames_are_filled_whatever_the_arguments() {
     let overflow = profile("overflow").unwrap();
-    let traces = (0..200).map(|seed| make(overflow, seed, 250, REFERENCE_ROWS, PIN_ROWS));
-    let sights = |trace: Vec<u8>| sights(&trace, REFERENCE_ROWS, PIN_ROWS);
+    let traces = (0..200).map(|seed| make(overflow, seed, 250, LENT));
+    let sights = |trace: Vec<u8>| sights(&trace, LENT);
     assert_shown(&filled(), &traces.flat_map(sights).collect());
 }
 
@@ -260,10 +260,10 @@ fn classed() -> Vec<String> {
 #[test]
 fn what_classes_show_comes_up() {
     let profiles = ["classes", "copies"].map(|name| profile(name).unwrap());
-    let traces = profiles.into_iter().flat_map(|profile| {
-        (0..600).map(move |seed| make(profile, seed, 150, REFERENCE_ROWS, PIN_ROWS))
-    });
-    let sights = |trace: Vec<u8>| sights(&trace, REFERENCE_ROWS, PIN_ROWS);
+    let traces = profiles
+        .into_iter()
+        .flat_map(|profile| (0..600).map(move |seed| make(profile, seed, 150, LENT)));
+    let sights = |trace: Vec<u8>| sights(&trace, LENT);
     let shown: BTreeSet<String> = traces.flat_map(sights).collect();
     assert_shown(&classed(), &shown);
 }
@@ -345,10 +345,10 @@ fn attached() -> Vec<String> {
 #[test]
 fn what_attached_threads_show_comes_up() {
     let profiles = ["polls", "polling", "overflow"].map(|name| profile(name).unwrap());
-    let traces = profiles.into_iter().flat_map(|profile| {
-        (0..600).map(move |seed| make(profile, seed, 100, REFERENCE_ROWS, PIN_ROWS))
-    });
-    let sights = |trace: Vec<u8>| sights(&trace, REFERENCE_ROWS, PIN_ROWS);
+    let traces = profiles
+        .into_iter()
+        .flat_map(|profile| (0..600).map(move |seed| make(profile, seed, 100, LENT)));
+    let sights = |trace: Vec<u8>| sights(&trace, LENT);
     assert_shown(&attached(), &traces.flat_map(sights).collect());
 }
 
@@ -356,7 +356,7 @@ fn what_attached_threads_show_comes_up() {
 fn attached_threads_leave_the_others_most_of_the_room() {
     let (mut entered, mut attached) = (0, 0);
     for trace in made_traces(10) {
-        let mut judge = Judge::new(REFERENCE_ROWS, PIN_ROWS);
+        let mut judge = Judge::new(LENT);
         for line in trace.split_inclusive(|&byte| byte == b'\n') {
             let idle = (1..=16).map(|thread| judge.tables().book.items(thread) == 0);
             let idle: Vec<bool> = idle.collect();
@@ -400,7 +400,7 @@ fn a_sight_tells_what_came_before_a_judgement() {
         "R 1 20 0 0",
         "C 1 100 24 5 9 0 0",
     ];
-    let sights = sights(&trace(&pushed), REFERENCE_ROWS, PIN_ROWS);
+    let sights = sights(&trace(&pushed), LENT);
     for sight in [
         "R: over false, pushed of one",
         "R: over false, capacity by 19 of 1, last called true",
@@ -417,7 +417,7 @@ fn a_sight_tells_what_came_before_a_judgement() {
 #[test]
 fn the_same_seed_makes_the_same_trace() {
     for profile in &PROFILES {
-        let make = |seed| make(profile, seed, 60, REFERENCE_ROWS, PIN_ROWS);
+        let make = |seed| make(profile, seed, 60, LENT);
         assert_eq!(make(5), make(5));
         assert_ne!(make(5), make(6));
     }
@@ -428,12 +428,17 @@ fn small_traces_reach_all_but_depth_in_rooms_of_0_to_8_rows() {
     let small = PROFILES.iter().find(|profile| profile.name == "small");
     let mut refusals = [0; 11];
     for seed in 0..4_000 {
-        let (reference_rows, pin_rows) = (seed as usize % 9, seed as usize / 9 % 9);
+        let seed_part = |by: usize| seed as usize / by % 9;
+        let room = Room {
+            references: seed_part(1),
+            pins: seed_part(9),
+            identities: seed_part(81),
+        };
         let lines = 5 + seed as usize % 21;
-        let trace = make(small.unwrap(), seed, lines, reference_rows, pin_rows);
+        let trace = make(small.unwrap(), seed, lines, room);
         let count = trace.split_inclusive(|&byte| byte == b'\n').count();
         assert!(count <= lines + 5, "{count} lines for {lines}");
-        let report = String::from_utf8(report(&trace, reference_rows, pin_rows)).unwrap();
+        let report = String::from_utf8(report(&trace, room)).unwrap();
         let end: Vec<&str> = report.lines().last().unwrap().split('\t').collect();
         refusals[end[3].parse::<usize>().unwrap()] += 1;
     }
@@ -447,8 +452,8 @@ fn traces_run_long_before_they_are_refused() {
     let (mut accepted, mut made) = (0, 0);
     for seed in 0..20 {
         for profile in &PROFILES {
-            let trace = make(profile, seed, 200, REFERENCE_ROWS, PIN_ROWS);
-            let mut judge = Judge::new(REFERENCE_ROWS, PIN_ROWS);
+            let trace = make(profile, seed, 200, LENT);
+            let mut judge = Judge::new(LENT);
             for line in trace.split_inclusive(|&byte| byte == b'\n') {
                 made += 1;
                 if judge.step(line).is_err() {
@@ -468,7 +473,7 @@ fn big_traces_are_accepted_to_the_end_with_some_breaches() {
     for kind in KINDS.into_iter().chain(several) {
         for lines in [1, 2, 100, 30_000] {
             let trace = big_trace(kind, lines);
-            let report = report(&trace, kind.reference_rows, PIN_ROWS);
+            let report = report(&trace, kind.room);
             let report = String::from_utf8(report).unwrap();
             let end: Vec<&str> = report.lines().last().unwrap().split('\t').collect();
             assert_eq!(end[..4], ["end", "closed", &lines.to_string(), "0"]);
@@ -505,7 +510,7 @@ fn measured(
     measure: impl Fn(&mut Judge<Indexes>) -> usize,
 ) -> BTreeSet<usize> {
     let kind = kind(name).unwrap();
-    let mut judge = Judge::indexed(kind.reference_rows, PIN_ROWS);
+    let mut judge = Judge::indexed(kind.room);
     let mut measured = BTreeSet::new();
     let trace = big_trace(kind, lines);
     let trace = trace.split_inclusive(|&byte| byte == b'\n');
@@ -553,7 +558,7 @@ fn big_traces_keep_as_many_handles_alive_as_they_are_to() {
 
 #[test]
 fn the_steady_trace_has_locals_in_16_threads() {
-    let mut judge = Judge::new(KINDS[0].reference_rows, PIN_ROWS);
+    let mut judge = Judge::new(KINDS[0].room);
     for line in big_trace(KINDS[0], 40_000).split_inclusive(|&byte| byte == b'\n') {
         judge.step(line).unwrap();
     }
@@ -567,7 +572,7 @@ fn the_steady_trace_has_locals_in_16_threads() {
 #[test]
 fn in_the_oneslot_trace_every_handle_has_the_same_slot() {
     let oneslot = kind("oneslot").unwrap();
-    let mut judge = Judge::new(oneslot.reference_rows, PIN_ROWS);
+    let mut judge = Judge::new(oneslot.room);
     for line in big_trace(oneslot, 30_000).split_inclusive(|&byte| byte == b'\n') {
         judge.step(line).unwrap();
     }
@@ -592,13 +597,13 @@ fn the_nest_trace_is_deep_the_buffers_trace_full_and_the_turns_trace_not() {
 fn natives_try_the_most_lines() {
     let mut trace = Vec::new();
     natives(1_000_001, &mut trace).unwrap();
-    assert_eq!(report(&trace, 0, 0), b"end\trefused\t1000000\t1\t0\n");
+    assert_eq!(report(&trace, room(0, 0)), b"end\trefused\t1000000\t1\t0\n");
 }
 
 #[test]
 fn the_shrinker_finds_the_smallest_trace() {
     let pops_unpushed = |part: &[u8]| {
-        let mut judge = Judge::new(REFERENCE_ROWS, PIN_ROWS);
+        let mut judge = Judge::new(LENT);
         part.split_inclusive(|&byte| byte == b'\n')
             .map_while(|line| judge.step(line).ok().map(|found| (line, found)))
             .any(|(line, found)| {
@@ -609,7 +614,7 @@ fn the_shrinker_finds_the_smallest_trace() {
             })
     };
     let made = (0..)
-        .map(|seed| make(&PROFILES[0], seed, 400, REFERENCE_ROWS, PIN_ROWS))
+        .map(|seed| make(&PROFILES[0], seed, 400, LENT))
         .find(|made| pops_unpushed(made))
         .unwrap();
     let small = shrink(&made, pops_unpushed);

@@ -1,9 +1,9 @@
 //! The programs, run as they are.
 
-use crate::common::trace;
-use plain::limits::{PIN_ROWS, REFERENCE_ROWS};
+use crate::common::{strs, trace};
 use plain::make::{make, profile};
 use plain::report::{report, report_and_leaks};
+use plain::room::{Room, LENT};
 use plain::walk::walk;
 use std::io::{ErrorKind, Read, Write};
 use std::process::{Command, Output, Stdio};
@@ -53,20 +53,24 @@ fn the_program_judges_standard_input() {
 }
 
 #[test]
-fn the_program_lends_1024_and_256_rows_or_others() {
+fn the_program_lends_1024_and_256_rows_and_1024_identities_or_others() {
     let input = trace(&["N 1 100 5 9", "Z"]);
     assert_eq!(judge(&[], &input), trace(&["end closed 2 0 0"]));
-    let rooms = ["--rooms", "1", "0"];
+    let rooms = ["--rooms", "1", "0", "0"];
     assert_eq!(judge(&rooms, &input), trace(&["end refused 0 7 0"]));
+    let input = trace(&["M 8 1 2 0 0", "M 4 1 2 0 0"]);
+    for (identities, expected) in [("1", "end refused 1 7 0"), ("2", "end open 2 0 0")] {
+        let rooms = ["--rooms", "0", "0", identities];
+        assert_eq!(judge(&rooms, &input), trace(&[expected]));
+    }
+    let lines: Vec<String> = (1..=1_025)
+        .map(|index| format!("M {} 1 2 0 0", 4 * index))
+        .collect();
+    let output = run_on(&trace(&strs(&lines)));
+    assert_eq!(output, trace(&["end refused 1024 7 0"]));
     for (name, seed) in [("rows", 2), ("pins", 3), ("rows", 4), ("pins", 5)] {
-        let made = make(
-            profile(name).unwrap(),
-            seed,
-            1_200,
-            REFERENCE_ROWS,
-            PIN_ROWS,
-        );
-        let (output, expected) = (run_on(&made), report(&made, 1_024, 256));
+        let made = make(profile(name).unwrap(), seed, 1_200, LENT);
+        let (output, expected) = (run_on(&made), report(&made, LENT));
         assert_eq!(output, expected);
     }
 }
@@ -80,7 +84,7 @@ fn the_program_lists_the_leaks_where_it_is_asked_to_and_the_trace_has_z() {
     let listed = judged(&["--leaks"], &closed);
     let with_leaks = trace(&[&report[..], &["leak 10 0 6 3"]].concat());
     assert_eq!((listed.stdout, &listed.stderr[..]), (with_leaks, &b""[..]));
-    let in_one_row = judged(&["--leaks", "--rooms", "1", "0"], &closed);
+    let in_one_row = judged(&["--leaks", "--rooms", "1", "0", "0"], &closed);
     assert_eq!(in_one_row.stdout, trace(&["end refused 2 7 0"]));
     let unlisted = judged(&["--leaks"], &trace(&open));
     assert_eq!(unlisted.stdout, trace(&["end open 3 0 0"]));
@@ -92,8 +96,13 @@ fn the_program_lists_the_leaks_where_it_is_asked_to_and_the_trace_has_z() {
 fn the_program_prints_the_same_where_it_finds_rows_by_indexes() {
     let leaks = profile("leaks").unwrap();
     for seed in 0..5 {
-        let made = make(leaks, seed, 150, 40, 12);
-        let rooms = ["--leaks", "--rooms", "40", "12"];
+        let room = Room {
+            references: 40,
+            pins: 12,
+            identities: 5,
+        };
+        let made = make(leaks, seed, 150, room);
+        let rooms = ["--leaks", "--rooms", "40", "12", "5"];
         let indexed = [&["--indexed"], &rooms[..]].concat();
         assert_eq!(judge(&indexed, &made), judge(&rooms, &made));
     }
@@ -137,9 +146,14 @@ fn the_program_stops_in_a_line_without_end() {
 #[test]
 fn traces_prints_what_the_maker_makes() {
     let arguments = ["--seed", "7", "--profile", "small", "--lines", "15"];
-    let rooms = ["--rooms", "3", "2"];
+    let rooms = ["--rooms", "3", "2", "1"];
     let printed = run(TRACES, &[&arguments[..], &rooms].concat()).stdout;
-    assert_eq!(printed, make(profile("small").unwrap(), 7, 15, 3, 2));
+    let room = Room {
+        references: 3,
+        pins: 2,
+        identities: 1,
+    };
+    assert_eq!(printed, make(profile("small").unwrap(), 7, 15, room));
     let printed = run(TRACES, &["--big", "uses", "500"]).stdout;
     assert_eq!(printed.iter().filter(|&&byte| byte == b'\n').count(), 500);
     let printed = run(TRACES, &["--big", "natives", "3"]).stdout;
@@ -158,10 +172,10 @@ fn traces_prints_what_the_maker_makes() {
 fn traces_prints_several_with_their_reports_and_leaks() {
     let printed = run(TRACES, &["--walk"]).stdout;
     let made = &walk()[0];
-    let report = report_and_leaks(&made.trace, REFERENCE_ROWS, PIN_ROWS);
+    let report = report_and_leaks(&made.trace, LENT);
     assert!(report.ends_with(b"leak\t10\t0\t7\t5\nleak\t8\t1\t8000\t16\n"));
     let head = format!(
-        "1024 256 {} {} {}\n",
+        "1024 256 1024 {} {} {}\n",
         made.trace.len(),
         report.len(),
         made.name
@@ -175,13 +189,16 @@ fn facts_prints_the_facts_of_each_function() {
     let lines: Vec<&str> = printed.lines().collect();
     assert_eq!(lines.len(), 229);
     for line in [
-        "11\trr-\t-\t-\t-\tcc-",
-        "13\tr--\t-\t-\t-\tt--",
-        "19\t---\tS\tnp\t-\t---",
-        "32\tor-\t-\t-\t-\t-c-",
-        "223\trb-\t-\tpc\t10\t---",
-        "225\trb-\t-\tpc\t11\ts--",
-        "229\t---\tL\t-\t-\t---",
+        "9\tri-\tL\t-\t-\tc--\tma",
+        "11\trr-\t-\t-\t-\tcc-\t-",
+        "13\tr--\t-\t-\t-\tt--\t-",
+        "19\t---\tS\tnp\t-\t---\t-",
+        "32\tor-\t-\t-\t-\t-c-\t-",
+        "93\trri\t-\t-\t-\t-c-\tmi",
+        "154\trio\t-\t-\t-\tc--\tfsw",
+        "223\trb-\t-\tpc\t10\t---\t-",
+        "225\trb-\t-\tpc\t11\ts--\t-",
+        "229\t---\tL\t-\t-\t---\t-",
     ] {
         assert!(lines.contains(&line), "{line}");
     }

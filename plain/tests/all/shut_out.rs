@@ -1,6 +1,6 @@
 //! Readings to shut out, each with a trace on which it would differ.
 
-use crate::common::{findings, judged_with};
+use crate::common::{findings, judged_with, room};
 
 #[test]
 fn a_local_looked_up_without_its_thread() {
@@ -34,7 +34,7 @@ fn room_counted_from_handles_ever_made() {
         "R 1 22 0 0",
         "X 1 0",
     ];
-    let (mut judge, found) = judged_with(2, 1, &round.repeat(50));
+    let (mut judge, found) = judged_with(room(2, 1), &round.repeat(50));
     assert!(found.is_empty());
     assert_eq!(judge.tables().references.rows.used(), 0);
 }

@@ -1,6 +1,6 @@
 //! The step order of lines and the refusals 1 and 4 to 7 of the judge.
 
-use crate::common::{findings, judged, judged_with, line, refusal, refusal_with, trace};
+use crate::common::{findings, judged, judged_with, line, refusal, refusal_with, room, trace};
 use plain::judge::Judge;
 use plain::make::{make, PROFILES};
 use plain::report::report;
@@ -78,11 +78,11 @@ fn z_may_come_with_items_open() {
 
 #[test]
 fn a_last_line_without_lf_is_1_even_after_z() {
-    assert_eq!(report(b"Z", 1, 1), trace(&["end refused 0 1 0"]));
-    assert_eq!(report(b"Z\nZ", 1, 1), trace(&["end refused 1 1 0"]));
-    assert_eq!(report(b"Z\n\r", 1, 1), trace(&["end refused 1 1 0"]));
+    assert_eq!(report(b"Z", room(1, 1)), trace(&["end refused 0 1 0"]));
+    assert_eq!(report(b"Z\nZ", room(1, 1)), trace(&["end refused 1 1 0"]));
+    assert_eq!(report(b"Z\n\r", room(1, 1)), trace(&["end refused 1 1 0"]));
     assert_eq!(
-        report(b"N\t1\t100\nX\t1\t0", 1, 1),
+        report(b"N\t1\t100\nX\t1\t0", room(1, 1)),
         trace(&["end refused 1 1 0"])
     );
 }
@@ -92,25 +92,25 @@ fn an_overlong_line_is_1_wherever_its_lf_is() {
     for length in [225, 65_535, 65_536, 65_537, 200_000] {
         let mut input = b"N\t1\t100\n".to_vec();
         input.resize(8 + length, b'x');
-        assert_eq!(report(&input, 1, 1), trace(&["end refused 1 1 0"]));
+        assert_eq!(report(&input, room(1, 1)), trace(&["end refused 1 1 0"]));
         input.extend(b"\nZ\n");
-        assert_eq!(report(&input, 1, 1), trace(&["end refused 1 1 0"]));
+        assert_eq!(report(&input, room(1, 1)), trace(&["end refused 1 1 0"]));
     }
     let line = [&[b'x'; 224][..], b"\n"].concat();
-    assert_eq!(report(&line, 1, 1), trace(&["end refused 0 2 0"]));
+    assert_eq!(report(&line, room(1, 1)), trace(&["end refused 0 2 0"]));
 }
 
 #[test]
 fn lines_are_cut_the_same_wherever_the_reading_breaks_them() {
     let pair = trace(&["N 1 100 5", "C 1 100 31 9 0 0 0", "R 1 31 0 0", "X 1 0"]);
     let input = pair.repeat(20_000);
-    let report = String::from_utf8(report(&input, 8, 1)).unwrap();
+    let report = String::from_utf8(report(&input, room(8, 1))).unwrap();
     assert!(report.ends_with("79998\t11\t1\t9\nend\topen\t80000\t0\t20000\n"));
 }
 
 #[test]
 fn line_1000001_is_1_whatever_it_holds_and_counts_accepted_lines() {
-    let mut judge = Judge::new(0, 0);
+    let mut judge = Judge::new(room(0, 0));
     let lines = [line("N 1 100"), line("X 1 0")];
     for index in 0..1_000_000 {
         if index % 100_000 == 0 {
@@ -136,7 +136,7 @@ fn an_env_is_its_threads_from_the_first_n_for_ever() {
 
 #[test]
 fn a_refused_n_leaves_no_env() {
-    let mut judge = Judge::new(8, 8);
+    let mut judge = Judge::new(room(8, 8));
     assert_eq!(judge.step(&line("N 1 100 5 5")), Err(6));
     assert!(judge.step(&line("N 2 100")).is_ok());
     assert_eq!(judge.step(&line("N 1 100")), Err(5));
@@ -218,30 +218,30 @@ fn r_of_20_may_make_again_what_its_own_c_ended() {
 #[test]
 fn refusals_are_tested_in_their_order() {
     let open = "N 1 100 5";
-    assert_eq!(refusal_with(1, 0, &[open, "N 1 101 9 9"]), 4);
+    assert_eq!(refusal_with(room(1, 0), &[open, "N 1 101 9 9"]), 4);
     let call = "C 1 100 6 0 0 0 0";
-    assert_eq!(refusal_with(1, 0, &[open, call, "N 1 101 9 9"]), 5);
-    assert_eq!(refusal_with(1, 0, &[open, call, "N 1 100 9 9"]), 6);
-    assert_eq!(refusal_with(1, 0, &[open, call, "N 1 100 5"]), 6);
-    assert_eq!(refusal_with(1, 0, &[open, call, "N 1 100 9"]), 7);
-    assert_eq!(refusal_with(1, 0, &[open, call, "R 1 6 5 0"]), 6);
-    assert_eq!(refusal_with(1, 0, &[open, call, "R 1 6 9 0"]), 7);
+    assert_eq!(refusal_with(room(1, 0), &[open, call, "N 1 101 9 9"]), 5);
+    assert_eq!(refusal_with(room(1, 0), &[open, call, "N 1 100 9 9"]), 6);
+    assert_eq!(refusal_with(room(1, 0), &[open, call, "N 1 100 5"]), 6);
+    assert_eq!(refusal_with(room(1, 0), &[open, call, "N 1 100 9"]), 7);
+    assert_eq!(refusal_with(room(1, 0), &[open, call, "R 1 6 5 0"]), 6);
+    assert_eq!(refusal_with(room(1, 0), &[open, call, "R 1 6 9 0"]), 7);
 }
 
 #[test]
 fn handles_fill_the_room_to_the_last_row() {
-    judged_with(3, 0, &["N 1 100 1 5 9"]);
-    assert_eq!(refusal_with(2, 0, &["N 1 100 1 5 9"]), 7);
+    judged_with(room(3, 0), &["N 1 100 1 5 9"]);
+    assert_eq!(refusal_with(room(2, 0), &["N 1 100 1 5 9"]), 7);
     let mut lines = vec!["N 1 100 1 5", "C 1 100 21 1 0 0 0", "R 1 21 2 0"];
-    judged_with(3, 0, &lines);
+    judged_with(room(3, 0), &lines);
     lines.extend(["C 1 100 226 1 0 0 0", "R 1 226 3 0"]);
-    assert_eq!(refusal_with(3, 0, &lines), 7);
-    judged_with(4, 0, &lines);
+    assert_eq!(refusal_with(room(3, 0), &lines), 7);
+    judged_with(room(4, 0), &lines);
 }
 
 #[test]
 fn ns_handles_are_all_or_nothing() {
-    let (mut judge, _) = judged_with(2, 0, &["N 1 100 5"]);
+    let (mut judge, _) = judged_with(room(2, 0), &["N 1 100 5"]);
     assert_eq!(judge.step(&line("N 2 200 5 9")), Err(7));
     assert_eq!(judge.tables().references.rows.used(), 1);
     assert!(judge.step(&line("N 2 200 5")).is_ok());
@@ -256,8 +256,8 @@ fn buffers_fill_the_room_to_the_last_row() {
         "C 1 100 222 5 0 0 0",
         "R 1 222 8 0",
     ];
-    judged_with(1, 2, &lines);
-    assert_eq!(refusal_with(1, 1, &lines), 7);
+    judged_with(room(1, 2), &lines);
+    assert_eq!(refusal_with(room(1, 1), &lines), 7);
 }
 
 #[test]
@@ -271,11 +271,10 @@ fn a_null_result_a_failed_push_and_a_bare_n_pass_when_all_is_full() {
         ("C 1 100 31 5 0 0 0", "R 1 31 0 1"),
         ("C 1 100 7 5 0 0 0", "R 1 7 8 0"),
     ] {
-        judged_with(1, 0, &["N 1 100 5", call, result]);
+        judged_with(room(1, 0), &["N 1 100 5", call, result]);
     }
     judged_with(
-        1,
-        0,
+        room(1, 0),
         &["N 1 100 5", "C 1 100 4 0 0 0 0", "N 1 100", "N 2 200"],
     );
     let mut frames = vec!["N 1 100"];
@@ -315,7 +314,7 @@ fn a_thread_has_at_most_64_frames() {
 
 #[test]
 fn room_is_at_most_65536_rows() {
-    let mut judge = Judge::new(1_000_000, 65_537);
+    let mut judge = Judge::new(room(1_000_000, 65_537));
     assert_eq!(judge.tables().references.rows.free(), 65_536);
     assert_eq!(judge.tables().pins.rows.free(), 65_536);
 }
@@ -324,8 +323,8 @@ fn room_is_at_most_65536_rows() {
 fn a_refused_line_changes_nothing_and_the_judge_goes_on() {
     let mut refused = 0;
     for (seed, profile) in (1..).zip(&PROFILES) {
-        let trace = make(profile, seed, 200, 6, 3);
-        let mut judge = Judge::new(6, 3);
+        let trace = make(profile, seed, 200, room(6, 3));
+        let mut judge = Judge::new(room(6, 3));
         for line in trace.split_inclusive(|&byte| byte == b'\n') {
             for other in [line, b"N\t1\t1\t1\t5\n", b"X\t2\t0\n", b"R\t1\t6\t5\t0\n"] {
                 let before = judge.clone();

@@ -1,6 +1,6 @@
 //! Numbers that are equal modulo 2^32 are different envs, handles, identities and buffers, and so are such numbers of foreign rows.
 
-use crate::common::{findings, judged, judged_with, refusal, strs, trace, Lent};
+use crate::common::{findings, judged, judged_with, refusal, room, strs, trace, Lent};
 use crate::maker::made_traces;
 use plain::facts::{known, PlaceKind, ResultKind};
 use plain::foreign::{line, make};
@@ -10,10 +10,11 @@ use plain::lent::pins::{BUFFER, FAMILY};
 use plain::lent::references::{CLASS, FRAME, HANDLE};
 use plain::lent::rows::THREAD;
 use plain::lent::slices::Slices;
-use plain::limits::{Handle, Number, PIN_NUMBERS, PIN_ROWS, REFERENCE_NUMBERS, REFERENCE_ROWS};
+use plain::limits::{Handle, Number, PIN_NUMBERS, REFERENCE_NUMBERS};
 use plain::line::{made, read, write, Event};
 use plain::random::Random;
 use plain::report::report_and_leaks;
+use plain::room::LENT;
 use plain::twin::{are_twins, twin_of, ADDRESS, HIGH};
 use std::collections::BTreeMap;
 
@@ -111,13 +112,14 @@ fn a_buffer_is_not_released_by_its_twin() {
 #[test]
 fn a_multiple_of_2_to_the_32_is_no_null() {
     for (call, expected) in [
-        ("C 1 100 31 4294967296 0 0 0", vec!["2 4 1 4294967296"]),
-        ("C 1 100 24 5 4294967296 0 0", vec!["2 4 2 4294967296"]),
+        ("C 1 100 31 4294967296 0 0 0", vec!["3 4 1 4294967296"]),
+        ("C 1 100 24 5 4294967296 0 0", vec!["3 4 2 4294967296"]),
         ("C 1 100 37 5 4294967296 0 0", vec![]),
-        ("C 1 100 166 5 4294967296 0 0", vec!["2 8 2 4294967296"]),
-        ("X 1 4294967296", vec!["2 4 1 4294967296"]),
+        ("C 1 100 166 5 4294967296 0 0", vec!["3 8 2 4294967296"]),
+        ("X 1 4294967296", vec!["3 4 1 4294967296"]),
     ] {
-        assert_eq!(findings(&["N 1 100 5", call]), expected, "{call}");
+        let lines = ["N 1 100 5", "M 4294967296 1 1 0 0", call];
+        assert_eq!(findings(&lines), expected, "{call}");
     }
     let lines = ["N 1 100 5", "C 1 100 165 5 0 0 0", "R 1 165 4294967296 0"];
     let (mut judge, _) = judged(&lines);
@@ -147,7 +149,7 @@ fn rows_findings_reports_and_leaks_hold_the_greatest_numbers() {
         "R 16 222 18446744073709551615 0",
         "Z",
     ];
-    let (mut judge, _) = judged_with(2, 1, &lines);
+    let (mut judge, _) = judged_with(room(2, 1), &lines);
     let slices = judge.slices();
     let (local, global) = (Number::MAX - 2, Number::MAX - 1);
     assert_eq!(slices.rows, [16, local, 1, 1, 0, 0, global, 0, 3, 0]);
@@ -169,7 +171,7 @@ fn rows_findings_reports_and_leaks_hold_the_greatest_numbers() {
         "leak 10 0 18446744073709551614 3",
         "leak 8 16 18446744073709551615 5",
     ];
-    let printed = report_and_leaks(&trace(&lines), 2, 1);
+    let printed = report_and_leaks(&trace(&lines), room(2, 1));
     assert_eq!(printed, trace(&report));
 }
 
@@ -177,7 +179,7 @@ fn rows_findings_reports_and_leaks_hold_the_greatest_numbers() {
 
 #[test]
 fn the_thread_of_a_row_is_not_cut_to_32_bits() {
-    let mut lent = Slices::after(8, 8, &["N 1 100 9"]);
+    let mut lent = Slices::after(room(8, 8), &["N 1 100 9"]);
     lent.put_reference(1, [HIGH + 1, 5, 1, 7]);
     lent.put_reference(2, [HIGH, 6, 0, 7]);
     lent.put_pin(0, [HIGH + 1, 10, 8, 7]);
@@ -196,7 +198,7 @@ fn the_thread_of_a_row_is_not_cut_to_32_bits() {
 #[test]
 fn the_frame_of_a_row_is_not_cut_to_32_bits() {
     let push = ["N 1 100", "C 1 100 19 0 0 0 1", "R 1 19 0 0"];
-    let mut lent = Slices::after(8, 8, &push);
+    let mut lent = Slices::after(room(8, 8), &push);
     lent.put_reference(0, [1, 5, HIGH + 2, 7]);
     lent.put_reference(1, [1, 9, HIGH + 1, 7]);
     lent.accepts("C 1 100 6 0 0 0 0");
@@ -207,7 +209,7 @@ fn the_frame_of_a_row_is_not_cut_to_32_bits() {
 
 #[test]
 fn the_family_of_a_row_is_not_cut_to_32_bits() {
-    let mut lent = Slices::after(8, 8, &["N 1 100 5"]);
+    let mut lent = Slices::after(room(8, 8), &["N 1 100 5"]);
     lent.put_pin(0, [0, HIGH + 3, 8, 7]);
     assert_eq!(lent.accepts("C 1 100 192 5 8 0 0"), ["2 8 2 8"]);
     assert_eq!(lent.pin_marks, [1]);
@@ -244,7 +246,7 @@ fn cut(event: Event, sort: &str) -> Event {
         } => {
             let kinds = known(function).places;
             let place = |kind, value| match kind {
-                PlaceKind::Identity => of("identities", value),
+                PlaceKind::Identity(_) => of("identities", value),
                 PlaceKind::Buffer(_) => of("buffers", value),
                 _ => named(value),
             };
@@ -285,6 +287,19 @@ fn cut(event: Event, sort: &str) -> Event {
             thread,
             env: of("envs of A", env).max(1),
         },
+        Event::M {
+            identity,
+            sort,
+            class,
+            is_static,
+            is_final,
+        } => Event::M {
+            identity: of("identities", identity).max(4),
+            sort,
+            class,
+            is_static,
+            is_final,
+        },
         Event::D { .. } | Event::K { .. } | Event::Z => event,
     }
 }
@@ -305,7 +320,7 @@ fn made_traces_tell_a_judge_that_cuts_values() {
     let mut told: BTreeMap<&str, u32> = BTreeMap::new();
     for trace in made_traces(6) {
         for sort in ["envs", "envs of A", "handles", "identities", "buffers"] {
-            let mut judges = [(); 2].map(|()| Judge::new(REFERENCE_ROWS, PIN_ROWS));
+            let mut judges = [(); 2].map(|()| Judge::new(LENT));
             let lines = trace.split_inclusive(|&byte| byte == b'\n');
             let differs = |event: Event| {
                 let [one, other] = &mut judges;

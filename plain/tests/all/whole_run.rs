@@ -1,12 +1,12 @@
 //! The whole run and the cases P1 to P12, each by its report.
 
 use crate::common::trace;
-use plain::limits::{PIN_ROWS, REFERENCE_ROWS};
 use plain::report::report;
+use plain::room::LENT;
 
 #[track_caller]
 fn assert_report(lines: &[&str], expected: &[&str]) {
-    let report = report(&trace(lines), REFERENCE_ROWS, PIN_ROWS);
+    let report = report(&trace(lines), LENT);
     let report = String::from_utf8(report).unwrap();
     assert_eq!(report.as_bytes(), trace(expected), "{report}");
 }
