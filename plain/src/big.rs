@@ -2,6 +2,7 @@
 
 mod accepted;
 mod balanced;
+mod identified;
 mod recorded;
 pub mod slot;
 
@@ -10,6 +11,7 @@ use crate::limits::*;
 use crate::room::{Room, LENT};
 use accepted::Accepted;
 use balanced::Balance;
+use identified::Second;
 use std::io::{self, Write};
 
 /// A kind of big trace, and the room it takes.
@@ -23,6 +25,7 @@ pub struct Kind {
 #[derive(Clone, Copy, Debug)]
 enum Manner {
     Balanced(Balance),
+    Identified(Second),
     Recorded,
 }
 
@@ -46,7 +49,7 @@ const STEADY: Balance = Balance {
     chain: 0,
 };
 
-pub const KINDS: [Kind; 11] = [
+pub const KINDS: [Kind; 15] = [
     balanced("steady", STEADY),
     balanced(
         "threads",
@@ -144,6 +147,10 @@ pub const KINDS: [Kind; 11] = [
             },
         )
     },
+    identified("identities", Second::InARow),
+    identified("scattered", Second::Scattered),
+    identified("handles", Second::Global),
+    identified("bare", Second::Nothing),
     Kind {
         name: "recorded",
         room: ROOM,
@@ -161,6 +168,15 @@ const fn balanced(name: &'static str, balance: Balance) -> Kind {
         name,
         room: ROOM,
         manner: Manner::Balanced(balance),
+    }
+}
+
+/// In the rows that the program lends.
+const fn identified(name: &'static str, second: Second) -> Kind {
+    Kind {
+        name,
+        room: LENT,
+        manner: Manner::Identified(second),
     }
 }
 
@@ -195,6 +211,7 @@ pub fn big(kind: &Kind, lines: usize, output: &mut impl Write) -> io::Result<()>
     let trace = Accepted::new(judge, output);
     match &kind.manner {
         Manner::Balanced(balance) => balanced::write(balance, trace, lines),
+        Manner::Identified(second) => identified::write(*second, trace, lines),
         Manner::Recorded => recorded::write(trace, lines),
     }
 }

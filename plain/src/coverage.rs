@@ -1,8 +1,9 @@
 //! What a set of steps brings up: lines accepted, functions called, numbers in unused places, handles of each standing in places
-//! that have a class, each refusal by its cause, lines about the longest, each rule by line letter and place, attached threads, twins; and
+//! that have a class, identities of each fit, each refusal by its cause, lines about the longest, each rule by line letter and place, attached threads, twins; and
 //! what leak lists bring up: each rule by the kind of leak, refusals, what orders two leaks.
 
 mod attached;
+mod identities;
 pub mod twins;
 
 use crate::class::{CLASS, STRING, THROWABLE};
@@ -99,7 +100,7 @@ const SEVERAL: &str = "several";
 const NO_LETTER: &str = "letter";
 
 /// The rules, places and line letters of all findings there can be.
-const BREACHES: [(u8, u8, &str); 28] = [
+const BREACHES: [(u8, u8, &str); 31] = [
     (1, 0, "C"),
     (2, 0, "C"),
     (3, 0, "C"),
@@ -109,6 +110,9 @@ const BREACHES: [(u8, u8, &str); 28] = [
     (4, 1, "X"),
     (4, 2, "C"),
     (4, 3, "C"),
+    (5, 2, "C"),
+    (5, 3, "C"),
+    (6, 2, "C"),
     (7, 1, "C"),
     (7, 2, "C"),
     (7, 3, "C"),
@@ -163,6 +167,12 @@ enum What {
     Classed(u32, usize, &'static str),
     /// The same by the fixed class, whatever the place.
     OfClass(Class, &'static str),
+    /// A function, and how what is stated of its identity fits what it wants.
+    Identity(u32, &'static str),
+    /// The same by what is wanted, whatever the function.
+    OfWanted(&'static str, &'static str),
+    /// How an identity is stated and looked for.
+    Identified(&'static str),
     Refused(Refusal, &'static str),
     /// The refusal of a line that is just as long as may be, or one byte longer.
     Long(Refusal),
@@ -227,12 +237,14 @@ impl Coverage {
         let long = [NO_LINE, MALFORMED, OUT_OF_RANGE].map(What::Long);
         let attached = attached::SHOWN.map(What::Attached);
         let twins = twins::NAMED.map(What::Twin);
+        let identified = identities::SHOWN.map(What::Identified);
         let all = all
             .chain(causes)
             .chain(long)
             .chain(found)
             .chain(attached)
             .chain(twins)
+            .chain(identified)
             .chain(also);
         Coverage(all.map(|what| (what, 0)).collect())
     }
@@ -241,7 +253,7 @@ impl Coverage {
         self.count(What::Start);
     }
 
-    /// Adds what a line shows of attached threads that is to be stepped over these tables.
+    /// Adds what a line shows of attached threads and identities that is to be stepped over these tables.
     pub fn look(&mut self, tables: &Tables, line: &[u8]) {
         let is_full = || tables.book.lines() == MOST_LINES.into();
         let Ok(event) = line::read(line) else {
@@ -256,6 +268,13 @@ impl Coverage {
         if grounds(tables, &event).is_empty() {
             for shown in attached::of_accepted(tables, &event) {
                 self.count_wanted(What::Attached(shown));
+            }
+            for shown in identities::of_accepted(tables, &event) {
+                self.count_wanted(What::Identified(shown));
+            }
+            if let Some((function, fit)) = identities::fit(tables, &event) {
+                self.count_wanted(What::Identity(function, fit));
+                self.count_wanted(What::OfWanted(identities::wanted(function), fit));
             }
         }
     }
@@ -384,6 +403,9 @@ impl fmt::Display for Coverage {
                     let sort = format!("in places with class {class}");
                     (sort, Some(standing.to_string()))
                 }
+                What::Identity(..) => ("in places for identities".to_string(), None),
+                What::OfWanted(wanted, fit) => (format!("for {wanted}"), Some(format!("{fit}:"))),
+                What::Identified(what) => ("identities".to_string(), Some(format!("{what}:"))),
                 What::Refused(refusal, cause) => {
                     (format!("refusal {refusal}"), Some(cause.to_string()))
                 }
@@ -440,7 +462,9 @@ fn in_traces() -> impl Iterator<Item = What> {
     });
     let ended = [What::Ended("open"), What::Ended("closed")];
     let attached = attached::IN_TRACES.map(What::Attached);
-    unused.chain(classed()).chain(ended).chain(attached)
+    let identified = identities::fits().map(|(function, fit)| What::Identity(function, fit));
+    let all = unused.chain(classed()).chain(ended).chain(attached);
+    all.chain(identified)
 }
 
 /// What comes up over foreign tables alone, lines of these letters over marked items.
@@ -455,8 +479,11 @@ fn in_foreign(letters: &'static [&str]) -> impl Iterator<Item = What> {
         .iter()
         .flat_map(|letter| attached::FUNCTIONS.map(|function| What::Marked(letter, function)));
     let columns = twins::COLUMNS.map(What::Twin);
+    let fits = identities::foreign_fits().map(|(wanted, fit)| What::OfWanted(wanted, fit));
+    let identified = identities::FOREIGN.map(What::Identified);
     let all = causes.into_iter().chain(classes).chain(attached);
-    all.chain(marked).chain(columns)
+    let all = all.chain(marked).chain(columns);
+    all.chain(fits).chain(identified)
 }
 
 /// Each place that has a class, with a handle of each standing from a start.

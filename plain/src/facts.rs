@@ -162,6 +162,22 @@ pub const WITH_CLASS: [u32; 106] = {
     functions
 };
 
+/// The functions with a place for an identity.
+pub const WITH_IDENTITY: [u32; 131] = {
+    let mut functions = [0; 131];
+    let (mut count, mut function) = (0, FIRST_FUNCTION);
+    while function <= LAST_FUNCTION {
+        if let [_, PlaceKind::Identity(_), _] | [_, _, PlaceKind::Identity(_)] =
+            facts_of(function).places
+        {
+            functions[count] = function;
+            count += 1;
+        }
+        function += 1;
+    }
+    functions
+};
+
 /// The facts of a function, if there is one of that number.
 pub fn facts(function: u32) -> Option<&'static Facts> {
     TABLE.get(function.checked_sub(FIRST_FUNCTION)? as usize)

@@ -12,6 +12,7 @@ pub mod damage;
 pub mod edge;
 pub mod facts;
 pub mod findings;
+pub mod fit;
 pub mod foreign;
 pub mod form;
 pub mod identity;

@@ -1,6 +1,8 @@
 //! The maker of traces: from a seed and a profile, lines that a judge mostly accepts and often condemns.
 
 mod classes;
+mod dense;
+mod identities;
 mod profiles;
 
 use crate::damage::{damage_bytes, damage_fields, disorder, odd_line};
@@ -18,8 +20,9 @@ use crate::random::Random;
 use crate::refusal::Refusal;
 use crate::room::Room;
 use crate::twin::{twin_of, ADDRESS, HIGH};
+pub use dense::DENSE;
 use profiles::Harm;
-pub use profiles::{profile, Profile, DENSE, PROFILES};
+pub use profiles::{profile, Profile, PROFILES};
 
 /// A trace, how it is made, and the room of the judge that it is for.
 #[derive(Clone, Debug)]
@@ -171,6 +174,9 @@ impl Maker<'_> {
         if self.random.percent(self.profile.classed) {
             return self.class_event(thread);
         }
+        if self.random.percent(self.profile.identified) {
+            return self.statement();
+        }
         match self.top(thread) {
             Top::Nothing if self.random.percent(self.profile.attached) => self.attach(thread),
             Top::Nothing => self.enter(thread),
@@ -182,10 +188,13 @@ impl Maker<'_> {
         }
     }
 
-    /// An event that the step order, the env rule, the alive handles or the classes likely forbid.
+    /// An event that the step order, the env rule, the alive handles, the classes or the room for identities likely forbid.
     fn astray(&mut self, thread: u32) -> Event {
         if self.profile.classed > 0 && self.random.percent(40) {
             return self.doubtful_class_event(thread);
+        }
+        if self.profile.identified > 0 && self.random.percent(20) {
+            return self.doubtful_statement();
         }
         let attached = self.thread_with(|book, thread| book.top(thread) == Top::Attached);
         let thread = match attached {
@@ -313,6 +322,9 @@ impl Maker<'_> {
     fn call(&mut self, thread: u32) -> Event {
         let function = self.function(thread);
         let facts = known(function);
+        if let Some(statement) = facts.wanted().and_then(|wanted| self.owed(wanted)) {
+            return statement;
+        }
         let env = if self.random.percent(self.profile.spoilt / 3) {
             self.other_env(thread)
         } else {
@@ -407,7 +419,7 @@ impl Maker<'_> {
             PlaceKind::Local => self.alive(thread, LOCAL).or(Some(0)),
             PlaceKind::Global => self.alive(thread, GLOBAL).or(Some(0)),
             PlaceKind::Weak => self.alive(thread, WEAK).or(Some(0)),
-            PlaceKind::Identity(_) => Some(self.number(0)),
+            PlaceKind::Identity(wanted) => Some(self.identity(wanted)),
             PlaceKind::Buffer(family) => self.outstanding(thread, family),
         };
         match good {

@@ -5,6 +5,7 @@
 
 mod classes;
 mod fields;
+mod identities;
 mod leaks;
 mod past;
 
@@ -20,9 +21,10 @@ use crate::lent::rows::{Rows, THREAD};
 use crate::lent::Tables;
 use crate::limits::*;
 use crate::line::{self, Event};
-use crate::refusal::{Refusal, ALREADY_ALIVE, NOT_ALIVE, WRONG_CLASS};
+use crate::refusal::{Refusal, ALREADY_ALIVE, NOT_ALIVE, NO_ROOM, WRONG_CLASS};
 use crate::room::Room;
 use classes::Classed;
+use identities::Identified;
 use past::{Frame, Past};
 use std::collections::BTreeSet;
 
@@ -38,6 +40,7 @@ pub fn sights(trace: &[u8], room: Room) -> BTreeSet<String> {
         judge: Judge::new(room),
         past: Past::default(),
         classed: Classed::default(),
+        identified: Identified::default(),
         findings: 0,
         sights: BTreeSet::new(),
     };
@@ -51,6 +54,7 @@ struct Watch {
     judge: Judge,
     past: Past,
     classed: Classed,
+    identified: Identified,
     findings: usize,
     sights: BTreeSet<String>,
 }
@@ -80,6 +84,7 @@ impl Watch {
         let tables = self.judge.tables();
         let before = (lives(&tables), used(&tables.pins.rows));
         self.classed.add(&tables, &event);
+        self.identified.add(&event);
         let findings = self.judge.step(line).expect("nothing is against it");
         self.found(letter(&event), &findings);
         let twins = twins::of_accepted(&self.judge.tables(), &event, &findings);
@@ -151,6 +156,10 @@ impl Watch {
         }
         if let (WRONG_CLASS, [(_, cause)]) = (refusal, against) {
             self.show(format!("9: {cause} alone"));
+        }
+        if let (NO_ROOM, Event::M { .. }) = (refusal, event) {
+            let room = few(self.judge.tables().identities.room());
+            self.show(format!("7: M, room for {room}"));
         }
         let book = self.judge.tables().book;
         let is_sharer = |other: &u32| match *event {
@@ -227,8 +236,12 @@ impl Watch {
                 self.call(thread, env, function);
                 let facts = known(function);
                 for (index, letter) in facts.letters().0.char_indices() {
-                    let (kind, value) = (facts.places[index], places[index]);
-                    self.place(&letter.to_string(), thread, kind, value);
+                    let (place, value) = (facts.places[index], places[index]);
+                    self.place(&letter.to_string(), thread, place, value);
+                    if let (PlaceKind::Identity(wanted), "identity") = (place, kind(value)) {
+                        let shown = self.identified.place(wanted, index, value);
+                        self.sights.extend(shown);
+                    }
                     self.class_of(event, &letter.to_string(), index, value);
                 }
             }
@@ -244,7 +257,10 @@ impl Watch {
                 let shown = self.classed.class_event(&self.judge.tables(), event);
                 self.sights.extend(shown);
             }
-            Event::M { .. } => {}
+            Event::M { .. } => {
+                let shown = self.identified.statement(&self.judge.tables(), event);
+                self.sights.extend(shown);
+            }
             Event::Z => self.close(),
         }
     }
@@ -377,15 +393,9 @@ impl Watch {
         });
     }
 
-    fn place(&mut self, letter: &str, thread: u32, kind: PlaceKind, value: Handle) {
-        let class = match value % 4 {
-            _ if value == 0 => "null",
-            LOCAL => "local",
-            GLOBAL => "global",
-            WEAK => "weak",
-            _ => "identity",
-        };
-        match kind {
+    fn place(&mut self, letter: &str, thread: u32, place: PlaceKind, value: Handle) {
+        let class = kind(value);
+        match place {
             PlaceKind::Unused => {}
             PlaceKind::Identity(_) => self.show(format!("i: {class}")),
             PlaceKind::Buffer(family) => self.buffer(thread, family, value),
@@ -549,6 +559,16 @@ fn thread(event: &Event) -> u32 {
         | Event::D { thread }
         | Event::O { thread, .. } => thread,
         Event::K { .. } | Event::M { .. } | Event::Z => 0,
+    }
+}
+
+fn kind(value: Handle) -> &'static str {
+    match value % 4 {
+        _ if value == 0 => "null",
+        LOCAL => "local",
+        GLOBAL => "global",
+        WEAK => "weak",
+        _ => "identity",
     }
 }
 

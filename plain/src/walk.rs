@@ -1,7 +1,8 @@
 //! The walk: traces that show all facts of each function, which buffers each release ends, what each byte is, how deep a
-//! thread may go, a long chain of classes, attached threads, that twins are told apart, and how long a line and how great a number may be.
+//! thread may go, a long chain of classes, attached threads, identities, that twins are told apart, and how long a line and how great a number may be.
 
 mod attached;
+mod identities;
 
 use crate::class::{FIRST_DECLARED, OBJECT, STRING};
 use crate::facts::*;
@@ -45,7 +46,7 @@ const CHAIN: u32 = 40;
 
 /// Of each function a trace that is accepted and one for each line that must be refused; a trace of each release; of each byte
 /// three lines, in which it stands for a letter, for a digit and for the tab between two fields; of each letter a line of one
-/// number too many, all out of range; traces to the deepest; a long chain of classes; attached threads; twins; for each field a line with each of the great numbers; the longest
+/// number too many, all out of range; traces to the deepest; a long chain of classes; attached threads; identities; twins; for each field a line with each of the great numbers; the longest
 /// lines.
 pub fn walk() -> Vec<Made> {
     let mut walk = Vec::new();
@@ -75,6 +76,9 @@ pub fn walk() -> Vec<Made> {
     walk.push(made("chain".to_string(), &chain()));
     for (what, lines) in attached::attached() {
         walk.push(made(format!("attached {what}"), &lines));
+    }
+    for (what, lines) in identities::identities() {
+        walk.push(made(format!("identities {what}"), &lines));
     }
     for half in [HIGH, ADDRESS / HIGH * HIGH, Handle::MAX - (HIGH - 1)] {
         walk.push(made(format!("twins {half}"), &twins(half)));
@@ -274,6 +278,7 @@ fn great() -> Vec<String> {
         "D 1",
         "K 5 1",
         "O 1 5 2",
+        "M 8 1 2 0 0",
     ] {
         let fields: Vec<&str> = good.split(' ').collect();
         for at in 1..fields.len() {

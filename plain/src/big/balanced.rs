@@ -4,6 +4,7 @@ use super::accepted::Accepted;
 use super::slot::Slots;
 use crate::class::{CLASS, FIRST_DECLARED, OBJECT};
 use crate::facts::*;
+use crate::identity::{Wanted, FIELD, METHOD};
 use crate::lent::book::Top;
 use crate::lent::lookup::{Buffers, Handles};
 use crate::lent::references::owner;
@@ -22,6 +23,9 @@ const NEW_WEAK_GLOBAL_REF: u32 = 226;
 const CRITICAL_ARRAY: Family = Family(FIRST_CRITICAL as u8);
 
 const LEAST_ASKED: i32 = 400;
+
+/// The identities that are stated first, a quarter of them methods, static methods, fields and static fields each.
+const IDENTITIES: usize = 64;
 
 /// Functions that use handles and make nothing.
 const USES: [u32; 12] = [24, 32, 40, 50, 70, 80, 97, 104, 108, 154, 164, 171];
@@ -73,6 +77,7 @@ pub fn write(balance: &Balance, trace: Accepted<impl Write>, lines: usize) -> io
         trace,
         threads: Default::default(),
         is_full: !balance.filled,
+        stated: 0,
         declared: 0,
         globals_and_weaks: Vec::new(),
         buffers: Vec::new(),
@@ -106,6 +111,8 @@ struct Maker<'a, W: Write> {
     threads: [Held; THREADS as usize],
     /// Whether there were once as many handles alive as are to be.
     is_full: bool,
+    /// How many identities are stated, and classes declared.
+    stated: usize,
     declared: usize,
     globals_and_weaks: Vec<Handle>,
     /// The outstanding buffers that are not critical, with their families.
@@ -115,6 +122,9 @@ struct Maker<'a, W: Write> {
 
 impl<W: Write> Maker<'_, W> {
     fn line(&mut self) -> io::Result<()> {
+        if self.stated < IDENTITIES {
+            return self.identify();
+        }
         if self.declared < 2 * self.balance.chain {
             return self.declare();
         }
@@ -135,6 +145,18 @@ impl<W: Write> Maker<'_, W> {
             Top::Call { .. } if self.random.percent(nested) => self.enter(thread),
             Top::Call { function, .. } => self.answer(thread, function),
         }
+    }
+
+    fn identify(&mut self) -> io::Result<()> {
+        let index = self.stated;
+        self.stated += 1;
+        self.trace.put(Event::M {
+            identity: self.identity_of(index),
+            sort: [METHOD, FIELD][index % 2],
+            class: OBJECT,
+            is_static: index as u32 / 2 % 2,
+            is_final: 0,
+        })
     }
 
     /// Two chains of classes, the first below class and the other below object.
@@ -177,7 +199,7 @@ impl<W: Write> Maker<'_, W> {
         };
         let places = [0, 1, 2].map(|index| match (facts.places[index], facts.classes[index]) {
             (PlaceKind::Unused, _) => 0,
-            (PlaceKind::Identity(_), _) => self.number(0),
+            (PlaceKind::Identity(wanted), _) => self.identity(wanted),
             (_, Some(_)) if self.random.below(300) == 0 => none,
             _ => self.random.pick(&classes),
         });
@@ -252,7 +274,7 @@ impl<W: Write> Maker<'_, W> {
         let kinds = known(function).places;
         let places = kinds.map(|kind| match kind {
             PlaceKind::Unused => 0,
-            PlaceKind::Identity(_) => self.number(0),
+            PlaceKind::Identity(wanted) => self.identity(wanted),
             _ if self.random.below(300) == 0 => self.any(thread, LOCAL),
             _ => self.handle(thread),
         });
@@ -422,6 +444,21 @@ impl<W: Write> Maker<'_, W> {
             None => self.number(kind),
             Some(slots) => slots.handle(owner, kind, self.random.below(2 * alive + 16)),
         }
+    }
+
+    /// One of the stated identities that are wanted, and now and then of any.
+    fn identity(&mut self, wanted: Wanted) -> Handle {
+        let index = self.random.below(IDENTITIES);
+        if self.random.below(300) == 0 {
+            return self.identity_of(index);
+        }
+        let sort = usize::from(wanted.sort == FIELD);
+        let is_static = usize::from(wanted.is_static == Some(true));
+        self.identity_of(index / 4 * 4 + 2 * is_static + sort)
+    }
+
+    fn identity_of(&self, index: usize) -> Handle {
+        self.base() + 4 * (1 + 1_234_567 * index as Handle)
     }
 
     /// A nonzero number with this remainder by 4.

@@ -5,10 +5,13 @@
 //! They read and write fields, ask for the length of arrays, get critical arrays and strings and release them at once, enter a monitor; some call
 //! Java in a frame of their own, which enters natives in turn. Handles and buffers have small numbers, given in their order and not again; a few
 //! dozen handles are alive, most of them globals and weaks of classes, made when the library is loaded. An exception is hardly ever pending, and
-//! now and then C uses a local that it kept from an earlier native. Sixteen threads take turns of some twenty lines. No class is stated.
+//! now and then C uses a local that it kept from an earlier native. Sixteen threads take turns of some twenty lines. No class of a handle is stated; methods
+//! and fields are, when the library is loaded, and a field again each time it is asked for.
 
 use super::accepted::Accepted;
+use crate::class::OBJECT;
 use crate::facts::*;
+use crate::identity::{FIELD, METHOD};
 use crate::limits::*;
 use crate::line::Event;
 use crate::random::Random;
@@ -43,8 +46,9 @@ const CRITICAL_STRING: Family = Family(11);
 
 /// The classes kept by a global or a weak.
 const CLASSES: usize = 24;
-/// The identities given.
-const IDENTITIES: u32 = 90;
+/// The methods and the fields, whose identities come in turn.
+const METHODS: u32 = 30;
+const FIELDS: u32 = 60;
 /// The locals a frame is pushed for.
 const ASKED: i32 = 16;
 
@@ -114,6 +118,12 @@ impl Recorder {
             self.classes.push(kept);
             self.call(DELETE_LOCAL_REF, [class, 0, 0]);
         }
+        for index in 0..METHODS {
+            self.state(method(index), METHOD);
+        }
+        for index in 0..FIELDS {
+            self.state(field(index), FIELD);
+        }
         self.leave(0);
     }
 
@@ -153,7 +163,8 @@ impl Recorder {
         let [object] = self.enter();
         let class = self.call(GET_OBJECT_CLASS, [object, 0, 0]);
         for _ in 0..2 {
-            self.call(GET_FIELD_ID, [class, 0, 0]);
+            let field = self.call(GET_FIELD_ID, [class, 0, 0]);
+            self.state(field, FIELD);
         }
         self.leave(0);
     }
@@ -228,11 +239,11 @@ impl Recorder {
             self.call(IS_SAME_OBJECT, [object, 0, 0]);
             let array = self.call(NEW_OBJECT_ARRAY, [array_class, 0, 0]);
             for _ in 0..2 {
-                let identity = self.identity();
+                let identity = self.some_method();
                 let element = self.call(NEW_OBJECT, [class, identity, 0]);
                 self.call(SET_OBJECT_ARRAY_ELEMENT, [array, element, 0]);
             }
-            let identity = self.identity();
+            let identity = self.some_method();
             self.open(CALL_OBJECT_METHOD, [object, identity, 0]);
             for _ in 0..2 {
                 let [_, _] = self.enter();
@@ -268,7 +279,7 @@ impl Recorder {
     }
 
     fn use_field(&mut self, function: u32, object: Handle) {
-        let identity = self.identity();
+        let identity = self.some_field();
         self.call(function, [object, identity, 0]);
     }
 
@@ -336,6 +347,16 @@ impl Recorder {
         });
     }
 
+    fn state(&mut self, identity: Handle, sort: u32) {
+        self.coming().push_back(Event::M {
+            identity,
+            sort,
+            class: OBJECT,
+            is_static: 0,
+            is_final: 0,
+        });
+    }
+
     fn coming(&mut self) -> &mut VecDeque<Event> {
         &mut self.coming[self.thread as usize - 1]
     }
@@ -348,7 +369,7 @@ impl Recorder {
             ResultKind::Local => self.give(LOCAL),
             ResultKind::Global => self.give(GLOBAL),
             ResultKind::Weak => self.give(WEAK),
-            ResultKind::Identity => self.identity(),
+            ResultKind::Identity => self.some_field(),
             ResultKind::Buffer(_) => {
                 self.buffers += 1;
                 self.buffers
@@ -363,9 +384,21 @@ impl Recorder {
         *given
     }
 
-    fn identity(&mut self) -> Handle {
-        4 * Handle::from(self.random.between(1, IDENTITIES))
+    fn some_method(&mut self) -> Handle {
+        method(self.random.between(0, METHODS - 1))
     }
+
+    fn some_field(&mut self) -> Handle {
+        field(self.random.between(0, FIELDS - 1))
+    }
+}
+
+fn method(index: u32) -> Handle {
+    4 * Handle::from(1 + index)
+}
+
+fn field(index: u32) -> Handle {
+    4 * Handle::from(1 + METHODS + index)
 }
 
 fn env_of(thread: u32) -> Handle {

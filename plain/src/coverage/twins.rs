@@ -1,9 +1,10 @@
-//! Which twins come up: what a line names while a twin of it is alive, outstanding or an env, and numbers of rows that are twins of the right ones.
+//! Which twins come up: what a line names while a twin of it is alive, outstanding, stated or an env, and numbers of rows that are twins of the right ones.
 
 use crate::facts::*;
 use crate::findings::Findings;
+use crate::lent::identities::IDENTITY;
 use crate::lent::leaks::Leak;
-use crate::lent::lookup::Handles;
+use crate::lent::lookup::{Handles, Identities};
 use crate::lent::pins::{self, BUFFER, FAMILY};
 use crate::lent::references::{self, FRAME, HANDLE};
 use crate::lent::rows::THREAD;
@@ -14,7 +15,7 @@ use crate::refusal::{Refusal, NOT_ALIVE, WRONG_ENV};
 use crate::twin::{are_twins, HIGH};
 
 /// What is named beside a twin, or instead of one; null's twin is no null.
-pub const NAMED: [&str; 14] = [
+pub const NAMED: [&str; 17] = [
     "a handle is made beside",
     "a handle is used beside",
     "a handle is used instead",
@@ -28,6 +29,9 @@ pub const NAMED: [&str; 14] = [
     "an env is attached beside",
     "an env is attached instead",
     "an env is called with instead",
+    "an identity is stated beside",
+    "an identity is used beside",
+    "an identity is used instead",
     "null",
 ];
 
@@ -73,7 +77,12 @@ pub fn of_accepted(tables: &Tables, event: &Event, findings: &Findings) -> Vec<&
             let beside = has_twin_env(tables, env).then_some("an env is attached beside");
             beside.into_iter().collect()
         }
-        Event::D { .. } | Event::K { .. } | Event::M { .. } | Event::Z => Vec::new(),
+        Event::M { identity, .. } => {
+            let is_beside = has_twin_identity(tables, identity);
+            let beside = is_beside.then_some("an identity is stated beside");
+            beside.into_iter().collect()
+        }
+        Event::D { .. } | Event::K { .. } | Event::Z => Vec::new(),
     }
 }
 
@@ -122,7 +131,16 @@ fn of_call(tables: &Tables, event: &Event, findings: &Findings) -> Vec<&'static 
         let rule = rule.map(|found| found.rule);
         seen.extend(null(value));
         match facts.places[index] {
-            PlaceKind::Unused | PlaceKind::Identity(_) => {}
+            PlaceKind::Unused => {}
+            PlaceKind::Identity(_) => {
+                if value.is_multiple_of(4) && has_twin_identity(tables, value) {
+                    let stated = tables.identities.stated(value);
+                    seen.push(match stated {
+                        Some(_) => "an identity is used beside",
+                        None => "an identity is used instead",
+                    });
+                }
+            }
             PlaceKind::Buffer(family) => {
                 let owner = pins::owner(thread, family);
                 let rows = &tables.pins.rows;
@@ -209,6 +227,12 @@ fn has_twin(tables: &Tables, thread: u32, handle: Handle) -> bool {
     let is_twin =
         |row: &references::Reference| row[THREAD] == owner && are_twins(row[HANDLE], handle);
     !handle.is_multiple_of(4) && tables.references.rows.has(is_twin)
+}
+
+/// Whether a twin of an identity is stated.
+fn has_twin_identity(tables: &Tables, identity: Handle) -> bool {
+    let mut places = tables.identities.all().iter();
+    places.any(|place| place[IDENTITY] != 0 && are_twins(place[IDENTITY], identity))
 }
 
 /// Whether the handle stands in a row of a twin of its thread.

@@ -1,7 +1,7 @@
 //! Foreign places of identities: full, free and in between, as M would leave them or not, with what states nothing.
 
 use crate::identity::{FIELD, METHOD};
-use crate::lent::identities::{Place, Places, FINAL, IDENTITY, STATIC};
+use crate::lent::identities::{Place, Places, FINAL, IDENTITY, SORT, STATIC};
 use crate::limits::{Handle, Number, IDENTITY_NUMBERS};
 use crate::random::Random;
 use crate::twin::{twin_of, HIGH};
@@ -11,7 +11,7 @@ const FEW: u32 = 24;
 
 /// Places of which some are taken: each identity where M would have put it, or anywhere, or both by turns.
 pub fn small(random: &mut Random, numbers: &mut [Number]) {
-    let taken = random.pick(&[0, 30, 60, 90, 100, 100]);
+    let taken = random.pick(&[0, 30, 60, 90, 90, 100, 100]);
     let orderly = random.pick(&[0, 50, 100, 100]);
     // What is past the last place would state one, if it were looked at.
     numbers.fill(random.pick(&[0, 1, 4, 8, HIGH]));
@@ -54,25 +54,22 @@ pub fn one(random: &mut Random) -> Handle {
     4 * Handle::from(random.between(1, FEW))
 }
 
-/// What may stand at a place: mostly what M writes.
+/// What may stand at a place: what M writes, or often one number is another.
 fn small_place(random: &mut Random) -> Place {
-    let identity = one(random);
-    let identity = match random.below(20) {
-        0 => twin_of(identity, random),
-        1 => identity + random.pick(&[1, 2, 3]),
-        2 => random.pick(&[0, Number::MAX - 3, Number::MAX]),
-        _ => identity,
-    };
-    let (method, field) = (METHOD.into(), FIELD.into());
-    let sort = match random.below(8) {
-        0 => random.pick(&[0, 3, method + HIGH, field + HIGH, Number::MAX]),
-        _ => random.pick(&[method, field]),
-    };
-    let mut place = [identity, sort, 0, 0];
-    for column in [STATIC, FINAL] {
-        place[column] = match random.below(8) {
-            0 => random.pick(&[2, 3, HIGH, HIGH + 1, Number::MAX]),
-            _ => random.between(0, 1).into(),
+    let mut place = [
+        one(random),
+        random.between(METHOD, FIELD).into(),
+        random.between(0, 1).into(),
+        random.between(0, 1).into(),
+    ];
+    if random.percent(60) {
+        let column = random.pick(&[IDENTITY, SORT, SORT, STATIC, STATIC, FINAL, FINAL]);
+        let number = place[column];
+        place[column] = match (column, random.below(4)) {
+            (_, 0) => twin_of(number, random),
+            (IDENTITY, _) => random.pick(&[0, number + 1, number + 2, number + 3, Number::MAX - 3]),
+            (SORT, _) => random.pick(&[0, 3]),
+            _ => random.pick(&[2, 3, Number::MAX]),
         };
     }
     place

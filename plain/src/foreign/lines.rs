@@ -5,9 +5,11 @@ use crate::class::{OBJECT, THROWABLE};
 use crate::damage::{damage_bytes, damage_fields, odd_line};
 use crate::edge::edge_line;
 use crate::facts::*;
-use crate::identity::{FIELD, METHOD};
+use crate::fit::Fit;
+use crate::identity::{Wanted, FIELD, METHOD};
 use crate::lent::book::{Top, OF_NATIVE};
 use crate::lent::identities::IDENTITY;
+use crate::lent::lookup::Identities;
 use crate::lent::pins::{self, Pin, BUFFER, FAMILY};
 use crate::lent::references::{self, Reference, CLASS, HANDLE};
 use crate::lent::rows::{Rows, THREAD};
@@ -172,7 +174,9 @@ impl Aim<'_, '_> {
         let facts = known(function);
         let places = [0, 1, 2].map(|index| match (facts.places[index], pin) {
             (PlaceKind::Unused, _) => 0,
-            (PlaceKind::Identity(_), _) if random.percent(85) => self.identity(random),
+            (PlaceKind::Identity(wanted), _) if random.percent(90) => {
+                self.identity_for(wanted, random)
+            }
             (PlaceKind::Buffer(_), Some(pin)) if random.percent(20) => twin_of(pin[BUFFER], random),
             (PlaceKind::Buffer(_), Some(pin)) => pin[BUFFER],
             (PlaceKind::Buffer(family), None) => self.buffer(thread, family, random),
@@ -255,6 +259,25 @@ impl Aim<'_, '_> {
             class: classes::one(random),
             is_static: random.between(0, 1),
             is_final: random.between(0, 1),
+        }
+    }
+
+    /// Mostly a stated identity, of a fit that few others have.
+    fn identity_for(&self, wanted: Wanted, random: &mut Random) -> Handle {
+        let places = &self.tables.identities;
+        let start = random.below(places.room().max(1));
+        let around = (start..places.room()).chain(0..start).take(MOST_LOOKS);
+        let around = around.map(|at| places.all()[at][IDENTITY]);
+        let stated: Vec<(Fit, Handle)> = around
+            .filter(|identity| identity.is_multiple_of(4))
+            .filter_map(|identity| places.stated(identity).map(|stated| (stated, identity)))
+            .map(|(stated, identity)| (Fit::of(wanted, Some(stated)), identity))
+            .collect();
+        let alike = |fit: Fit| stated.iter().filter(|(other, _)| *other == fit).count();
+        let rarest = stated.iter().min_by_key(|(fit, _)| alike(*fit));
+        match rarest {
+            Some(&(_, identity)) if random.percent(75) => identity,
+            _ => self.identity(random),
         }
     }
 
@@ -362,6 +385,11 @@ impl Aim<'_, '_> {
 fn a_function(random: &mut Random) -> u32 {
     if random.percent(50) {
         return random.between(FIRST_FUNCTION, LAST_FUNCTION);
+    }
+    if random.percent(25) {
+        return random.pick(&[
+            9, 9, 9, 12, 12, 12, 34, 61, 64, 95, 100, 104, 104, 109, 114, 145, 150, 154, 154,
+        ]);
     }
     if random.percent(45) {
         return random.pick(&[

@@ -20,7 +20,7 @@ pub const LONG: usize = 4_096;
 const GREAT_TRIES: usize = 8;
 
 /// The refusals that come up least by themselves, each with any cause or with one that a bare line is looked for.
-const RARE: [(Refusal, &str); 27] = [
+const RARE: [(Refusal, &str); 31] = [
     (OUT_OF_RANGE, ANY),
     (OUT_OF_RANGE, ANY),
     (WRONG_ENV, ANY),
@@ -40,6 +40,10 @@ const RARE: [(Refusal, &str); 27] = [
     (NO_ROOM, "R frames"),
     (OUT_OF_STEP, "X over attached"),
     (OUT_OF_STEP, "D over native"),
+    (NO_ROOM, "M identities"),
+    (NO_ROOM, "M identities"),
+    (WRONG_CLASS, "M class"),
+    (WRONG_CLASS, "M class"),
     (WRONG_CLASS, ANY),
     (WRONG_CLASS, ANY),
     (WRONG_CLASS, ANY),
@@ -119,6 +123,8 @@ fn bare_line(wished: (Refusal, &str), tables: &Tables, random: &mut Random) -> O
             format!("A\t{thread}\t{env}\n"),
             format!("A\t{thread}\t{}\n", (env ^ HIGH).max(1)),
             format!("D\t{thread}\n"),
+            format!("M\t{}\t1\t1\t0\t0\n", 400 * thread),
+            format!("M\t8\t1\t{}\t0\t0\n", 100 * thread),
         ]
     };
     let is_such = |line: &String| {

@@ -13,21 +13,31 @@ pub const FINAL: usize = 3;
 /// A place: identity, sort, static, final.
 pub type Place = [Number; IDENTITY_NUMBERS];
 
-pub struct Places<'a>(&'a mut [Place]);
+pub struct Places<'a> {
+    places: &'a mut [Place],
+    past: usize,
+}
 
 impl<'a> Places<'a> {
     /// Numbers past the last whole place are neither read nor written.
     pub fn new(numbers: &'a mut [Number]) -> Places<'a> {
-        Places(numbers.as_chunks_mut().0)
+        let (places, past) = numbers.as_chunks_mut();
+        let past = past.len();
+        Places { places, past }
     }
 
     pub fn room(&self) -> usize {
-        self.0.len()
+        self.places.len()
+    }
+
+    /// Whether there are numbers past the last place.
+    pub fn has_past(&self) -> bool {
+        self.past > 0
     }
 
     /// The places, free or not.
     pub fn all(&self) -> &[Place] {
-        self.0
+        self.places
     }
 
     /// The index of the place from which an identity is looked for; there must be room.
@@ -42,12 +52,12 @@ impl<'a> Places<'a> {
         }
         let own = self.own(identity);
         let mut around = (own..self.room()).chain(0..own);
-        around.find(|&at| [identity, 0].contains(&self.0[at][IDENTITY]))
+        around.find(|&at| [identity, 0].contains(&self.places[at][IDENTITY]))
     }
 
     /// What is stated at a place.
     pub fn stated_at(&self, at: usize) -> Stated {
-        let place = &self.0[at];
+        let place = &self.places[at];
         Stated {
             sort: place[SORT],
             is_static: place[STATIC],
@@ -56,14 +66,14 @@ impl<'a> Places<'a> {
     }
 
     pub fn put(&mut self, at: usize, identity: Handle, stated: Stated) {
-        self.0[at] = [identity, stated.sort, stated.is_static, stated.is_final];
+        self.places[at] = [identity, stated.sort, stated.is_static, stated.is_final];
     }
 }
 
 impl Identities for Places<'_> {
     fn stated(&self, identity: Handle) -> Option<Stated> {
         let at = self.find(identity)?;
-        (self.0[at][IDENTITY] == identity).then(|| self.stated_at(at))
+        (self.places[at][IDENTITY] == identity).then(|| self.stated_at(at))
     }
 
     fn has_room_for(&self, identity: Handle) -> bool {

@@ -88,7 +88,7 @@ impl Maker<'_> {
     }
 
     /// Any class that is not reserved, declared or not.
-    fn class(&mut self) -> Class {
+    pub(super) fn class(&mut self) -> Class {
         if self.random.percent(self.profile.at_ends) {
             return self.random.pick(&[FIRST_DECLARED, MOST_CLASSES as Class]);
         }
@@ -96,7 +96,7 @@ impl Maker<'_> {
     }
 
     /// A class that is reserved, or declared if some tries give one.
-    fn known_class(&mut self) -> Class {
+    pub(super) fn known_class(&mut self) -> Class {
         if self.random.percent(60) {
             for _ in 0..6 {
                 let class = self.class();

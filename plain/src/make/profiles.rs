@@ -1,6 +1,7 @@
 //! Profiles of made traces: which lines come up, and how often.
 
-use crate::facts::WITH_CLASS;
+use super::dense::DENSE;
+use crate::facts::{WITH_CLASS, WITH_IDENTITY};
 use crate::limits::{MOST_HANDLES, THREADS};
 use crate::refusal::Refusal;
 
@@ -32,6 +33,8 @@ pub struct Profile {
     pub handles: usize,
     /// A class is declared, or stated of a handle, and a place that has a class gets a handle by that.
     pub classed: u32,
+    /// An identity is stated, new or known.
+    pub identified: u32,
     /// An exception is pending after an R.
     pub pending: u32,
     /// A call is of a favoured function.
@@ -55,7 +58,8 @@ pub enum Harm {
     Edge,
 }
 
-const MIXED: Profile = Profile {
+/// The profile of which the others say how they differ.
+pub const MIXED: Profile = Profile {
     name: "mixed",
     usual_lines: (20, 400),
     threads: (1, 6),
@@ -69,6 +73,7 @@ const MIXED: Profile = Profile {
     crowded: 5,
     handles: 4,
     classed: 5,
+    identified: 3,
     pending: 6,
     favoured: 40,
     functions: &[
@@ -81,7 +86,7 @@ const MIXED: Profile = Profile {
     harm: Harm::None,
 };
 
-pub const PROFILES: [Profile; 22] = [
+pub const PROFILES: [Profile; 24] = [
     MIXED,
     Profile {
         name: "breaches",
@@ -260,6 +265,35 @@ pub const PROFILES: [Profile; 22] = [
         ..MIXED
     },
     Profile {
+        name: "identities",
+        usual_lines: (50, 400),
+        threads: (1, 3),
+        numbers: 8,
+        spoilt: 4,
+        classed: 3,
+        identified: 20,
+        pending: 2,
+        favoured: 90,
+        functions: &WITH_IDENTITY,
+        refusals: &[4, 9, 9],
+        ..MIXED
+    },
+    // As many identities as there is room for, and more.
+    Profile {
+        name: "table",
+        usual_lines: (1_500, 2_000),
+        threads: (1, 2),
+        numbers: 3_000,
+        spoilt: 2,
+        classed: 1,
+        identified: 95,
+        pending: 1,
+        favoured: 90,
+        functions: &WITH_IDENTITY,
+        refusals: &[7],
+        ..MIXED
+    },
+    Profile {
         name: "polls",
         usual_lines: (20, 200),
         threads: (2, 5),
@@ -317,137 +351,6 @@ pub const PROFILES: [Profile; 22] = [
         favoured: 90,
         refusals: &[4, 5, 6, 7, 9, 10],
         ..MIXED
-    },
-];
-
-const FEW: Profile = Profile {
-    name: "few",
-    usual_lines: (0, 40),
-    threads: (1, 2),
-    numbers: 2,
-    at_ends: 3,
-    spoilt: 15,
-    stale: 40,
-    nested: 20,
-    left: 12,
-    classed: 0,
-    favoured: 97,
-    refusals: &[4, 5, 6, 7],
-    ..MIXED
-};
-
-/// Profiles of short traces in which the same few things come up again and again.
-pub const DENSE: [Profile; 10] = [
-    Profile {
-        name: "locals",
-        attached: 25,
-        functions: &[6, 6, 6, 19, 19, 20, 20, 23, 23, 24, 26],
-        ..FEW
-    },
-    Profile {
-        name: "shared",
-        left: 6,
-        functions: &[21, 22, 23, 24, 24, 24, 226, 227],
-        ..FEW
-    },
-    Profile {
-        name: "pinned",
-        functions: &[6, 165, 165, 166, 166, 170, 222, 223, 223, 224, 225],
-        ..FEW
-    },
-    Profile {
-        name: "leaking",
-        spoilt: 3,
-        stale: 0,
-        nested: 5,
-        left: 3,
-        functions: &[21, 21, 22, 226, 227, 165, 165, 165, 166, 166, 222, 222, 223],
-        refused: 5,
-        closed: 90,
-        ..FEW
-    },
-    Profile {
-        name: "held",
-        attached: 25,
-        pending: 30,
-        functions: &[6, 17, 24, 217, 217, 218, 218],
-        ..FEW
-    },
-    Profile {
-        name: "polling",
-        left: 30,
-        attached: 70,
-        functions: &[6, 6, 19, 20, 24, 24, 217, 217, 218, 222, 223],
-        refused: 65,
-        closed: 20,
-        refusals: &[4, 4, 4, 5, 5, 5, 5, 6],
-        ..FEW
-    },
-    Profile {
-        name: "full",
-        usual_lines: (50, 50),
-        threads: (1, 1),
-        numbers: 80,
-        at_ends: 0,
-        spoilt: 0,
-        stale: 0,
-        nested: 3,
-        left: 0,
-        attached: 35,
-        crowded: 0,
-        handles: MOST_HANDLES + 1,
-        pending: 0,
-        favoured: 100,
-        functions: &[
-            6, 6, 6, 6, 6, 6, 6, 6, 6, 6, 6, 6, 6, 6, 6, 6, 6, 6, 6, 6, 6, 6, 19, 23, 26, 26,
-        ],
-        refused: 0,
-        closed: 10,
-        ..FEW
-    },
-    Profile {
-        name: "stated",
-        spoilt: 5,
-        stale: 10,
-        classed: 35,
-        pending: 0,
-        functions: &[
-            6, 11, 13, 13, 19, 20, 20, 21, 21, 22, 23, 25, 31, 31, 32, 64, 164, 164, 168, 172, 226,
-            227,
-        ],
-        refused: 40,
-        closed: 10,
-        refusals: &[9, 9, 10, 10],
-        ..FEW
-    },
-    Profile {
-        name: "restated",
-        threads: (1, 2),
-        numbers: 1,
-        spoilt: 2,
-        stale: 30,
-        classed: 30,
-        pending: 0,
-        functions: &[
-            6, 13, 19, 19, 20, 20, 21, 21, 22, 22, 23, 164, 164, 226, 226, 227, 227,
-        ],
-        refused: 50,
-        closed: 5,
-        refusals: &[10],
-        ..FEW
-    },
-    Profile {
-        name: "raised",
-        usual_lines: (0, 45),
-        threads: (1, 1),
-        numbers: 6,
-        spoilt: 0,
-        stale: 0,
-        nested: 8,
-        left: 0,
-        favoured: 100,
-        functions: &[6, 6, 6, 19, 23, 23, 26, 26, 26],
-        ..FEW
     },
 ];
 

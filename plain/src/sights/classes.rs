@@ -1,6 +1,6 @@
 //! What classes show: how each handle came to its class or to none, how that stands to its place, and what an earlier class would have told.
 
-use super::{few, letter, thread};
+use super::{few, kind, letter, thread};
 use crate::class::FIRST_DECLARED;
 use crate::facts::*;
 use crate::lent::classes::is_reserved;
@@ -266,15 +266,5 @@ fn some(supers: usize) -> &'static str {
     match supers {
         2 => "two",
         _ => few(supers),
-    }
-}
-
-fn kind(value: Handle) -> &'static str {
-    match value % 4 {
-        _ if value == 0 => "null",
-        LOCAL => "local",
-        GLOBAL => "global",
-        WEAK => "weak",
-        _ => "identity",
     }
 }

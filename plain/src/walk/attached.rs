@@ -21,7 +21,7 @@ const GET: u32 = FAMILIES[FIRST_CRITICAL].0;
 const RELEASE: u32 = FAMILIES[FIRST_CRITICAL].1;
 
 /// What thread 1 is in.
-const TOPS: [(&str, &[&str]); 7] = [
+pub(super) const TOPS: [(&str, &[&str]); 7] = [
     ("nothing", &[]),
     ("native", &[ENTER]),
     ("attached", &[ATTACH]),
