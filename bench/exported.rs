@@ -1,7 +1,7 @@
 //! The proved library `exported`, as a caller from C or Rust declares it, and its calls: a slice is a pointer and a length.
 
 use plain::lent::slices::Lent;
-use plain::limits::{Class, Number, Word};
+use plain::limits::{Number, Word};
 
 /// Declares functions of the library that are lent all tables, where `lent` stands.
 macro_rules! lent_all {
@@ -19,7 +19,7 @@ macro_rules! lent_all {
                 pin_marks_length: usize,
                 book: *mut Word,
                 book_length: usize,
-                classes: *mut Class,
+                classes: *mut Number,
                 classes_length: usize,
                 $($after: $left,)*
             ) -> $reply;)*

@@ -14,7 +14,8 @@ use plain::lent::lookup::Lookup;
 use plain::lent::piece::{END, FAR};
 use plain::lent::reply::{reply, MOST_NUMBERS};
 use plain::lent::slices::Slices;
-use plain::limits::{Number, Word, PIN_ROWS, REFERENCE_ROWS};
+use plain::limits::{Number, Word};
+use plain::room::{Room, LENT};
 use std::fmt::{self, Display, Formatter, Write};
 use std::hint::black_box;
 use std::path::Path;
@@ -25,12 +26,12 @@ const TURN: usize = 10_000;
 /// The bytes that the loop is lent for its findings: some 40,000 of them.
 const OUT: usize = 1 << 20;
 
-/// The judges that are timed, each over so many reference rows.
-const JUDGES: [(&str, fn(usize) -> Box<dyn Timed>); 4] = [
-    ("step", |rows| Box::new(Step::new(rows))),
-    ("loop", |rows| Box::new(Loop::new(rows))),
-    ("plain", |rows| Box::new(Judge::new(rows, PIN_ROWS))),
-    ("indexed", |rows| Box::new(Judge::indexed(rows, PIN_ROWS))),
+/// The judges that are timed, each with so much room.
+const JUDGES: [(&str, fn(Room) -> Box<dyn Timed>); 4] = [
+    ("step", |room| Box::new(Step::new(room))),
+    ("loop", |room| Box::new(Loop::new(room))),
+    ("plain", |room| Box::new(Judge::new(room))),
+    ("indexed", |room| Box::new(Judge::indexed(room))),
 ];
 const STEP: usize = 0;
 const LOOP: usize = 1;
@@ -118,15 +119,16 @@ fn measure(file: &str, wish: &Wish) -> Result<(), String> {
     let (before, timed) = lines.split_at(each.len() - last);
     let name = Path::new(file).file_stem().unwrap_or_default();
     let name = name.to_string_lossy();
-    let of_kind = || kind(&name).map_or(REFERENCE_ROWS, |kind| kind.reference_rows);
-    let rows = wish.rows.unwrap_or_else(of_kind);
+    let mut room = kind(&name).map_or(LENT, |kind| kind.room);
+    room.references = wish.rows.unwrap_or(room.references);
 
-    let mut judges: Vec<_> = JUDGES.iter().map(|(_, judge)| judge(rows)).collect();
+    let mut judges: Vec<_> = JUDGES.iter().map(|(_, judge)| judge(room)).collect();
     hold(&mut judges, before)?;
     let start: Vec<_> = judges.iter().map(|judge| judge.copy()).collect();
     let findings = hold(&mut judges, timed)?;
     let times = times(&start, timed, wish.rounds);
 
+    let rows = room.references;
     print!("{name:12} {rows:6} {last:8} {findings:8}");
     for time in &times {
         print!(" {time:9.1}");
@@ -290,8 +292,8 @@ impl<L: Lookup + Clone + 'static> Timed for Judge<L> {
 }
 
 /// Tables that the proved judge has started.
-fn started(reference_rows: usize) -> Slices {
-    let mut slices = Slices::new(reference_rows, PIN_ROWS);
+fn started(room: Room) -> Slices {
+    let mut slices = Slices::new(room);
     exported::start(slices.lend());
     slices
 }
@@ -304,9 +306,9 @@ struct Step {
 }
 
 impl Step {
-    fn new(reference_rows: usize) -> Step {
+    fn new(room: Room) -> Step {
         Step {
-            slices: started(reference_rows),
+            slices: started(room),
             found: [0; MOST_NUMBERS],
         }
     }
@@ -352,9 +354,9 @@ struct Loop {
 }
 
 impl Loop {
-    fn new(reference_rows: usize) -> Loop {
+    fn new(room: Room) -> Loop {
         Loop {
-            slices: started(reference_rows),
+            slices: started(room),
             out: vec![0; OUT],
             far: [0; FAR],
         }

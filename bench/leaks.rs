@@ -9,13 +9,21 @@ use plain::facts::GLOBAL;
 use plain::lent::leaks::RECORD;
 use plain::lent::reply::list_reply;
 use plain::lent::slices::Slices;
-use plain::limits::{Number, MOST_ROOM, PIN_NUMBERS, PIN_ROWS, REFERENCE_NUMBERS, REFERENCE_ROWS};
+use plain::limits::{Number, MOST_ROOM, PIN_NUMBERS, REFERENCE_NUMBERS};
 use plain::random::Random;
+use plain::room::{Room, LENT};
 use std::hint::black_box;
 use std::process::ExitCode;
 
-/// The reference and pin rows: those that the program lends, and the most that count as room.
-const ROOMS: [(usize, usize); 2] = [(REFERENCE_ROWS, PIN_ROWS), (MOST_ROOM, MOST_ROOM)];
+/// The room that the program lends, and the most rows that count as room.
+const ROOMS: [Room; 2] = [
+    LENT,
+    Room {
+        references: MOST_ROOM,
+        pins: MOST_ROOM,
+        ..LENT
+    },
+];
 /// The least records that a turn lists, in as many calls as that takes.
 const TURN: usize = 500_000;
 
@@ -49,9 +57,10 @@ fn main() -> ExitCode {
         "{:10} {:>7} {:>7} {:>10} {:>10} {:>10} {:>10} {:>6}",
         "lines", "globals", "buffers", "proved", "plain", "proved", "plain", "ratio"
     );
-    for (references, pins) in ROOMS {
+    for room in ROOMS {
         for (name, order) in ORDERS {
-            let mut slices = leaking(references, pins, order);
+            let mut slices = leaking(room, order);
+            let (references, pins) = (room.references, room.pins);
             let leaks = references + pins;
             if let Err(difference) = compare(&mut slices, leaks) {
                 println!("the lists of {leaks} leaks, {name}, differ: {difference}");
@@ -73,8 +82,9 @@ fn main() -> ExitCode {
 }
 
 /// Closed tables with a global in every reference row and a buffer in every pin row, made by turns as long as there are both.
-fn leaking(references: usize, pins: usize, order: fn(&mut [Number])) -> Slices {
-    let mut slices = Slices::new(references, pins);
+fn leaking(room: Room, order: fn(&mut [Number])) -> Slices {
+    let (references, pins) = (room.references, room.pins);
+    let mut slices = Slices::new(room);
     slices.step(b"Z\n").expect("a line");
     let both = references.min(pins);
     let rows = (0..both).flat_map(|row| [(true, row), (false, row)]);

@@ -40,6 +40,15 @@ extern "C" {
     fn weir_detach(d: *mut u8, length: usize, thread: u32) -> i32;
     fn weir_declare(d: *mut u8, length: usize, class: Class, superclass: Class) -> i32;
     fn weir_state(d: *mut u8, length: usize, thread: u32, handle: Handle, class: Class) -> i32;
+    fn weir_identify(
+        d: *mut u8,
+        length: usize,
+        identity: Handle,
+        sort: u32,
+        class: Class,
+        is_static: u32,
+        is_final: u32,
+    ) -> i32;
     fn weir_end(d: *mut u8, length: usize) -> i32;
 }
 
@@ -97,6 +106,13 @@ unsafe fn write_at(handed: &Handed, d: *mut u8, length: usize) -> i32 {
             handle,
             class,
         } => weir_state(d, length, thread, handle, class),
+        Handed::Identify {
+            identity,
+            sort,
+            class,
+            is_static,
+            is_final,
+        } => weir_identify(d, length, identity, sort, class, is_static, is_final),
         Handed::End => weir_end(d, length),
     }
 }

@@ -11,11 +11,11 @@
 #define OUT 65536
 #endif
 
-enum { REFERENCE_ROWS = 1024, PIN_ROWS = 256, WORD = 64 };
+enum { REFERENCE_ROWS = 1024, PIN_ROWS = 256, IDENTITIES = 1024, WORD = 64 };
 
 static uint64_t rows[REFERENCE_ROWS * WEIR_REFERENCE], pins[PIN_ROWS * WEIR_PIN];
 static uint64_t marks[REFERENCE_ROWS / WORD], pin_marks[PIN_ROWS / WORD], book[WEIR_BOOK];
-static uint32_t classes[WEIR_CLASSES];
+static uint64_t classes[WEIR_CLASSES + IDENTITIES * WEIR_IDENTITY];
 static uint64_t leaks[(REFERENCE_ROWS + PIN_ROWS) * WEIR_LEAK];
 static uint8_t piece[PIECE], out[OUT];
 

@@ -112,6 +112,16 @@ static int32_t checked_state(uint8_t d[WEIR_LINE], uint32_t thread, uint64_t han
     return r;
 }
 
+static int32_t checked_identify(uint8_t d[WEIR_LINE], uint64_t identity, uint32_t sort, uint32_t class_number,
+                                uint32_t is_static, uint32_t is_final)
+{
+    const int32_t r = weir_identify(d, WEIR_LINE, identity, sort, class_number, is_static, is_final);
+    const uint64_t numbers[WEIR_NUMBERS] = {identity, sort, class_number, is_static, is_final};
+
+    check(d, r, 'M', 5, numbers);
+    return r;
+}
+
 static int32_t checked_end(uint8_t d[WEIR_LINE])
 {
     const int32_t r = weir_end(d, WEIR_LINE);
@@ -158,6 +168,10 @@ static void trace(void)
     emit(d, checked_return(d, 1, 31, 18446744073709551613u, 0, 0));
     emit(d, checked_call(d, 1, env, 33, 18446744073709551613u, 0, 0, 0));
     emit(d, checked_return(d, 1, 33, 18446744073709551612u, 0, 0));
+    /* which is that of a method of class 5, neither static nor final: CallVoidMethod of 5 */
+    emit(d, checked_identify(d, 18446744073709551612u, 1, 5, 0, 0));
+    emit(d, checked_call(d, 1, env, 61, 5, 18446744073709551612u, 0, 0));
+    emit(d, checked_return(d, 1, 61, 0, 0, 0));
     /* GetStringUTFChars of the string gives a buffer, which is released */
     emit(d, checked_call(d, 1, env, 169, 4294967301u, 0, 0, 0));
     emit(d, checked_return(d, 1, 169, 18446744073709551615u, 0, 0));
@@ -269,6 +283,18 @@ static void bad_events(void)
     refuses(weir_state(fresh(), size, 17, 5, 3), WEIR_BAD, "O of thread 17 is bad");
     refuses(weir_state(fresh(), size, 1, 5, 0), WEIR_BAD, "O of class 0 is bad");
     refuses(weir_state(fresh(), size, 1, 5, 4096), WEIR_BAD, "O of class 4096 is bad");
+    refuses(weir_identify(fresh(), size, 0, 1, 2, 0, 0), WEIR_BAD, "M of null is bad");
+    refuses(weir_identify(fresh(), size, 5, 1, 2, 0, 0), WEIR_BAD, "M of a local is bad");
+    refuses(weir_identify(fresh(), size, 6, 1, 2, 0, 0), WEIR_BAD, "M of a global is bad");
+    refuses(weir_identify(fresh(), size, 7, 1, 2, 0, 0), WEIR_BAD, "M of a weak is bad");
+    refuses(weir_identify(fresh(), size, 18446744073709551615u, 1, 2, 0, 0), WEIR_BAD, "M of the highest weak is bad");
+    refuses(weir_identify(fresh(), size, 8, 0, 2, 0, 0), WEIR_BAD, "M of sort 0 is bad");
+    refuses(weir_identify(fresh(), size, 8, 3, 2, 0, 0), WEIR_BAD, "M of sort 3 is bad");
+    refuses(weir_identify(fresh(), size, 8, 1, 0, 0, 0), WEIR_BAD, "M of class 0 is bad");
+    refuses(weir_identify(fresh(), size, 8, 1, 4096, 0, 0), WEIR_BAD, "M of class 4096 is bad");
+    refuses(weir_identify(fresh(), size, 8, 1, 2, 2, 0), WEIR_BAD, "M with static 2 is bad");
+    refuses(weir_identify(fresh(), size, 8, 1, 2, 0, 2), WEIR_BAD, "M with final 2 is bad");
+    refuses(weir_identify(fresh(), size, 8, 1, 2, 0, 4294967295u), WEIR_BAD, "M with final 4294967295 is bad");
 }
 
 static const uint64_t highest[WEIR_HANDLES] = {18446744073709551613u, 18446744073709551609u, 18446744073709551605u,
@@ -311,6 +337,7 @@ static void short_buffers(void)
     SHORT("D\t16\n", weir_detach(fresh(), room, 16));
     SHORT("K\t4095\t1\n", weir_declare(fresh(), room, 4095, 1));
     SHORT("O\t16\t18446744073709551615\t4095\n", weir_state(fresh(), room, 16, 18446744073709551615u, 4095));
+    SHORT("M\t18446744073709551612\t2\t4095\t1\t0\n", weir_identify(fresh(), room, 18446744073709551612u, 2, 4095, 1, 0));
     SHORT("Z\n", weir_end(fresh(), room));
     /* a bad event in no room at all is bad, not short */
     refuses(weir_leave(fresh(), 0, 17, 5), WEIR_BAD, "X of thread 17 in no room is bad");
@@ -352,6 +379,7 @@ static void equal_in_32_bits(void)
         checked_return(d, 1, 169, zeros[i], 0, 0);
         checked_attach(d, 1, zeros[i]);
         checked_state(d, 1, zeros[i], 1);
+        checked_identify(d, zeros[i], 2, 1, 0, 1);
     }
 }
 
@@ -370,6 +398,7 @@ static void longest_lines(void)
     expect(checked_detach(d, 16) == 5, "the longest D has 5 bytes");
     expect(checked_declare(d, 4095, 4095) == 12, "the longest K has 12 bytes");
     expect(checked_state(d, 16, most, 4095) == 31, "the longest O has 31 bytes");
+    expect(checked_identify(d, most - 3, 2, 4095, 1, 1) == 34, "the longest M has 34 bytes");
     expect(checked_end(d) == 2, "Z has 2 bytes");
 }
 
@@ -436,22 +465,24 @@ static void wrong_forms(void)
 {
     static const char *const lines[] = {
         /* letters */
-        "\n", "B\t1\t5\n", "x\t1\t5\n", "a\t1\t5\n", "d\t1\n", "k\t5\t1\n", "o\t1\t5\t3\n", "\tX\t1\t5\n", " Z\n",
+        "\n", "B\t1\t5\n", "x\t1\t5\n", "a\t1\t5\n", "d\t1\n", "k\t5\t1\n", "o\t1\t5\t3\n", "m\t8\t1\t2\t0\t0\n", "\tX\t1\t5\n", " Z\n",
         "XX\t1\t5\n", "1\t1\t5\n",
         /* fields */
         "N\n", "N\t1\n", "N\t1\t100\t1\t5\t9\t13\t17\t21\t25\t29\t33\n", "X\n", "X\t1\n", "X\t1\t5\t5\n",
         "C\t1\t100\t31\t5\t0\t0\n", "C\t1\t100\t31\t5\t0\t0\t0\t0\n", "R\t1\t31\t13\n", "R\t1\t31\t13\t0\t0\n", "Z\t1\n",
         "A\n", "A\t1\n", "A\t1\t100\t5\n", "D\n", "D\t1\t100\n", "K\t5\n", "K\t5\t1\t1\n", "O\t1\t5\n", "O\t1\t5\t3\t3\n",
+        "M\n", "M\t8\t1\t2\t0\n", "M\t8\t1\t2\t0\t0\t0\n",
         "X\t1\t5\t\n", "X\t1\t\t5\n", "X\t1\t\n", "Z\t\n", "X 1 5\n", "X1\t5\n", "X\t1\t5\r\n", "Z\r\n", "Z \n",
         /* numbers */
         "X\t01\t5\n", "X\t1\t00\n", "X\t1\t-0\n", "X\t1\t-01\n", "X\t1\t-\n", "X\t1\t--1\n", "X\t1\t1-\n", "X\t1\t+5\n",
         "X\t1\t 5\n", "X\t1\t5 \n", "X\t1\t5.0\n", "X\t1\t0x5\n", "X\t1\tfive\n",
         "C\t1\t100\t19\t0\t0\t0\t-0\n", "R\t1\t26\t-0\t1\n", "R\t1\t31\t13\t01\n", "K\t05\t1\n", "O\t1\t5\t-0\n",
+        "M\t08\t1\t2\t0\t0\n", "M\t8\t1\t2\t0\t-0\n",
         /* an LF inside */
         "Z\nZ\n", "Z\n\n", "\nZ\n", "X\t1\n\t5\n", "X\t1\n5\n", "X\t1\t5\n\n",
         /* a wrong form goes before a number out of range */
         "X\t17\t01\n", "X\t01\t18446744073709551616\n", "R\t17\t233\t13\n", "A\t17\n", "A\t0\t01\n", "D\t17\t0\n",
-        "K\t0\t01\n", "O\t17\t5\t\n", "N\t17\t0\t0\t0\t0\t0\t0\t0\t0\t0\t0\n"};
+        "K\t0\t01\n", "O\t17\t5\t\n", "M\t5\t3\t2\t0\t01\n", "N\t17\t0\t0\t0\t0\t0\t0\t0\t0\t0\t0\n"};
     const uint8_t nul[] = {'X', '\t', '1', '\t', '5', 0, '\n'};
     uint8_t letter[] = {0, '\n'};
     size_t i;
@@ -498,7 +529,11 @@ static void bad_numbers(void)
         "K\t0\t1\n", "K\t4096\t1\n", "K\t-5\t1\n", "K\t4294967301\t1\n", "K\t18446744073709551621\t1\n", "K\t5\t0\n",
         "K\t5\t4096\n", "K\t5\t-1\n",
         "O\t0\t5\t3\n", "O\t17\t5\t3\n", "O\t-1\t5\t3\n", "O\t4294967297\t5\t3\n", "O\t1\t18446744073709551616\t3\n",
-        "O\t1\t-5\t3\n", "O\t1\t5\t0\n", "O\t1\t5\t4096\n", "O\t1\t5\t4294967299\n", "O\t1\t5\t-3\n"};
+        "O\t1\t-5\t3\n", "O\t1\t5\t0\n", "O\t1\t5\t4096\n", "O\t1\t5\t4294967299\n", "O\t1\t5\t-3\n",
+        "M\t0\t1\t2\t0\t0\n", "M\t5\t1\t2\t0\t0\n", "M\t6\t1\t2\t0\t0\n", "M\t7\t1\t2\t0\t0\n", "M\t-8\t1\t2\t0\t0\n",
+        "M\t18446744073709551613\t1\t2\t0\t0\n", "M\t18446744073709551616\t1\t2\t0\t0\n", "M\t8\t0\t2\t0\t0\n",
+        "M\t8\t3\t2\t0\t0\n", "M\t8\t4294967297\t2\t0\t0\n", "M\t8\t1\t0\t0\t0\n", "M\t8\t1\t4096\t0\t0\n",
+        "M\t8\t1\t2\t2\t0\n", "M\t8\t1\t2\t-1\t0\n", "M\t8\t1\t2\t0\t2\n", "M\t8\t1\t2\t0\t4294967296\n"};
     size_t i;
 
     for (i = 0; i < sizeof lines / sizeof lines[0]; i++)

@@ -13,6 +13,7 @@
  *   handles     0 to 18446744073709551615, 0 being null. In a handle the remainder by 4 is its kind: 1 local, 2 global,
  *               3 weak. Method and field identities have remainder 0. Buffers may have each remainder.
  *   classes     1 to 4095. 1 to 4 stand for object, class, string and throwable; a judge takes another once K declares it.
+ *   sorts       1 method, 2 field
  *
  * Array releases in commit mode (JNI_COMMIT) are not recorded: they free nothing, and a judge would take them for releases.
  */
@@ -51,8 +52,8 @@ extern "C" {
  *
  *   above 0     how many bytes the line has, LF included: d[0] to d[r - 1]. There is no NUL after them.
  *   WEIR_BAD    -3: the numbers are no line that a judge would take: one is out of its range, a handle of N is null or no
- *               local, or something is not what the function's row in the table of JNI functions
- *               (crates/facts/specs/Table.antt) has.
+ *               local, an identity of M is 0 or no multiple of 4, or something is not what the function's row in the table of
+ *               JNI functions (crates/facts/specs/Table.antt) has.
  *   WEIR_SHORT  -7: the line has more bytes than the buffer. Given only where the numbers are good.
  *
  * and nothing else. On a refusal (WEIR_BAD, WEIR_SHORT) nothing is written. Bytes past a written line stay as they were.
@@ -116,6 +117,17 @@ int32_t weir_declare(uint8_t *d, size_t length, uint32_t class_number, uint32_t 
  */
 int32_t weir_state(uint8_t *d, size_t length, uint32_t thread, uint64_t handle, uint32_t class_number);
 
+/* M: states what a method or field identity is. A later M of the same identity counts from its line on.
+ *
+ *   identity      a multiple of 4, not 0
+ *   sort          1 method, 2 field
+ *   class_number  1 to 4095, the class that has it; that it is declared, or 1 to 4, is for the judge to look at.
+ *   is_static     1 where it is static, else 0
+ *   is_final      1 where it is final, else 0
+ */
+int32_t weir_identify(uint8_t *d, size_t length, uint64_t identity, uint32_t sort, uint32_t class_number, uint32_t is_static,
+                      uint32_t is_final);
+
 /* Z: the end of the run. */
 int32_t weir_end(uint8_t *d, size_t length);
 
@@ -133,8 +145,8 @@ int32_t weir_end(uint8_t *d, size_t length);
  *   above 0       the line's letter. Its numbers are numbers[0] to numbers[*count - 1]; the slots past them are 0.
  *   WEIR_NO_LINE  -1: it has over 224 bytes before its LF, or its last byte is no LF, or it has no byte at all.
  *   WEIR_FORM     -2: its letter, the count of its fields or the form of a number is wrong; an LF inside is a wrong form.
- *   WEIR_BAD      -3: a number is out of its range, a handle of N is null or no local, or something is not what the
- *                 function's row in the table of JNI functions has.
+ *   WEIR_BAD      -3: a number is out of its range, a handle of N is null or no local, an identity of M is 0 or no multiple
+ *                 of 4, or something is not what the function's row in the table of JNI functions has.
  *
  * and nothing else, in this order where several fit. On a refusal nothing is written. What the numbers are:
  *
@@ -147,6 +159,7 @@ int32_t weir_end(uint8_t *d, size_t length);
  *   'D'     1        thread
  *   'K'     2        class, super
  *   'O'     3        thread, handle, class
+ *   'M'     5        identity, sort, class, static, final
  *   'Z'     0
  *
  * C's n may be below zero, and so may R's status, which stands in place of the result where the function gives one (19, 26,

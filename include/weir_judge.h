@@ -13,10 +13,14 @@
  *   book       WEIR_BOOK numbers: the threads, and the count of lines. With fewer weir_step, weir_leaks and, at a line, weir_piece give -8, and
  *              weir_judge 0
  *   classes    WEIR_CLASSES numbers: that of class c, at classes[c - 1], is its super, 0 where no K declared it; those of the reserved classes 1 to 4
- *              stay 0. With fewer weir_step and, at a line, weir_piece give -8, and weir_judge 0; weir_leaks does not need it
+ *              stay 0. With fewer weir_step and, at a line, weir_piece give -8, and weir_judge 0; weir_leaks does not need it. Behind them places for
+ *              identities, WEIR_IDENTITY numbers each: identity (0 where the place is free), sort, static, final. An identity x is looked for from
+ *              place x / 4 % places on, to the last place and then from the first, up to the first place that has it or is free: there it is stated,
+ *              or M states it next
  *
- * There is room for as many handles, and buffers, as the lesser of rows and marks, at most 65,536. `./judge` lends 1,024 rows and 256 pins.
- * The numbers of rows, pins, findings and leaks are as wide as a handle, 64 bits, also where they are a thread, a line or a class.
+ * There is room for as many handles, and buffers, as the lesser of rows and marks, at most 65,536, and for as many identities as there are whole places.
+ * `./judge` lends 1,024 rows, 256 pins and 1,024 places.
+ * The numbers of rows, pins, classes, findings and leaks are as wide as a handle, 64 bits, also where they are a thread, a line or a class.
  * Every length is in numbers (rows, pins, classes, found, far, leaks), words (marks, pin_marks, book) or bytes (line, piece, trace, out). A pointer may
  * be NULL only where its length is 0, and no two of the slices overlap.
  */
@@ -30,9 +34,10 @@
 extern "C" {
 #endif
 
-/* Numbers to a reference row and to a pin row, and the numbers of a whole book and of a whole class table. */
+/* Numbers to a reference row, to a pin row and to a place for an identity, and the numbers of a whole book and of a whole class table. */
 #define WEIR_REFERENCE 5
 #define WEIR_PIN 4
+#define WEIR_IDENTITY 4
 #define WEIR_BOOK 4488
 #define WEIR_CLASSES 4095
 
@@ -58,9 +63,9 @@ extern "C" {
 /* weir_piece: `far` holds fewer than WEIR_FAR numbers. */
 #define WEIR_SHORT_FAR (-101)
 
-/* Clears all rows, marks, book and class table. */
+/* Clears all rows, marks, book, class table and places. */
 void weir_start(uint64_t *rows, size_t rows_length, uint64_t *marks, size_t marks_length, uint64_t *pins, size_t pins_length,
-                uint64_t *pin_marks, size_t pin_marks_length, uint64_t *book, size_t book_length, uint32_t *classes,
+                uint64_t *pin_marks, size_t pin_marks_length, uint64_t *book, size_t book_length, uint64_t *classes,
                 size_t classes_length);
 
 /* Judges one line, all its bytes with the LF. Returns how many findings it has, 0 to 6: they are left at the front of `found`, line, rule, place and
@@ -68,7 +73,7 @@ void weir_start(uint64_t *rows, size_t rows_length, uint64_t *marks, size_t mark
  */
 int32_t weir_step(const uint8_t *line, size_t line_length, uint64_t *rows, size_t rows_length, uint64_t *marks, size_t marks_length,
                   uint64_t *pins, size_t pins_length, uint64_t *pin_marks, size_t pin_marks_length, uint64_t *book, size_t book_length,
-                  uint32_t *classes, size_t classes_length, uint64_t *found, size_t found_length);
+                  uint64_t *classes, size_t classes_length, uint64_t *found, size_t found_length);
 
 /* Judges the lines of a piece of a trace, one after another, over tables as weir_start cleared them or as the calls before left them. `ended` is 0
  * where more of the trace may follow the piece, and any other number where the trace ends behind it. The piece may be cut anywhere: a line that
@@ -90,7 +95,7 @@ int32_t weir_step(const uint8_t *line, size_t line_length, uint64_t *rows, size_
  */
 int32_t weir_piece(const uint8_t *piece, size_t piece_length, uint32_t ended, uint64_t *rows, size_t rows_length, uint64_t *marks,
                    size_t marks_length, uint64_t *pins, size_t pins_length, uint64_t *pin_marks, size_t pin_marks_length, uint64_t *book,
-                   size_t book_length, uint32_t *classes, size_t classes_length, uint8_t *out, size_t out_length, uint64_t *far,
+                   size_t book_length, uint64_t *classes, size_t classes_length, uint8_t *out, size_t out_length, uint64_t *far,
                    size_t far_length);
 
 /* Lists what is outstanding and alive after Z. Returns how many leaks there are: they are left at the front of `leaks`, rule, thread, value and making
@@ -107,7 +112,7 @@ int32_t weir_leaks(const uint64_t *rows, size_t rows_length, const uint64_t *mar
  */
 size_t weir_judge(const uint8_t *trace, size_t trace_length, uint64_t *rows, size_t rows_length, uint64_t *marks, size_t marks_length,
                   uint64_t *pins, size_t pins_length, uint64_t *pin_marks, size_t pin_marks_length, uint64_t *book, size_t book_length,
-                  uint32_t *classes, size_t classes_length, uint8_t *out, size_t out_length);
+                  uint64_t *classes, size_t classes_length, uint8_t *out, size_t out_length);
 
 #ifdef __cplusplus
 }

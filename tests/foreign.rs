@@ -11,10 +11,11 @@ use plain::foreign::{self, a_z, is_over, line, of_list, Foreign};
 use plain::lent::book::{CLOSED, WHOLE};
 use plain::lent::reply::{list_reply, reply, MOST_NUMBERS, SHORT_FOUND};
 use plain::lent::slices::Slices;
-use plain::limits::{Class, Number, Word, MOST_CLASSES, MOST_ROOM};
+use plain::limits::{Number, Word, MOST_CLASSES, MOST_ROOM};
 use plain::make::{make, PROFILES};
 use plain::random::Random;
 use plain::report::report;
+use plain::room::Room;
 use std::fmt::{self, Display, Formatter};
 use std::process::ExitCode;
 
@@ -35,7 +36,7 @@ const LONG_REPORT: usize = 4_096;
 
 type Guarded<T> = common::Guarded<T, GUARD>;
 /// Six slices, each guarded.
-type Tables = Slices<Guarded<Number>, Guarded<Word>, Guarded<Class>>;
+type Tables = Slices<Guarded<Number>, Guarded<Word>>;
 
 /// What came up.
 struct Seen {
@@ -223,7 +224,11 @@ fn compare_reports(
     random: &mut Random,
 ) -> Result<(), String> {
     let tables = plain.tables();
-    let (references, pins) = (tables.references.rows.room(), tables.pins.rows.room());
+    let room = Room {
+        references: tables.references.rows.room(),
+        pins: tables.pins.rows.room(),
+        identities: tables.identities.room(),
+    };
     let profile = &PROFILES[random.below(PROFILES.len())];
     let (fewest, most) = profile.usual_lines;
     let lines = if random.percent(6) {
@@ -231,8 +236,8 @@ fn compare_reports(
     } else {
         random.between(fewest, most) as usize
     };
-    let trace = make(profile, random.number(), lines, references, pins);
-    let report = report(&trace, references, pins);
+    let trace = make(profile, random.number(), lines, room);
+    let report = report(&trace, room);
     let length = match random.below(4) {
         0 => report.len(),
         1 => report.len() + random.below(300),

@@ -13,6 +13,7 @@ use plain::limits::{Handle, Number, MOST_BYTES, MOST_HANDLES};
 use plain::make::{make, Profile, DENSE, PROFILES};
 use plain::random::Random;
 use plain::refusal::{Refusal, MALFORMED, NO_LINE, NO_ROOM, OUT_OF_RANGE};
+use plain::room::Room;
 use plain::single;
 use std::collections::{BTreeMap, BTreeSet};
 use std::fmt::{self, Display, Formatter};
@@ -29,9 +30,12 @@ const WHOLE: usize = MOST_BYTES + 1;
 const DAMAGED: usize = 100;
 const LINES: usize = 400;
 const WRITES: usize = 200;
-/// The rows that a trace is made for: a few, as lines are all that is asked of it.
-const REFERENCE_ROWS: usize = 64;
-const PIN_ROWS: usize = 8;
+/// The room that a trace is made for: a little, as lines are all that is asked of it.
+const ROOM: Room = Room {
+    references: 64,
+    pins: 8,
+    identities: 64,
+};
 
 type Guarded<T> = common::Guarded<T, GUARD>;
 
@@ -78,7 +82,7 @@ fn compare(seed: u64, seen: &mut Seen) -> Result<(), String> {
     let profile = profiles[seed as usize % profiles.len()];
     let (fewest, most) = profile.usual_lines;
     let lines = random.between(fewest, most) as usize;
-    let trace = make(profile, random.number(), lines, REFERENCE_ROWS, PIN_ROWS);
+    let trace = make(profile, random.number(), lines, ROOM);
     let lines: Vec<&[u8]> = trace.split_inclusive(|&byte| byte == b'\n').collect();
     for line in &lines {
         compare_line(line, seen, &mut random)?;
@@ -228,6 +232,7 @@ fn values(handed: &Handed) -> Vec<Handle> {
         Handed::Leave { result, .. } | Handed::Return { result, .. } => vec![result],
         Handed::Attach { env, .. } => vec![env],
         Handed::State { handle, .. } => vec![handle],
+        Handed::Identify { identity, .. } => vec![identity],
         Handed::Detach { .. } | Handed::Declare { .. } | Handed::End => Vec::new(),
     }
 }
@@ -274,7 +279,7 @@ impl Seen {
         for count in 0..=MOST_HANDLES as u32 {
             can_come_up(What::Handles(count));
         }
-        for letter in *b"NXCRAO" {
+        for letter in *b"NXCRAOM" {
             can_come_up(What::Wide(letter));
         }
         can_come_up(What::BelowZero(b'C'));
@@ -321,6 +326,7 @@ impl Seen {
             | Handed::Detach { .. }
             | Handed::Declare { .. }
             | Handed::State { .. }
+            | Handed::Identify { .. }
             | Handed::End => {}
         }
     }

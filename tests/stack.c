@@ -25,7 +25,7 @@
 #include "weir.h"
 
 enum {
-    ENTER, LEAVE, CALL, RETURN, ATTACH, DETACH, DECLARE, STATE, END, READ, FUNCTIONS,
+    ENTER, LEAVE, CALL, RETURN, ATTACH, DETACH, DECLARE, STATE, IDENTIFY, END, READ, FUNCTIONS,
     PROBE = FUNCTIONS, PROBE_OF_NINE, CALLEES
 };
 
@@ -35,7 +35,8 @@ static const struct {
     size_t bound;
 } functions[FUNCTIONS] = {
     {"weir_enter", 272}, {"weir_leave", 336}, {"weir_call", 384}, {"weir_return", 384}, {"weir_attach", 336},
-    {"weir_detach", 336}, {"weir_declare", 336}, {"weir_state", 352}, {"weir_end", 336}, {"weir_read", 272},
+    {"weir_detach", 336}, {"weir_declare", 336}, {"weir_state", 352}, {"weir_identify", 384}, {"weir_end", 336},
+    {"weir_read", 272},
 };
 
 /* ---- what went wrong, said once the threads have ended */
@@ -95,8 +96,8 @@ static struct input {
     int callee;
     size_t length; /* of the line, or of the buffer */
     uint8_t line[256];
-    uint32_t thread, count, function, pending, class_number, super_number;
-    uint64_t env, a, b, c, result, handle;
+    uint32_t thread, count, function, pending, class_number, super_number, sort, is_static, is_final;
+    uint64_t env, a, b, c, result, handle, identity;
     int32_t n, status;
     uint64_t handles[WEIR_HANDLES];
 } now;
@@ -117,12 +118,13 @@ static volatile struct {
     int32_t (*detach)(uint8_t *, size_t, uint32_t);
     int32_t (*declare)(uint8_t *, size_t, uint32_t, uint32_t);
     int32_t (*state)(uint8_t *, size_t, uint32_t, uint64_t, uint32_t);
+    int32_t (*identify)(uint8_t *, size_t, uint64_t, uint32_t, uint32_t, uint32_t, uint32_t);
     int32_t (*end)(uint8_t *, size_t);
     int32_t (*read)(const uint8_t *, size_t, uint64_t *, uint32_t *);
     int32_t (*probe)(void);
     int32_t (*probe_of_nine)(int, int, int, int, int, int, int, int, int);
-} weir = {weir_enter, weir_leave, weir_call, weir_return, weir_attach, weir_detach, weir_declare, weir_state, weir_end,
-          weir_read, weir_probe, weir_probe_of_nine};
+} weir = {weir_enter, weir_leave, weir_call, weir_return, weir_attach, weir_detach, weir_declare, weir_state,
+          weir_identify, weir_end, weir_read, weir_probe, weir_probe_of_nine};
 
 /* The deepest byte that the call of `now` leaves unlike the paint. Nothing else is called from here. */
 __attribute__((noinline)) static size_t depth(void)
@@ -146,6 +148,9 @@ __attribute__((noinline)) static size_t depth(void)
     case DETACH: reply = weir.detach(d, now.length, now.thread); break;
     case DECLARE: reply = weir.declare(d, now.length, now.class_number, now.super_number); break;
     case STATE: reply = weir.state(d, now.length, now.thread, now.handle, now.class_number); break;
+    case IDENTIFY:
+        reply = weir.identify(d, now.length, now.identity, now.sort, now.class_number, now.is_static, now.is_final);
+        break;
     case END: reply = weir.end(d, now.length); break;
     case READ: reply = weir.read(line, now.length, numbers, &number_count); break;
     case PROBE: reply = weir.probe(); break;
@@ -215,6 +220,8 @@ static void probes(void)
 
 static const uint32_t bad_threads[] = {0, 17, 4294967295u};
 static const uint32_t bad_classes[] = {0, 4096, 4294967295u};
+static const uint32_t bad_flags[] = {2, 256, 4294967295u};
+static const uint64_t bad_identities[] = {0, 1, 2, 3, 18446744073709551613u, HIGHEST};
 static const int32_t signs[] = {0, LOWEST, 2147483647};
 /* the highest of each kind, and null */
 static const uint64_t results[] = {0, 18446744073709551613u, 18446744073709551614u, HIGHEST, 18446744073709551612u};
@@ -307,6 +314,19 @@ static int32_t measure_state(size_t length, uint32_t thread, uint64_t handle, ui
     return measure();
 }
 
+static int32_t measure_identify(size_t length, uint64_t identity, uint32_t sort, uint32_t class_number, uint32_t is_static,
+                                uint32_t is_final)
+{
+    now.callee = IDENTIFY;
+    now.length = length;
+    now.identity = identity;
+    now.sort = sort;
+    now.class_number = class_number;
+    now.is_static = is_static;
+    now.is_final = is_final;
+    return measure();
+}
+
 static int32_t measure_end(size_t length)
 {
     now.callee = END;
@@ -343,6 +363,8 @@ static void inputs_of_every_length(void)
         expect((measure_detach(length, 16) > 0) == (length >= 5), "the longest D is written where it has room");
         expect((measure_declare(length, 4095, 4095) > 0) == (length >= 12), "the longest K is written where it has room");
         expect((measure_state(length, 16, HIGHEST, 4095) > 0) == (length >= 31), "the longest O is written where it has room");
+        expect((measure_identify(length, HIGHEST - 3, 2, 4095, 1, 1) > 0) == (length >= 34),
+               "the longest M is written where it has room");
         expect((measure_end(length) > 0) == (length >= 2), "Z is written where it has room");
     }
     memset(handles, 0, sizeof handles);
@@ -354,6 +376,7 @@ static void inputs_of_every_length(void)
         measure_return(WEIR_LINE, 1, 169, x, 0, 0);
         measure_attach(WEIR_LINE, 1, x);
         measure_state(WEIR_LINE, 1, x, 1);
+        measure_identify(WEIR_LINE, 4 * x, 1, 1, 0, 0);
     }
     for (i = 0, x = 1; i < 10; i++, x *= 10) {
         measure_call(WEIR_LINE, 1, x, 19, 0, 0, 0, (int32_t)x);
@@ -363,6 +386,7 @@ static void inputs_of_every_length(void)
         measure_declare(WEIR_LINE, (uint32_t)x, 1);
         measure_declare(WEIR_LINE, 1, (uint32_t)x);
         measure_state(WEIR_LINE, 1, 0, (uint32_t)x);
+        measure_identify(WEIR_LINE, 4, 1, (uint32_t)x, 0, 0);
     }
 }
 
@@ -385,7 +409,15 @@ static void bad_inputs(size_t length)
         expect(measure_declare(length, bad_classes[i], 1) == WEIR_BAD, "K of a bad class is bad");
         expect(measure_declare(length, 4095, bad_classes[i]) == WEIR_BAD, "K under a bad class is bad");
         expect(measure_state(length, 16, HIGHEST, bad_classes[i]) == WEIR_BAD, "O of a bad class is bad");
+        expect(measure_identify(length, HIGHEST - 3, 2, bad_classes[i], 1, 1) == WEIR_BAD, "M of a bad class is bad");
     }
+    for (i = 0; i < COUNT(bad_flags); i++) {
+        expect(measure_identify(length, HIGHEST - 3, bad_flags[i] + 1, 4095, 1, 1) == WEIR_BAD, "M of a bad sort is bad");
+        expect(measure_identify(length, HIGHEST - 3, 2, 4095, bad_flags[i], 1) == WEIR_BAD, "M with a bad static is bad");
+        expect(measure_identify(length, HIGHEST - 3, 2, 4095, 1, bad_flags[i]) == WEIR_BAD, "M with a bad final is bad");
+    }
+    for (i = 0; i < COUNT(bad_identities); i++)
+        expect(measure_identify(length, bad_identities[i], 2, 4095, 1, 1) == WEIR_BAD, "M of a bad identity is bad");
     expect(measure_enter(length, 16, 0, 8, highest) == WEIR_BAD, "N of env 0 is bad");
     expect(measure_call(length, 16, 0, 6, 0, 0, 0, 0) == WEIR_BAD, "C of env 0 is bad");
     expect(measure_attach(length, 16, 0) == WEIR_BAD, "A of env 0 is bad");
@@ -433,7 +465,7 @@ static void inputs_of_every_function(void)
 
 /* ---- inputs of the reader */
 
-static const char *const letters[] = {"N", "X", "C", "R", "A", "D", "K", "O", "Z"};
+static const char *const letters[] = {"N", "X", "C", "R", "A", "D", "K", "O", "M", "Z"};
 
 /* each kind of line at its longest */
 static const char *const longest[] = {
@@ -450,6 +482,7 @@ static const char *const longest[] = {
     "D\t16\n",
     "K\t4095\t4095\n",
     "O\t16\t18446744073709551615\t4095\n",
+    "M\t18446744073709551612\t2\t4095\t1\t1\n",
     "Z\n"};
 
 static void start(void)
@@ -538,7 +571,7 @@ static void longest_and_like_them(void)
  * length up to two over the most */
 static void fillings(void)
 {
-    static const char *const starts[] = {"", "N\t", "X\t", "C\t", "R\t", "A\t", "D\t", "K\t", "O\t", "Z\t"};
+    static const char *const starts[] = {"", "N\t", "X\t", "C\t", "R\t", "A\t", "D\t", "K\t", "O\t", "M\t", "Z\t"};
     static const char *const patterns[] = {"\t", "-", "0", "9", "1234567890", "\t0", "\t9", "\t-", "\t-1", "\t18446744073709551615"};
     size_t i, k, length;
     int byte;
@@ -578,6 +611,7 @@ static void fields(void)
         {"D", "16"},
         {"K", "4095", "4095"},
         {"O", "16", "18446744073709551615", "4095"},
+        {"M", "18446744073709551612", "2", "4095", "1", "1"},
         {"Z"}};
     static const char *const others[] = {
         /* thirty digits */
@@ -744,7 +778,7 @@ static void print_input(const struct input *input)
         return;
     }
     printf("length %lu", (unsigned long)input->length);
-    if (input->callee != DECLARE && input->callee != END)
+    if (input->callee != DECLARE && input->callee != IDENTIFY && input->callee != END)
         printf(", thread %u", input->thread);
     if (input->callee == ENTER || input->callee == CALL || input->callee == ATTACH)
         printf(", env %" PRIu64, input->env);
@@ -763,8 +797,12 @@ static void print_input(const struct input *input)
         printf(", status %d, pending %u", input->status, input->pending);
     if (input->callee == STATE)
         printf(", handle %" PRIu64, input->handle);
-    if (input->callee == DECLARE || input->callee == STATE)
+    if (input->callee == IDENTIFY)
+        printf(", identity %" PRIu64 ", sort %u", input->identity, input->sort);
+    if (input->callee == DECLARE || input->callee == STATE || input->callee == IDENTIFY)
         printf(", class %u", input->class_number);
+    if (input->callee == IDENTIFY)
+        printf(", static %u, final %u", input->is_static, input->is_final);
     if (input->callee == DECLARE)
         printf(", super %u", input->super_number);
 }
@@ -782,13 +820,13 @@ int main(void)
         fprintf(stderr, "stack: not so: %s\n", wrongs[i]);
         failures++;
     }
-    printf("%-12s %7s %6s %7s  %s\n", "function", "deepest", "bound", "inputs", "first input that goes so deep");
+    printf("%-13s %7s %6s %7s  %s\n", "function", "deepest", "bound", "inputs", "first input that goes so deep");
     for (i = 0; i < FUNCTIONS; i++) {
         const char *const name = functions[i].name;
         const unsigned long deepest = found[i].deepest;
         const unsigned long bound = functions[i].bound;
 
-        printf("%-12s %7lu %6lu %7lu  ", name, deepest, bound, found[i].inputs);
+        printf("%-13s %7lu %6lu %7lu  ", name, deepest, bound, found[i].inputs);
         print_input(&found[i].input);
         putchar('\n');
         if (deepest > bound) {

@@ -35,7 +35,7 @@ impl Fit {
         Fit::Both,
     ];
     pub const UNFLAGGED: [Fit; 4] = [Fit::Unstated, Fit::Right, Fit::Final, Fit::Sort];
-    /// Those over foreign tables alone: for any function, where it matters whether the identity is static, and where it is written.
+    /// Those over foreign tables alone: where it matters whether the identity is static, and where it is written.
     pub const FOREIGN: [Fit; 3] = [Fit::NoSort, Fit::NoStatic, Fit::NoFinal];
 
     pub fn of(wanted: Wanted, stated: Option<Stated>) -> Fit {

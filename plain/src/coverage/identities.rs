@@ -2,7 +2,7 @@
 
 use crate::facts::{known, WITH_IDENTITY};
 use crate::fit::Fit;
-use crate::identity::Stated;
+use crate::identity::{Stated, METHOD};
 use crate::lent::book::Top;
 use crate::lent::identities::{Places, IDENTITY};
 use crate::lent::lookup::Identities;
@@ -51,15 +51,16 @@ pub fn fits() -> impl Iterator<Item = (u32, &'static str)> {
     })
 }
 
-/// What the functions want of identities, each with all fits over foreign tables.
+/// What the functions want of identities, each with the fits that it is to show over foreign tables.
 pub fn foreign_fits() -> impl Iterator<Item = (&'static str, &'static str)> {
     let wanted = WANTED.into_iter();
     wanted.flat_map(|(wanted, function)| {
         let asked = known(function).wanted().expect("an identity");
         let fits = match asked.is_static {
             Some(_) if asked.writes => [&Fit::FLAGGED[..], &Fit::FOREIGN].concat(),
-            Some(_) => [&Fit::FLAGGED[..], &Fit::FOREIGN[..2]].concat(),
-            None => [&Fit::UNFLAGGED[..], &Fit::FOREIGN[..1]].concat(),
+            Some(_) if asked.sort == METHOD => [&Fit::FLAGGED[..], &Fit::FOREIGN[..2]].concat(),
+            Some(_) => [&Fit::FLAGGED[..], &Fit::FOREIGN[..1]].concat(),
+            None => Fit::UNFLAGGED.to_vec(),
         };
         fits.into_iter().map(move |fit| (wanted, fit.name()))
     })

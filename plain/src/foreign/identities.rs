@@ -62,8 +62,8 @@ fn small_place(random: &mut Random) -> Place {
         random.between(0, 1).into(),
         random.between(0, 1).into(),
     ];
-    if random.percent(60) {
-        let column = random.pick(&[IDENTITY, SORT, SORT, STATIC, STATIC, FINAL, FINAL]);
+    if random.percent(75) {
+        let column = random.pick(&[IDENTITY, SORT, SORT, STATIC, STATIC, FINAL, FINAL, FINAL]);
         let number = place[column];
         place[column] = match (column, random.below(4)) {
             (_, 0) => twin_of(number, random),

@@ -262,7 +262,7 @@ impl Aim<'_, '_> {
         }
     }
 
-    /// Mostly a stated identity, of a fit that few others have.
+    /// Mostly a stated identity, of some fit that only foreign tables have, or of one that few others have.
     fn identity_for(&self, wanted: Wanted, random: &mut Random) -> Handle {
         let places = &self.tables.identities;
         let start = random.below(places.room().max(1));
@@ -274,9 +274,11 @@ impl Aim<'_, '_> {
             .map(|(stated, identity)| (Fit::of(wanted, Some(stated)), identity))
             .collect();
         let alike = |fit: Fit| stated.iter().filter(|(other, _)| *other == fit).count();
+        let wished = random.pick(&Fit::FOREIGN);
+        let odd = stated.iter().find(|(fit, _)| *fit == wished);
         let rarest = stated.iter().min_by_key(|(fit, _)| alike(*fit));
-        match rarest {
-            Some(&(_, identity)) if random.percent(75) => identity,
+        match odd.or(rarest) {
+            Some(&(_, identity)) if random.percent(80) => identity,
             _ => self.identity(random),
         }
     }
@@ -388,12 +390,12 @@ fn a_function(random: &mut Random) -> u32 {
     }
     if random.percent(25) {
         return random.pick(&[
-            9, 9, 9, 12, 12, 12, 34, 61, 64, 95, 100, 104, 104, 109, 114, 145, 150, 154, 154,
+            9, 9, 12, 12, 34, 64, 95, 95, 100, 104, 104, 109, 114, 145, 145, 150, 154, 154, 159,
         ]);
     }
-    if random.percent(45) {
+    if random.percent(50) {
         return random.pick(&[
-            11, 13, 13, 13, 13, 13, 13, 13, 13, 31, 32, 64, 113, 164, 164, 164, 168, 170,
+            11, 13, 13, 13, 13, 13, 13, 13, 13, 13, 31, 32, 64, 113, 164, 164, 164, 164, 168, 170,
         ]);
     }
     random.pick(&[
