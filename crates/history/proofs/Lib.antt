@@ -53,5 +53,6 @@ mod LimitCases
 mod AgainCases
 mod LeakCases
 mod ClassCases
+mod IdentityCases
 mod AttachedCases
 mod DetachedCases

@@ -1,6 +1,6 @@
 -- All the sentences, proved. Assumes nothing.
 use mathlib.Core.Path.{refl}
-use Rattle.history.specs.Sentences.{On-breaches, On-handles, On-buffers, On-lines, On-classes, On-refusals, On-leaks, On-input, On-replies, Shut-out}
+use Rattle.history.specs.Sentences.{On-breaches, On-handles, On-buffers, On-lines, On-classes, On-identities, On-refusals, On-leaks, On-input, On-replies, Shut-out}
 use Rattle.history.proofs.Living.{living-are, local-alive, shared-alive}
 use Rattle.history.proofs.Acts.{enter-items, call-items, leave-items, return-items, enter-frames, enter-capacities, enter-pending, pop-frames, pop-nothing, pop-capacities, return-pending, call-pending, push-frames, enter-monitors, exit-monitors, other-status-frames, other-status-capacities, other-status-monitors}
 use Rattle.history.proofs.Arguments.{enter-alive}
@@ -23,6 +23,8 @@ use Rattle.history.proofs.Envs.{env-of-first, no-env, envs-apart}
 use Rattle.history.proofs.Accepting.{accepted-before}
 use Rattle.history.proofs.Classes.{known-are, leads-are, one-super, never-round}
 use Rattle.history.proofs.Stated.{class-is, state-class, made-class, class-kept, class-ended, class-named, declares-alone}
+use Rattle.history.proofs.Wanted.{suits-are, writes-are}
+use Rattle.history.proofs.Identities.{identity-is, stated-last, identity-kept, never-ended, identities-are, identities-once, identify-alone}
 use Rattle.history.proofs.Stating.{states-alone, nothing-else}
 use Rattle.history.proofs.Refusals.{refusal-is, seven-is-room, within-room, never-eight}
 use Rattle.history.proofs.Rooms.{run-more}
@@ -111,6 +113,21 @@ on-classes =
       declares-alone = declares-alone;
       states-alone = states-alone;
       nothing-else = nothing-else;
+    }
+
+pub on-identities : On-identities
+on-identities =
+    record {
+      sorts = (refl, refl);
+      suits-are = suits-are;
+      writes-are = writes-are;
+      identity-is = identity-is;
+      stated-last = stated-last;
+      identity-kept = identity-kept;
+      never-ended = never-ended;
+      identities-are = identities-are;
+      identities-once = identities-once;
+      identify-alone = identify-alone;
     }
 
 pub on-refusals : On-refusals

@@ -8,7 +8,7 @@ use Rattle.numbers.specs.Decimal.{read-on}
 use Rattle.facts.specs.Table.{table, fact-of, is-allowed-pending, is-allowed-critical}
 use Rattle.facts.specs.Classes.{class-a, class-b}
 use Rattle.facts.specs.Identities.{wanted-of, writes-field}
-use Rattle.lines.specs.Line.{N, X, C, R, A, D, Z, states, K, O}
+use Rattle.lines.specs.Line.{N, X, C, R, A, D, Z, states, K, O, M}
 use Rattle.lines.specs.Forms.{of-letter}
 use Rattle.lines.specs.Reading.{fields, numbers, line-of, of-fields, read}
 use Rattle.history.specs.Past.{History, through, closed}
@@ -81,13 +81,15 @@ module _ (room : Room) where
       (and-line (C 1 100 6 0 0 0 (pos 0)) a (omega arith) refl (rw (leb·zero (room .references), leb·zero (room .pins), leb·zero (room .identities)))
       (and-line (A 1 100) [] (omega arith) refl (rw (leb·zero (room .references), leb·zero (room .pins), leb·zero (room .identities))) at-start)))
 
--- K and O too, where there is a row
-pub statements-accepted : Accepted program-room (states (O 1 5 5) ∷ N 1 100 (5 ∷ []) ∷ states (K 5 1) ∷ [])
+-- K, O and M too, where there is a row and a place
+pub statements-accepted : Accepted program-room (states (M 8 1 5 0 0) ∷ states (O 1 5 5) ∷ N 1 100 (5 ∷ []) ∷ states (K 5 1) ∷ [])
 unfolding tells judges
 statements-accepted =
     let k : History = states (K 5 1) ∷ [] in
     let n : History = N 1 100 (5 ∷ []) ∷ k in
-    and-line (states (O 1 5 5)) n (omega arith) refl refl (and-line (N 1 100 (5 ∷ [])) k (omega arith) refl refl (and-line (states (K 5 1)) [] (omega arith) refl refl at-start))
+    let o : History = states (O 1 5 5) ∷ n in
+    and-line (states (M 8 1 5 0 0)) o (omega arith) refl refl
+    (and-line (states (O 1 5 5)) n (omega arith) refl refl (and-line (N 1 100 (5 ∷ [])) k (omega arith) refl refl (and-line (states (K 5 1)) [] (omega arith) refl refl at-start)))
 
 -- after the same first line the reply to the same later bytes differs, by what came between: a judge that works on the first line only is shut out
 pub not-first-only : (reply program-room (heard program-room (line "R 1 4 0 0" ∷ line "C 1 100 4 0 0 0 0" ∷ line "N 1 100 5" ∷ [])) (line "C 1 100 31 5 0 0 0")

@@ -12,9 +12,10 @@ use Rattle.words.specs.Lists.{any, keep, count, joined}
 use Rattle.words.specs.Text.{bytes, line-feed}
 use Rattle.facts.specs.Table.{_/_, fact-of, is-function, families, family, is-critical}
 use Rattle.facts.specs.Classes.{object, class, string, throwable, no-class}
+use Rattle.facts.specs.Identities.{method, field, wanted-of, suits, writes-field}
 use Rattle.facts.specs.Named.{PushLocalFrame, PopLocalFrame, DeleteGlobalRef, DeleteLocalRef, EnsureLocalCapacity, GetObjectClass, MonitorEnter, MonitorExit, DeleteWeakGlobalRef}
 use Rattle.facts.specs.Results.{is-buffer-result, is-buffer-place}
-use Rattle.lines.specs.Line.{Line, Statement, N, X, C, R, A, D, Z, states, K, O, kind, is-zero, above-zero}
+use Rattle.lines.specs.Line.{Line, Statement, N, X, C, R, A, D, Z, states, K, O, M, kind, is-zero, above-zero}
 use Rattle.lines.specs.Reading.{Read, says, refused, read}
 use Rattle.history.specs.Past.{History, is-of, closed}
 use Rattle.history.specs.Items.{Item, in-native, in-call, attached, items}
@@ -35,6 +36,9 @@ use Rattle.history.specs.Classes.{super-of, is-known, leads, most-looks}
 use Rattle.history.specs.Below.{Known, Super, Below, At-or-below}
 use Rattle.history.specs.Statements.{class-by, class-stated}
 use Rattle.history.specs.Stated.{States, Stated}
+use Rattle.history.specs.Identities.{identity, identity-of, identities}
+use Rattle.history.specs.Identified.{Identified, Suits, Writes}
+use Rattle.history.specs.declared.Identity.{Identity}
 use Rattle.history.specs.Kinds.{of-kind}
 use Rattle.history.specs.Paper.{Broken}
 use Rattle.history.specs.Order.{Breached, Ordered, most-findings}
@@ -180,7 +184,7 @@ pub record On-lines : Type 0 where
   -- an attached item has nothing below it
   pub attached-lowest : (room : Room) (past : History) → Accepted room past → (t : ℕ) (above below : List Item) → items t past ≡ above ++ (attached ∷ below)
       → below ≡ []
-  -- the lines of other threads, and K and O, change nothing of a thread
+  -- the lines of other threads, and statements, change nothing of a thread
   pub other-threads : (t : ℕ) (e : Line) (past : History) → is-of t e ≡ false → Same-for t past (e ∷ past)
   -- a thread's env is that of its first N or A, for ever
   pub env-of-first : (t env : ℕ) (first : Line) (newer older : History) → env ≢ 0 → Brings t env first
@@ -218,9 +222,34 @@ pub record On-classes : Type 0 where
   -- K states nothing of a handle, and O declares nothing
   pub declares-alone : (c s : ℕ) (x : Alive) (past : History) → class-stated (states (K c s) ∷ past) x ≡ class-stated past x
   pub states-alone : (t h c d : ℕ) (past : History) → super-of (states (O t h c) ∷ past) d ≡ super-of past d
-  -- and they change nothing else: no item, frame, capacity, pending, monitor, env, no handle alive and no buffer outstanding
+  -- and statements, M among them, change nothing else: no item, frame, capacity, pending, monitor, env, no handle alive and no buffer outstanding
   pub nothing-else : (s : Statement) (past : History) → ((t : ℕ) → Same-for t past (states s ∷ past)) × (living (states s ∷ past) ≡ living past)
       × (outstanding (states s ∷ past) ≡ outstanding past) × (closed (states s ∷ past) ≡ closed past)
+
+-- identities, and what functions want of them
+pub record On-identities : Type 0 where
+  -- sort is 1 method or 2 field
+  pub sorts : (method ≡ 1) × (field ≡ 2)
+  -- 28-30 and 34-93 want a method that isn't static, and so on, as the paper prints them
+  pub suits-are : (f sort static : ℕ) → (suits (wanted-of f) sort static ≡ true) ↔ Suits f sort static
+  -- 104-112 and 154-162 write a field
+  pub writes-are : (f : ℕ) → (writes-field f ≡ true) ↔ Writes f
+  -- what is stated of an identity is what its last M says, whatever came between; sort 0 is no sort
+  pub identity-is : (past : History) (x sort static final : ℕ) → sort ≢ 0 → (identity-of past x ≡ identity sort static final) ↔ Identified x sort static final past
+  pub stated-last : (x sort c static final : ℕ) (newer older : History) → ((s d u v : ℕ) → ¬ List·Memᴰ (states (M x s d u v)) newer)
+      → identity-of (newer ++ (states (M x sort c static final) ∷ older)) x ≡ identity sort static final
+  -- no other line says what it is: a result does not
+  pub identity-kept : (e : Line) (past : History) (x : ℕ) → ((s c u v : ℕ) → states (M x s c u v) ≢ e) → identity-of (e ∷ past) x ≡ identity-of past x
+  -- an identity is never ended
+  pub never-ended : (newer past : History) (x sort static final : ℕ) → Identified x sort static final past
+      → let i : Identity = identity-of (newer ++ past) x in Identified x (i .sort) (i .isstatic) (i .isfinal) (newer ++ past)
+  -- those stated, each once: so many have taken room
+  pub identities-are : (past : History) (x : ℕ) → List·Memᴰ x (identities past) ↔ ((sort : ℕ) × (static : ℕ) × (final : ℕ) × Identified x sort static final past)
+  pub identities-once : (past : History) (before : List ℕ) (x : ℕ) (after : List ℕ) → identities past ≡ before ++ (x ∷ after) → ¬ List·Memᴰ x after
+  -- M declares no class and states none of a handle; what else it leaves as it was is `nothing-else`
+  pub identify-alone : (x sort c static final : ℕ) (past : History)
+      → ((d : ℕ) → super-of (states (M x sort c static final) ∷ past) d ≡ super-of past d)
+      × ((h : Alive) → class-stated (states (M x sort c static final) ∷ past) h ≡ class-stated past h)
 
 pub record On-refusals : Type 0 where
   -- a line after accepted lines is given exactly the number that documents 01 and 02 say, or none
@@ -286,8 +315,8 @@ pub record Shut-out : Type 0 where
   pub each-letter : (room : Room) → Accepted room (Z ∷ X 1 0 ∷ R 1 6 (pos 0) 0 ∷ C 1 100 6 0 0 0 (pos 0) ∷ N 1 100 [] ∷ [])
   -- A and D too
   pub attached-accepted : (room : Room) → Accepted room (D 1 ∷ R 1 6 (pos 0) 0 ∷ C 1 100 6 0 0 0 (pos 0) ∷ A 1 100 ∷ [])
-  -- K and O too, where there is a row
-  pub statements-accepted : Accepted program-room (states (O 1 5 5) ∷ N 1 100 (5 ∷ []) ∷ states (K 5 1) ∷ [])
+  -- K, O and M too, where there is a row and a place
+  pub statements-accepted : Accepted program-room (states (M 8 1 5 0 0) ∷ states (O 1 5 5) ∷ N 1 100 (5 ∷ []) ∷ states (K 5 1) ∷ [])
   -- one that works on the first line only: after the same first line the reply to the same later bytes differs
   pub not-first-only : (reply program-room (heard program-room (line "R 1 4 0 0" ∷ line "C 1 100 4 0 0 0 0" ∷ line "N 1 100 5" ∷ [])) (line "C 1 100 31 5 0 0 0")
       ≡ accepted [])
