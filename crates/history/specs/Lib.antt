@@ -11,6 +11,8 @@ pub mod Lives
 pub mod Below
 pub mod Stated
 pub mod Identified
+-- from a start: identity-of by identity-is
+pub mod Identities
 pub mod Paper
 pub mod Order
 -- from a start: refusal by refusal-is, heard-accepted
@@ -28,8 +30,6 @@ pub mod Leaks
 pub mod Classes
 -- from a start: class-stated by class-is
 pub mod Statements
--- from a start: identity-of by identity-is; identities by identities-are, identities-once
-pub mod Identities
 -- from a start: seen by told-all
 pub mod Seen
 pub mod Breaches
