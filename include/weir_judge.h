@@ -13,14 +13,15 @@
  *   book       WEIR_BOOK numbers: the threads, and the count of lines. With fewer weir_step, weir_leaks and, at a line, weir_piece give -8, and
  *              weir_judge 0
  *   classes    WEIR_CLASSES numbers: that of class c, at classes[c - 1], is its super, 0 where no K declared it; those of the reserved classes 1 to 4
- *              stay 0. With fewer weir_step and, at a line, weir_piece give -8, and weir_judge 0; weir_leaks does not need it. Behind them places for
- *              identities, WEIR_IDENTITY numbers each: identity (0 where the place is free), sort, static, final. An identity x is looked for from
- *              place x / 4 % places on, to the last place and then from the first, up to the first place that has it or is free: there it is stated,
- *              or M states it next
+ *              stay 0. With fewer weir_step and, at a line, weir_piece give -8, and weir_judge 0; weir_leaks does not need it. Behind them stand
+ *              (classes_length - WEIR_CLASSES) / WEIR_IDENTITY places for identities, WEIR_IDENTITY numbers each: identity (0 where the place is
+ *              free), sort, static, final. Counted from 0, the place of an identity x is the first that is free or has x, from (x / 4) % places on
+ *              to the last and then from 0 to the one before: M puts it there, and no line takes it away. A table of WEIR_CLASSES numbers alone
+ *              is whole, and has no place: each M is then -7
  *
  * There is room for as many handles, and buffers, as the lesser of rows and marks, at most 65,536, and for as many identities as there are whole places.
- * `./judge` lends 1,024 rows, 256 pins and 1,024 places.
- * The numbers of rows, pins, classes, findings and leaks are as wide as a handle, 64 bits, also where they are a thread, a line or a class.
+ * `./judge` lends 1,024 rows, 256 pins and 1,024 places, so a class table of 8,191 numbers.
+ * The numbers of rows, pins, classes, findings and leaks are as wide as a handle, 64 bits, also where they are a thread, a line, a class or a flag.
  * Every length is in numbers (rows, pins, classes, found, far, leaks), words (marks, pin_marks, book) or bytes (line, piece, trace, out). A pointer may
  * be NULL only where its length is 0, and no two of the slices overlap.
  */
