@@ -117,9 +117,9 @@ int32_t weir_declare(uint8_t *d, size_t length, uint32_t class_number, uint32_t 
  */
 int32_t weir_state(uint8_t *d, size_t length, uint32_t thread, uint64_t handle, uint32_t class_number);
 
-/* M: states what a method or field identity is. It may stand anywhere before Z, and is best written right after the R that gave the
- * identity: that R has its number alone, and a call with an identity that no M states is condemned (rule 5). A later M of the same
- * identity counts from its line on.
+/* M: states what a method or field identity is. It may stand anywhere before Z, and is best written right after the R that
+ * gave the identity: that R has its number alone, and a call with an identity that no M states is condemned (rule 5). A later
+ * M of the same identity counts from its line on.
  *
  *   identity      a multiple of 4, not 0
  *   sort          1 method, 2 field

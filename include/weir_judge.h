@@ -17,7 +17,7 @@
  *              (classes_length - WEIR_CLASSES) / WEIR_IDENTITY places for identities, WEIR_IDENTITY numbers each: identity (0 where the place is
  *              free), sort, static, final. Counted from 0, the place of an identity x is the first that is free or has x, from (x / 4) % places on
  *              to the last and then from 0 to the one before: M puts it there, and no line takes it away. A table of WEIR_CLASSES numbers alone
- *              is whole, and has no place: each M is then -7
+ *              is whole, and has no place: no M has room then (-7)
  *
  * There is room for as many handles, and buffers, as the lesser of rows and marks, at most 65,536, and for as many identities as there are whole places.
  * `./judge` lends 1,024 rows, 256 pins and 1,024 places, so a class table of 8,191 numbers.
