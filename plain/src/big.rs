@@ -3,6 +3,7 @@
 mod accepted;
 mod balanced;
 mod identified;
+mod pool;
 mod recorded;
 pub mod slot;
 

@@ -1,10 +1,10 @@
 //! Big traces that keep a balance of alive handles and outstanding buffers by chance: every line accepted, some condemned.
 
 use super::accepted::Accepted;
+use super::pool::Pool;
 use super::slot::Slots;
 use crate::class::{CLASS, FIRST_DECLARED, OBJECT};
 use crate::facts::*;
-use crate::identity::{Wanted, FIELD, METHOD};
 use crate::lent::book::Top;
 use crate::lent::lookup::{Buffers, Handles};
 use crate::lent::references::owner;
@@ -23,9 +23,6 @@ const NEW_WEAK_GLOBAL_REF: u32 = 226;
 const CRITICAL_ARRAY: Family = Family(FIRST_CRITICAL as u8);
 
 const LEAST_ASKED: i32 = 400;
-
-/// The identities that are stated first, a quarter of them methods, static methods, fields and static fields each.
-const IDENTITIES: usize = 64;
 
 /// Functions that use handles and make nothing.
 const USES: [u32; 12] = [24, 32, 40, 50, 70, 80, 97, 104, 108, 154, 164, 171];
@@ -67,6 +64,15 @@ impl Balance {
     fn asked(&self) -> i32 {
         LEAST_ASKED.max(2 * self.alive as i32 / self.threads as i32)
     }
+
+    /// From where numbers are counted.
+    fn base(&self) -> Handle {
+        if self.wide {
+            ADDRESS
+        } else {
+            0
+        }
+    }
 }
 
 /// Writes a trace that keeps this balance, of so many lines, the last a Z.
@@ -77,7 +83,7 @@ pub fn write(balance: &Balance, trace: Accepted<impl Write>, lines: usize) -> io
         trace,
         threads: Default::default(),
         is_full: !balance.filled,
-        stated: 0,
+        pool: Pool::new(balance.base()),
         declared: 0,
         globals_and_weaks: Vec::new(),
         buffers: Vec::new(),
@@ -111,8 +117,7 @@ struct Maker<'a, W: Write> {
     threads: [Held; THREADS as usize],
     /// Whether there were once as many handles alive as are to be.
     is_full: bool,
-    /// How many identities are stated, and classes declared.
-    stated: usize,
+    pool: Pool,
     declared: usize,
     globals_and_weaks: Vec<Handle>,
     /// The outstanding buffers that are not critical, with their families.
@@ -122,8 +127,8 @@ struct Maker<'a, W: Write> {
 
 impl<W: Write> Maker<'_, W> {
     fn line(&mut self) -> io::Result<()> {
-        if self.stated < IDENTITIES {
-            return self.identify();
+        if let Some(statement) = self.pool.statement() {
+            return self.trace.put(statement);
         }
         if self.declared < 2 * self.balance.chain {
             return self.declare();
@@ -145,18 +150,6 @@ impl<W: Write> Maker<'_, W> {
             Top::Call { .. } if self.random.percent(nested) => self.enter(thread),
             Top::Call { function, .. } => self.answer(thread, function),
         }
-    }
-
-    fn identify(&mut self) -> io::Result<()> {
-        let index = self.stated;
-        self.stated += 1;
-        self.trace.put(Event::M {
-            identity: self.identity_of(index),
-            sort: [METHOD, FIELD][index % 2],
-            class: OBJECT,
-            is_static: index as u32 / 2 % 2,
-            is_final: 0,
-        })
     }
 
     /// Two chains of classes, the first below class and the other below object.
@@ -199,7 +192,7 @@ impl<W: Write> Maker<'_, W> {
         };
         let places = [0, 1, 2].map(|index| match (facts.places[index], facts.classes[index]) {
             (PlaceKind::Unused, _) => 0,
-            (PlaceKind::Identity(wanted), _) => self.identity(wanted),
+            (PlaceKind::Identity(wanted), _) => self.pool.pick(wanted, &mut self.random),
             (_, Some(_)) if self.random.below(300) == 0 => none,
             _ => self.random.pick(&classes),
         });
@@ -274,7 +267,7 @@ impl<W: Write> Maker<'_, W> {
         let kinds = known(function).places;
         let places = kinds.map(|kind| match kind {
             PlaceKind::Unused => 0,
-            PlaceKind::Identity(wanted) => self.identity(wanted),
+            PlaceKind::Identity(wanted) => self.pool.pick(wanted, &mut self.random),
             _ if self.random.below(300) == 0 => self.any(thread, LOCAL),
             _ => self.handle(thread),
         });
@@ -350,7 +343,7 @@ impl<W: Write> Maker<'_, W> {
                 handle
             }
             ResultKind::Buffer(family) if pins_left > 0 => {
-                let buffer = self.base() + 1 + self.random.below(1 << 31) as Handle;
+                let buffer = self.balance.base() + 1 + self.random.below(1 << 31) as Handle;
                 if family.is_critical() {
                     self.held(thread).critical.push(buffer);
                 } else {
@@ -446,36 +439,12 @@ impl<W: Write> Maker<'_, W> {
         }
     }
 
-    /// One of the stated identities that are wanted, and now and then of any.
-    fn identity(&mut self, wanted: Wanted) -> Handle {
-        let index = self.random.below(IDENTITIES);
-        if self.random.below(300) == 0 {
-            return self.identity_of(index);
-        }
-        let sort = usize::from(wanted.sort == FIELD);
-        let is_static = usize::from(wanted.is_static == Some(true));
-        self.identity_of(index / 4 * 4 + 2 * is_static + sort)
-    }
-
-    fn identity_of(&self, index: usize) -> Handle {
-        self.base() + 4 * (1 + 1_234_567 * index as Handle)
-    }
-
     /// A nonzero number with this remainder by 4.
     fn number(&mut self, remainder: Handle) -> Handle {
-        self.base() + 4 * Handle::from(self.random.between(1, (1 << 30) - 1)) + remainder
+        self.balance.base() + 4 * Handle::from(self.random.between(1, (1 << 30) - 1)) + remainder
     }
 
     fn env_of(&self, thread: u32) -> Handle {
-        self.base() + 0x7f00_0000 + 0x100 * Handle::from(thread)
-    }
-
-    /// From where numbers are counted.
-    fn base(&self) -> Handle {
-        if self.balance.wide {
-            ADDRESS
-        } else {
-            0
-        }
+        self.balance.base() + 0x7f00_0000 + 0x100 * Handle::from(thread)
     }
 }

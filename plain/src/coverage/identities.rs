@@ -60,7 +60,7 @@ pub fn foreign_fits() -> impl Iterator<Item = (&'static str, &'static str)> {
             Some(_) if asked.writes => [&Fit::FLAGGED[..], &Fit::FOREIGN].concat(),
             Some(_) if asked.sort == METHOD => [&Fit::FLAGGED[..], &Fit::FOREIGN[..2]].concat(),
             Some(_) => [&Fit::FLAGGED[..], &Fit::FOREIGN[..1]].concat(),
-            None => Fit::UNFLAGGED.to_vec(),
+            None => vec![Fit::Unstated, Fit::Right, Fit::Sort],
         };
         fits.into_iter().map(move |fit| (wanted, fit.name()))
     })

@@ -75,10 +75,10 @@ fn small(random: &mut Random) -> Slices {
     if random.percent(15) {
         crowd(slices.rows.as_chunks_mut().0);
     }
+    small_classes(random, &mut slices.classes);
     twin_columns(random, &mut slices);
     some_marks(random, &mut slices.marks);
     some_marks(random, &mut slices.pin_marks);
-    small_classes(random, &mut slices.classes);
     small_book(random, &mut slices.book, threads);
     if random.percent(15) && slices.book.len() >= WHOLE {
         spoil_book(random, &mut slices.book);
@@ -312,13 +312,16 @@ fn damage_row(random: &mut Random, rows: &mut [Number]) {
     };
 }
 
-/// Mostly nothing, or twins in a column of some rows.
+/// Mostly nothing, or twins in a column of some rows or places.
 fn twin_columns(random: &mut Random, slices: &mut Slices) {
     if random.percent(20) {
         twin_column::<REFERENCE_NUMBERS>(random, &mut slices.rows);
     }
     if random.percent(20) {
         twin_column::<PIN_NUMBERS>(random, &mut slices.pins);
+    }
+    if random.percent(20) {
+        twin_column::<IDENTITY_NUMBERS>(random, split(&mut slices.classes).1);
     }
 }
 

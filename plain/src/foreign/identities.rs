@@ -65,11 +65,11 @@ fn small_place(random: &mut Random) -> Place {
     if random.percent(75) {
         let column = random.pick(&[IDENTITY, SORT, SORT, STATIC, STATIC, FINAL, FINAL, FINAL]);
         let number = place[column];
-        place[column] = match (column, random.below(4)) {
+        place[column] = match (column, random.below(3)) {
             (_, 0) => twin_of(number, random),
             (IDENTITY, _) => random.pick(&[0, number + 1, number + 2, number + 3, Number::MAX - 3]),
             (SORT, _) => random.pick(&[0, 3]),
-            _ => random.pick(&[2, 3, Number::MAX]),
+            _ => random.pick(&[2, HIGH, HIGH + 1, Number::MAX]),
         };
     }
     place

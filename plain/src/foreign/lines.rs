@@ -274,7 +274,10 @@ impl Aim<'_, '_> {
             .map(|(stated, identity)| (Fit::of(wanted, Some(stated)), identity))
             .collect();
         let alike = |fit: Fit| stated.iter().filter(|(other, _)| *other == fit).count();
-        let wished = random.pick(&Fit::FOREIGN);
+        let wished = match wanted.writes && random.percent(60) {
+            true => Fit::NoFinal,
+            false => random.pick(&Fit::FOREIGN),
+        };
         let odd = stated.iter().find(|(fit, _)| *fit == wished);
         let rarest = stated.iter().min_by_key(|(fit, _)| alike(*fit));
         match odd.or(rarest) {
@@ -383,25 +386,21 @@ impl Aim<'_, '_> {
     }
 }
 
-/// Each function as often, or one of those that do more or take a rare place.
+/// Each function as often, or one of those that take an identity, that take a class, or that do more or take a rare place.
 fn a_function(random: &mut Random) -> u32 {
-    if random.percent(50) {
-        return random.between(FIRST_FUNCTION, LAST_FUNCTION);
+    match random.below(100) {
+        0..40 => random.between(FIRST_FUNCTION, LAST_FUNCTION),
+        40..58 => random.pick(&[
+            9, 9, 12, 12, 34, 64, 95, 95, 104, 109, 112, 114, 145, 145, 154, 159, 162,
+        ]),
+        58..78 => random.pick(&[
+            11, 13, 13, 13, 13, 13, 13, 13, 13, 31, 32, 64, 113, 164, 164, 164, 168, 170,
+        ]),
+        _ => random.pick(&[
+            6, 19, 20, 20, 20, 21, 22, 22, 23, 23, 24, 26, 64, 104, 154, 165, 166, 170, 191, 218,
+            222, 223, 225, 226, 227, 227,
+        ]),
     }
-    if random.percent(25) {
-        return random.pick(&[
-            9, 9, 12, 12, 34, 64, 95, 95, 100, 104, 104, 109, 114, 145, 145, 150, 154, 154, 159,
-        ]);
-    }
-    if random.percent(50) {
-        return random.pick(&[
-            11, 13, 13, 13, 13, 13, 13, 13, 13, 13, 31, 32, 64, 113, 164, 164, 164, 164, 168, 170,
-        ]);
-    }
-    random.pick(&[
-        6, 19, 20, 20, 20, 21, 22, 22, 23, 23, 24, 26, 64, 104, 154, 165, 166, 170, 191, 218, 222,
-        223, 225, 226, 227, 227,
-    ])
 }
 
 /// A row of the room, used or not; the last ones more often.

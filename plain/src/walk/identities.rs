@@ -15,6 +15,7 @@ const GIVEN_BY: [u32; 6] = [7, 8, 33, 94, 113, 144];
 pub fn identities() -> Vec<(String, Vec<String>)> {
     let of_function = |function| (format!("of {function}"), fits(function));
     let mut all: Vec<(String, Vec<String>)> = WITH_IDENTITY.into_iter().map(of_function).collect();
+    all.extend(of_fields());
     all.extend(in_step());
     all.extend(of_classes());
     all.push(("given".to_string(), given()));
@@ -55,6 +56,22 @@ fn with(function: u32, identity: Handle) -> [Handle; 3] {
         PlaceKind::Identity(_) => identity,
         _ => 5,
     })
+}
+
+/// M with each number about the ends of its range in each field.
+fn of_fields() -> Vec<(String, Vec<String>)> {
+    let fields: [(&[i64], &str); 5] = [
+        (&[-4, -1, 0, 1, 2, 3, 4, 5], "M _ 1 1 0 0"),
+        (&[-1, 0, 1, 2, 3], "M 8 _ 1 0 0"),
+        (&[-1, 0, 1, 4_095, 4_096], "M 8 1 _ 0 0"),
+        (&[-1, 0, 1, 2], "M 8 1 1 _ 0"),
+        (&[-1, 0, 1, 2], "M 8 1 1 0 _"),
+    ];
+    let lines = fields.into_iter().flat_map(|(numbers, line)| {
+        let with = |number: &i64| line.replace('_', &number.to_string());
+        numbers.iter().map(with)
+    });
+    lines.map(|line| (line.clone(), vec![line])).collect()
 }
 
 /// M over each top of thread 1, good and of an unknown class.

@@ -11,6 +11,7 @@ mod foreign_attached;
 mod foreign_classes;
 mod foreign_identities;
 mod foreign_maker;
+mod identified;
 mod identities;
 mod indexed;
 mod leaks;

@@ -211,12 +211,12 @@ fn compare_finds_no_difference_from_itself() {
             &["--seed", "9", "--count", "34"][..],
             "compared 34 traces, ",
         ),
-        (&["--walk"], "compared 2980 traces, "),
+        (&["--walk"], "compared 3006 traces, "),
         (
             &["--leaks", "--seed", "9", "--count", "34"],
             "compared 34 traces, ",
         ),
-        (&["--leaks", "--walk"], "compared 2980 traces, "),
+        (&["--leaks", "--walk"], "compared 3006 traces, "),
     ] {
         let output = run(COMPARE, &[options, &["--", PLAIN]].concat());
         let printed = String::from_utf8(output.stdout).unwrap();
