@@ -35,7 +35,7 @@ static const struct {
     size_t bound;
 } functions[FUNCTIONS] = {
     {"weir_enter", 272}, {"weir_leave", 336}, {"weir_call", 384}, {"weir_return", 384}, {"weir_attach", 336},
-    {"weir_detach", 336}, {"weir_declare", 336}, {"weir_state", 352}, {"weir_identify", 384}, {"weir_end", 336},
+    {"weir_detach", 336}, {"weir_declare", 336}, {"weir_state", 352}, {"weir_identify", 368}, {"weir_end", 336},
     {"weir_read", 272},
 };
 
