@@ -1,7 +1,7 @@
 -- From what the code did to the words of the definitions: one law for each return. Assumes nothing.
 use Prim.Native.Nat.{ℕ, zero, suc, _+_, _-_, _≤_, _<_}
 use mathlib.Core.Path.{_≡_, refl, sym, ap, ap₂, _∙_}
-use mathlib.Core.Bool.{Bool, true, false, not, _||_}
+use mathlib.Core.Bool.{Bool, true, false, not, _&&_, _||_}
 use mathlib.Core.List.{List, _++_, append-nil}
 use native.Mathlib.Nat.{not-suc-le-zero}
 use native.Mathlib.Omega.{arith}
@@ -12,7 +12,7 @@ use lib.ListN.{length, getD, set, replicate, drop, List·getD-eq-default}
 use lib.Seq.{drop-length}
 use Rattle.words.specs.Choice.{within}
 use Rattle.facts.specs.Classes.{object, is-reserved}
-use Rattle.lines.specs.Line.{is-class}
+use Rattle.lines.specs.Line.{classes, is-class}
 use Rattle.lines.proofs.Tests.{both}
 use Rattle.history.specs.Classes.{is-known, super, leads, most-looks, class-fits}
 use Rattle.classes.specs.Supers.{super-in, with-super, classes-cleared}
@@ -22,6 +22,13 @@ from-one n c h = leb-true 1 c (both (leb 1 c) (leb c n) h .0)
 
 pub index-within : (n c : ℕ) → within 1 n c ≡ true → c - 1 < n
 index-within n c h = omega (arith, from-one n c h, leb-true c n (both (leb 1 c) (leb c n) h .1))
+
+-- a class that the table has a number for
+pub from-first : (n c : ℕ) → (is-class c && leb c n) ≡ true → 1 ≤ c
+from-first n c h = from-one classes c (both (is-class c) (leb c n) h .0)
+
+pub index-there : (n c : ℕ) → (is-class c && leb c n) ≡ true → c - 1 < n
+index-there n c h = omega (arith, from-first n c h, leb-true c n (both (is-class c) (leb c n) h .1))
 
 -- ---- the super declared of a class
 
@@ -40,11 +47,11 @@ module _ (cs : List ℕ) (c : ℕ) where
   pub known-or-not : (r : Bool) (s : ℕ) → r ≡ is-reserved c → s ≡ super-in cs c → (r || not (eqb s 0)) ≡ is-known (super-in cs) c
   known-or-not r s er es = ap₂ (λ (a : Bool) (b : ℕ). a || not (eqb b 0)) er es
 
-  pub super-set : (s : ℕ) → within 1 (length cs) c ≡ true → set cs (c - 1) s ≡ with-super cs c s
+  pub super-set : (s : ℕ) → (is-class c && leb c (length cs)) ≡ true → set cs (c - 1) s ≡ with-super cs c s
   unfolding with-super
   super-set s y = rw y refl
 
-  pub super-not-set : (s : ℕ) → within 1 (length cs) c ≡ false → cs ≡ with-super cs c s
+  pub super-not-set : (s : ℕ) → (is-class c && leb c (length cs)) ≡ false → cs ≡ with-super cs c s
   unfolding with-super
   super-not-set s n = rw n refl
 

@@ -1,14 +1,14 @@
 -- Laws of the supers in the class table: they and the identities do not touch each other. Assumes nothing.
 use Prim.Native.Nat.{ℕ, _+_, _-_, _/_, _≤_}
 use mathlib.Core.Path.{_≡_, refl, sym, ap, _∙_}
-use mathlib.Core.Bool.{Bool, true, false, false≢true}
+use mathlib.Core.Bool.{Bool, true, false, _&&_, false≢true}
 use mathlib.Core.List.{List}
 use native.Mathlib.Omega.{arith}
 use borrow.Author.Tests.{le-leb, eqb-true, eqb-false}
-use lib.Dec.{eqb}
+use lib.Dec.{eqb, leb}
 use lib.ListN.{length, getD, set, replicate, length-set}
 use lib.Seq.{getD-set-same, getD-set-other}
-use Rattle.words.specs.Choice.{if_then_else_, within}
+use Rattle.words.specs.Choice.{if_then_else_}
 use Rattle.lines.specs.Line.{classes, is-class}
 use Rattle.classes.specs.Supers.{super-in, with-super}
 use Rattle.classes.specs.Identities.{identity-room, identity-from, identity-number, place-of, identity-in, with-identity, used-places}
@@ -22,7 +22,7 @@ use Rattle.classes.proofs.PutLaws.{put-apart}
 module _ (cs : List ℕ) (c s : ℕ) where
   pub declared-length : length (with-super cs c s) ≡ length cs
   unfolding with-super
-  declared-length = go (within 1 (length cs) c)
+  declared-length = go (is-class c && leb c (length cs))
     where
       go : (b : Bool) → length (if b then set cs (c - 1) s else cs) ≡ length cs
       go true = length-set cs (c - 1) s
@@ -35,7 +35,7 @@ module _ (cs : List ℕ) (c s : ℕ) where
   module _ (y : is-class c ≡ true) where
     pub declared-number : (i k : ℕ) → identity-number (with-super cs c s) i k ≡ identity-number cs i k
     unfolding with-super
-    declared-number i k = go (within 1 (length cs) c)
+    declared-number i k = go (is-class c && leb c (length cs))
       where
         go : (b : Bool) → getD (if b then set cs (c - 1) s else cs) (identity-from i + k) 0 ≡ getD cs (identity-from i + k) 0
         go true = getD-set-other cs (c - 1) (identity-from i + k) s 0 (λ e. omega (arith, index-within classes c y))
@@ -60,8 +60,8 @@ module _ (cs : List ℕ) (c s : ℕ) where
     unfolding super-in
     declared-super l d = rw (← super-set cs c s there) (go (eqb d c) refl (is-class d) refl)
       where
-        there : within 1 (length cs) c ≡ true
-        there = rw (le-leb 1 c (from-one classes c y), le-leb c (length cs) l) refl
+        there : (is-class c && leb c (length cs)) ≡ true
+        there = rw (y, le-leb c (length cs) l) refl
 
         go : (a : Bool) → eqb d c ≡ a → (b : Bool) → is-class d ≡ b
             → (if b then getD (set cs (c - 1) s) (d - 1) 0 else 0) ≡ (if a then s else if b then getD cs (d - 1) 0 else 0)

@@ -1,10 +1,10 @@
 -- The lent class table: a number for each class, its super, or 0 where it is not declared. Assumes nothing.
 use Prim.Native.Nat.{ℕ, _-_}
-use mathlib.Core.Bool.{Bool}
+use mathlib.Core.Bool.{Bool, _&&_}
 use mathlib.Core.List.{List}
-use lib.Dec.{ltb}
+use lib.Dec.{leb, ltb}
 use lib.ListN.{length, getD, set, replicate}
-use Rattle.words.specs.Choice.{if_then_else_, within}
+use Rattle.words.specs.Choice.{if_then_else_}
 use Rattle.lines.specs.Line.{classes, is-class}
 
 -- a number for each class
@@ -18,9 +18,9 @@ is-short cs = ltb (length cs) all-classes
 unfoldable pub super-in : List ℕ → ℕ → ℕ
 super-in cs c = if is-class c then getD cs (c - 1) 0 else 0
 
--- class c with super s, where the table has a number for it
+-- class c with super s; nothing where c is no class, or the table has no number for it
 unfoldable pub with-super : List ℕ → ℕ → ℕ → List ℕ
-with-super cs c s = if within 1 (length cs) c then set cs (c - 1) s else cs
+with-super cs c s = if is-class c && leb c (length cs) then set cs (c - 1) s else cs
 
 -- all numbers 0
 abbrev pub classes-cleared : List ℕ → List ℕ

@@ -94,7 +94,7 @@ pub fn fits(table: &[Number], fixed: u32, stated: Number) -> bool
 pub fn declare(table: &mut [Number], c: u32, superclass: u32)
     ensures { λ _. ⌜ now (table .exit) ≡ with-super (now (table .entry)) c superclass ⌝ }
 {
-    if (1 <= c) & (c as usize <= table.len()) {
+    if (1 <= c) & (c <= CLASSES) & (c as usize <= table.len()) {
         table[c as usize - 1] = superclass as Number;
     }
 }
