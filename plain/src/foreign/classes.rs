@@ -3,7 +3,7 @@
 use crate::class::{FIRST_DECLARED, OBJECT, THROWABLE};
 use crate::limits::{Class, Number, MOST_CLASSES};
 use crate::random::Random;
-use crate::twin::twin_of;
+use crate::twin::{twin_of, HIGH};
 
 const LAST: Class = MOST_CLASSES as Class;
 /// The classes from the first that can be declared on, and from the last down, of which the most are.
@@ -80,9 +80,9 @@ pub fn one(random: &mut Random) -> Class {
 
 /// What stands at a class as its super.
 fn superclass(random: &mut Random, class: Class) -> Number {
-    let superclass = match random.below(14) {
+    let superclass = match random.below(15) {
         0..=6 => random.between(OBJECT, THROWABLE).into(),
-        7 => other(random),
+        7 | 14 => other(random),
         8 => class.into(),
         9 | 10 => one(random).into(),
         _ => class.saturating_sub(random.between(1, 3)).into(),
@@ -110,7 +110,9 @@ fn other(random: &mut Random) -> Number {
         past + class % Number::from(FEW),
         (1 << 16) + class,
         (1 << 31) + class,
-        (1 << 32) + class,
+        HIGH,
+        HIGH,
+        HIGH + class,
         Number::MAX,
     ])
 }

@@ -290,7 +290,7 @@ pub const PROFILES: [Profile; 24] = [
         pending: 1,
         favoured: 90,
         functions: &WITH_IDENTITY,
-        refusals: &[7],
+        refusals: &[7, 7, 9],
         ..MIXED
     },
     Profile {
