@@ -389,11 +389,11 @@ impl Aim<'_, '_> {
 /// Each function as often, or one of those that take an identity, that take a class, or that do more or take a rare place.
 fn a_function(random: &mut Random) -> u32 {
     match random.below(100) {
-        0..40 => random.between(FIRST_FUNCTION, LAST_FUNCTION),
-        40..58 => random.pick(&[
+        0..50 => random.between(FIRST_FUNCTION, LAST_FUNCTION),
+        50..65 => random.pick(&[
             9, 9, 12, 12, 34, 64, 95, 95, 104, 109, 112, 114, 145, 145, 154, 159, 162,
         ]),
-        58..78 => random.pick(&[
+        65..83 => random.pick(&[
             11, 13, 13, 13, 13, 13, 13, 13, 13, 31, 32, 64, 113, 164, 164, 164, 168, 170,
         ]),
         _ => random.pick(&[
