@@ -16,6 +16,7 @@ use plain::lent::reply::{reply, MOST_NUMBERS};
 use plain::lent::slices::Slices;
 use plain::limits::{Number, Word};
 use plain::room::{Room, LENT};
+use std::collections::BTreeMap;
 use std::fmt::{self, Display, Formatter, Write};
 use std::hint::black_box;
 use std::path::Path;
@@ -41,6 +42,14 @@ const INDEXED: usize = 3;
 /// Whose time is divided by whose.
 const RATIOS: [(usize, usize); 3] = [(STEP, PLAIN), (LOOP, PLAIN), (LOOP, INDEXED)];
 
+/// Traces that differ in what their calls are handed alone: whose time is divided by whose.
+const TWINS: [(&str, &str); 4] = [
+    ("identities", "handles"),
+    ("scattered", "handles"),
+    ("identities", "bare"),
+    ("scattered", "bare"),
+];
+
 const USAGE: &str = "usage: judge ROUNDS [--last LINES] [--rows REFERENCE_ROWS] TRACE..";
 
 type Found = [Number; MOST_NUMBERS];
@@ -62,12 +71,17 @@ fn main() -> ExitCode {
     };
     println!("in one process, processor time in ns a line, with the loop's filling of its guides");
     print_head();
+    let mut measured = BTreeMap::new();
     for file in wish.files {
-        if let Err(error) = measure(file, &wish) {
-            eprintln!("judge: {file}: {error}");
-            return ExitCode::FAILURE;
-        }
+        match measure(file, &wish) {
+            Ok((name, times)) => measured.insert(name, times),
+            Err(error) => {
+                eprintln!("judge: {file}: {error}");
+                return ExitCode::FAILURE;
+            }
+        };
     }
+    print_twins(&measured);
     ExitCode::SUCCESS
 }
 
@@ -108,7 +122,21 @@ fn print_head() {
     println!();
 }
 
-fn measure(file: &str, wish: &Wish) -> Result<(), String> {
+/// The time of each judge on a trace divided by its time on the other, where both are measured.
+fn print_twins(measured: &BTreeMap<String, Vec<f64>>) {
+    for (one, other) in TWINS {
+        if let (Some(times), Some(others)) = (measured.get(one), measured.get(other)) {
+            print!("{:37}", format!("{one}/{other}"));
+            for (time, other) in times.iter().zip(others) {
+                print!(" {:9.2}", time / other);
+            }
+            println!();
+        }
+    }
+}
+
+/// The name of the trace, and the times that it takes the judges.
+fn measure(file: &str, wish: &Wish) -> Result<(String, Vec<f64>), String> {
     let trace = std::fs::read(file).map_err(|error| error.to_string())?;
     let each: Vec<&[u8]> = trace.split_inclusive(|&byte| byte == b'\n').collect();
     let lines = Lines {
@@ -137,7 +165,7 @@ fn measure(file: &str, wish: &Wish) -> Result<(), String> {
         print!(" {:13.2}", times[one] / times[other]);
     }
     println!();
-    Ok(())
+    Ok((name.into_owned(), times))
 }
 
 /// All judges on all lines, and what they leave: how many findings, or where one differs from the plain judge or refuses a line.
