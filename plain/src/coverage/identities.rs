@@ -14,9 +14,9 @@ use crate::line::Event;
 pub const SHOWN: [&str; 13] = [
     "M of a new one",
     "M again, the same",
-    "M again, of another sort",
-    "M again, of another flag",
-    "M again, of another end",
+    "M again, another sort",
+    "M again, another static flag",
+    "M again, another final flag",
     "M again in a full table",
     "M in the last free place",
     "M behind its own place",
@@ -139,12 +139,15 @@ fn of_statement(tables: &Tables, identity: Handle, stated: Stated) -> Vec<&'stat
     such(&[
         ("M of a new one", is_new),
         ("M again, the same", !is_new && was == stated),
-        ("M again, of another sort", was.sort != stated.sort),
+        ("M again, another sort", was.sort != stated.sort),
         (
-            "M again, of another flag",
+            "M again, another static flag",
             was.is_static != stated.is_static,
         ),
-        ("M again, of another end", was.is_final != stated.is_final),
+        (
+            "M again, another final flag",
+            was.is_final != stated.is_final,
+        ),
         ("M again in a full table", !is_new && free == 0),
         ("M in the last free place", is_new && free == 1),
         (

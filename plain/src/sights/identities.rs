@@ -9,14 +9,14 @@ use crate::lent::Tables;
 use crate::limits::{Handle, THREADS};
 use crate::line::{self, Event};
 use crate::twin::are_twins;
-use std::collections::BTreeMap;
+use std::collections::{BTreeMap, BTreeSet};
 
 #[derive(Default)]
 pub struct Identified {
     /// All that was stated of each identity, the last at the end.
     stated: BTreeMap<Handle, Vec<Stated>>,
-    /// The function that last gave an identity.
-    given: BTreeMap<Handle, u32>,
+    /// Those that functions gave.
+    given: BTreeSet<Handle>,
 }
 
 impl Identified {
@@ -28,7 +28,7 @@ impl Identified {
         let (now, name) = (rule(all.last()), fit(all.last()).name());
         let former = all.len().checked_sub(2).map(|index| rule(all.get(index)));
         let first = rule(all.first());
-        let given = self.given.get(&identity).is_some();
+        let given = self.given.contains(&identity);
         let is_twin = |&&other: &&Handle| are_twins(other, identity);
         let twin = self.stated.keys().find(is_twin);
         let twin = twin.map(|twin| rule(self.stated[twin].last()) == 0);
@@ -89,7 +89,7 @@ impl Identified {
             Event::R {
                 function, result, ..
             } if known(function).result == ResultKind::Identity => {
-                self.given.insert(line::made(result), function);
+                self.given.insert(line::made(result));
             }
             _ => {}
         }
