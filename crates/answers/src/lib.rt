@@ -1,4 +1,5 @@
 // What the judge answers to a line: the number given instead of an event, or the line's findings in their order.
+#![tactic(auto)]
 ghost use Rattle.std.specs.Prelude.{◌≡◌, []};
 ghost use Rattle.answers.specs.Answer.{refused_with, answer_of, with_found, found_if};
 ghost use Rattle.answers.specs.Listed.{of_rule, listed, is_clean};
@@ -9,7 +10,7 @@ use words::Handle;
 const MOST: usize = 6;
 
 // Of the six findings the first `count` are the line's, the others all 0. A refusal is 0 where the line is accepted; it stands behind them, so that an answer is copied word by word.
-#[derive(Drop)]
+#[derive(Clone, Copy)]
 pub struct Answer {
     pub found: [Finding; 6],
     pub count: usize,
@@ -17,7 +18,7 @@ pub struct Answer {
 }
 
 // What was judged of a line: the rules that it breaks as a whole, and the rule that each place breaks, or 0.
-#[derive(Drop)]
+#[derive(Clone, Copy)]
 pub struct Judged {
     pub line: u32,
     pub foreign: bool,

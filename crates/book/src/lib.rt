@@ -1,4 +1,5 @@
 // The lent thread book: a row of numbers for each thread, and row 0 for the trace itself. Every function takes any contents, any thread and a short book too.
+#![tactic(auto)]
 ghost use Rattle.std.specs.Prelude.{◌≡◌, ℕ, ◌-◌, ◌/◌, ◌<◌, ◌≤◌, min, max, false, length};
 ghost use Rattle.std.proofs.Math.Option.{some};
 ghost use Rattle.words.specs.Choice.{one};
@@ -18,7 +19,7 @@ use lines::ranges::THREADS;
 use words::Handle;
 
 // The top of a thread's open items. A call has its function, and max(n,0) of its C.
-#[derive(Drop)]
+#[derive(Clone, Copy)]
 pub enum Top {
     Nothing,
     Native,

@@ -49,8 +49,8 @@ place x =
     else Place.Unused
 
 -- L G W (handle of that kind or 0), I (remainder 0), B, S status, `-` written 0
-abbrev pub result : ℕ → Result
-result x =
+abbrev pub result_in : ℕ → Result
+result_in x =
     if eqb x (code "L") then Result.Local
     else if eqb x (code "G") then Result.Global
     else if eqb x (code "W") then Result.Weak
@@ -72,7 +72,7 @@ fact_in s =
       a = place (get_or s 0 0);
       b = place (get_or s 1 0);
       c = place (get_or s 2 0);
-      result = result (get_or s 4 0);
+      result = result_in (get_or s 4 0);
     }
 
 pub record Row : Type 0 where

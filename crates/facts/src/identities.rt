@@ -17,7 +17,7 @@ pub const YES: u64 = 1;
 pub const NO: u64 = 0;
 
 // A method or field of an object is one that is not static.
-#[derive(Drop)]
+#[derive(Clone, Copy)]
 pub enum Wanted {
     ObjectMethod,
     StaticMethod,

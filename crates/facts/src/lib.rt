@@ -1,6 +1,7 @@
 // What each JNI function takes and gives, by its number.
+#![tactic(auto)]
 ghost use Rattle.std.specs.Prelude.{◌≡◌};
-ghost use Rattle.facts.specs.Table.{result, fact_of, is_allowed_pending, is_allowed_critical, family, is_critical};
+ghost use Rattle.facts.specs.Table.{result_in, fact_of, is_allowed_pending, is_allowed_critical, family, is_critical};
 ghost use Rattle.facts.specs.Letters.{family_in};
 
 use columns::{NONE, letter};
@@ -20,7 +21,7 @@ const FIRST_CRITICAL: u32 = 10;
 const LAST_CRITICAL: u32 = 11;
 
 // What stands at a place of a function.
-#[derive(Drop)]
+#[derive(Clone, Copy)]
 pub enum Place {
     Handle,
     HandleOrNull,
@@ -33,7 +34,7 @@ pub enum Place {
 }
 
 // What a function gives back.
-#[derive(Drop)]
+#[derive(Clone, Copy)]
 pub enum Result {
     Local,
     Global,
@@ -46,7 +47,7 @@ pub enum Result {
 
 // What the letters stand for.
 fn as_result(b: u8) -> Result
-    ensures* { λ r. ⌜ r ≡ result b ⌝ }
+    ensures { result ≡ result_in b }
 {
     if b == b'L' {
         return Result::Local;
@@ -70,7 +71,7 @@ fn as_result(b: u8) -> Result
 }
 
 fn as_family(b: u8) -> u32
-    ensures* { λ r. ⌜ r ≡ family_in b ⌝ }
+    ensures { result ≡ family_in b }
 {
     if b < b'A' {
         return NO_FAMILY;
@@ -79,33 +80,33 @@ fn as_family(b: u8) -> u32
 }
 
 pub fn result_of(f: u32) -> Result
-    ensures* { λ r. ⌜ r ≡ (fact_of f).result ⌝ }
+    ensures { result ≡ (fact_of f).result }
 {
     as_result(letter(columns::RESULT, f))
 }
 
 pub fn allowed_pending(f: u32) -> bool
-    ensures* { λ r. ⌜ r ≡ is_allowed_pending f ⌝ }
+    ensures { result ≡ is_allowed_pending f }
 {
     letter(columns::PENDING, f) != NONE
 }
 
 pub fn allowed_critical(f: u32) -> bool
-    ensures* { λ r. ⌜ r ≡ is_allowed_critical f ⌝ }
+    ensures { result ≡ is_allowed_critical f }
 {
     letter(columns::CRITICAL, f) != NONE
 }
 
 // 0 to 11, or 12 for a function of no family.
 pub fn family(f: u32) -> u32
-    ensures* { λ r. ⌜ r ≡ family f ⌝ }
+    ensures { result ≡ family f }
 {
     as_family(letter(columns::FAMILY, f))
 }
 
 // The last two families are critical.
 pub fn is_critical(k: u32) -> bool
-    ensures* { λ r. ⌜ r ≡ is_critical k ⌝ }
+    ensures { result ≡ is_critical k }
 {
     (FIRST_CRITICAL <= k) & (k <= LAST_CRITICAL)
 }

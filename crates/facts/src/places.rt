@@ -8,7 +8,7 @@ use super::columns::letter;
 use super::{Place, columns};
 
 // `first` is the class fixed for place a, `second` that for place b; for place c none is.
-#[derive(Drop)]
+#[derive(Clone, Copy)]
 pub struct Places {
     pub a: Place,
     pub b: Place,

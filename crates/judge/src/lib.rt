@@ -1,4 +1,5 @@
 // The judge over lent tables: a start, and one step.
+#![tactic(auto)]
 pub mod items;
 
 ghost use Rattle.std.specs.Prelude.{◌≡◌, List, ℕ, suc, ◌<◌, ◌≤◌};

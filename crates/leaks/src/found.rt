@@ -15,7 +15,7 @@ use rows::{Number, pins, references};
 pub(crate) const FIRST_REFERENCE: usize = rows::MOST;
 
 // What leaks at a place.
-#[derive(Drop)]
+#[derive(Clone, Copy)]
 pub(crate) enum Found {
     Leak(Entry),
     Nothing,

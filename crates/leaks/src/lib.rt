@@ -1,4 +1,5 @@
 // The list of the leaks after Z: a record for each outstanding buffer and each global or weak alive, in a lent slice.
+#![tactic(auto)]
 mod entries;
 mod found;
 mod sorting;
@@ -17,7 +18,7 @@ use rows::Number;
 use sorting::sort;
 
 // How many records were written, or the number given instead.
-#[derive(Drop)]
+#[derive(Clone, Copy)]
 pub enum Listed {
     Written(usize),
     Refused(u8),

@@ -12,7 +12,7 @@ use crate::{Event, MOST_FIELDS, forms, heads};
 use words::{Handle, LARGEST};
 
 // A line's letter and how many numbers it has, or the number given instead. The numbers stand in ten slots beside it.
-#[derive(Drop)]
+#[derive(Clone, Copy)]
 pub enum Apart {
     Line { letter: u8, count: usize },
     Refused(u8),

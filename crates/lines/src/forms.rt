@@ -13,7 +13,7 @@ ghost use Rattle.lines.specs.Events.{event_of};
 ghost use Rattle.lines.specs.Sizes.{counts_of, right_count, line_in, named};
 
 // How many numbers, at least and at most, and the place of the one that may be below zero.
-#[derive(Drop)]
+#[derive(Clone, Copy)]
 pub struct Counts {
     pub least: usize,
     pub most: usize,

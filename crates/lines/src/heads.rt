@@ -9,7 +9,7 @@ use words::{Handle, LARGEST};
 
 // What was gathered of a line's numbers beside their sizes: how many (one past the most where one is no number or there are more),
 // whether one is out of range or below zero where none may be, whether one is below zero.
-#[derive(Drop)]
+#[derive(Clone, Copy)]
 struct Tally {
     count: usize,
     out: bool,
@@ -17,7 +17,7 @@ struct Tally {
 }
 
 // A letter with how many numbers, and whether the one that may be below zero is, or the number given instead. Their sizes stand in ten slots beside it.
-#[derive(Drop)]
+#[derive(Clone, Copy)]
 pub(crate) enum Head {
     Numbers {
         letter: u8,

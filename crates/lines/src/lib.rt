@@ -1,4 +1,5 @@
 // Lines of a trace: their events, and the reader.
+#![tactic(auto)]
 ghost use Rattle.std.specs.Prelude.{◌≡◌};
 ghost use Rattle.lines.specs.Reading.{refused, read};
 ghost use Rattle.lines.specs.Events.{event_of, padded, slots_of, Reads};
@@ -29,7 +30,7 @@ const FORM: u8 = 2;
 pub const RANGE: u8 = 3;
 
 // A line as the code has it, or the number given instead of one. N's handles stand in eight slots beside it.
-#[derive(Drop)]
+#[derive(Clone, Copy)]
 pub enum Event {
     Enter {
         thread: u32,
@@ -85,7 +86,7 @@ pub enum Event {
 }
 
 // What the writer answers: how many bytes it wrote, or the number given instead.
-#[derive(Drop)]
+#[derive(Clone, Copy)]
 pub enum Wrote {
     Bytes(usize),
     Refused(u8),

@@ -1,4 +1,5 @@
 // Decimal numbers in byte slices: read without a copy, and written in place.
+#![tactic(auto)]
 ghost use Rattle.std.specs.Prelude.{◌≡◌, ◌∷◌, ◌+◌, ◌<◌, ◌≤◌, ◌^◌, pos, negsuc, nat_abs, length};
 ghost use Rattle.numbers.specs.Decimal.{minus_sign, digits, shown, is_digit};
 ghost use Rattle.numbers.specs.Reading.{found, found_decimal, found_on, skipped, out_or_bad, field_at, starts_minus, negated};
@@ -14,7 +15,7 @@ const MINUS: u8 = b'-';
 const LARGEST_I32: u64 = 2147483647;
 
 // What a field is: a size within the bound, with its sign; a number out of the bound; no number.
-#[derive(Drop)]
+#[derive(Clone, Copy)]
 pub enum Field {
     Plus(u64),
     Minus(u64),
@@ -23,7 +24,7 @@ pub enum Field {
 }
 
 // A field, and the place past it.
-#[derive(Drop)]
+#[derive(Clone, Copy)]
 pub struct Found {
     pub field: Field,
     pub next: usize,
@@ -219,7 +220,7 @@ pub fn read(s: &[u8], at: usize, stop: u8, max: u64) -> Found
 }
 
 // A signed 32-bit number, or a number out of 32 bits.
-#[derive(Drop)]
+#[derive(Clone, Copy)]
 pub enum Int {
     Value(i32),
     Out,
@@ -277,7 +278,7 @@ pub fn is_negative(n: i32) -> bool
 }
 
 // Where a writer ended, or that there was no room.
-#[derive(Drop)]
+#[derive(Clone, Copy)]
 pub enum Room {
     To(usize),
     Short,

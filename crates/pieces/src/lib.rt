@@ -1,4 +1,5 @@
 // Unread input, cut into the lines that are handed to the step one after another.
+#![tactic(auto)]
 ghost use Rattle.std.specs.Prelude.{◌≡◌, ◌+◌, ◌≤◌, length, drop};
 ghost use Rattle.std.proofs.Math.Seq.{paste};
 ghost use Rattle.words.specs.Lists.{place_of};
@@ -32,7 +33,7 @@ fn before_lf(s: &[u8]) -> usize
 }
 
 // What comes next: a line of so many bytes, more must be read, or the end.
-#[derive(Drop)]
+#[derive(Clone, Copy)]
 pub enum Next {
     Line(usize),
     More,

@@ -1,4 +1,5 @@
 // Rows of numbers and a mark for each, in slices that the caller lends: reference rows and pin rows.
+#![tactic(auto)]
 mod marks;
 pub mod pins;
 pub mod references;

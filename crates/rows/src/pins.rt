@@ -15,7 +15,7 @@ use super::{Number, WORD, clear_row};
 pub const STRIDE: usize = 4;
 
 // A row: thread is 0 unless the family is critical.
-#[derive(Drop)]
+#[derive(Clone, Copy)]
 pub struct Pin {
     pub thread: Number,
     pub family: Number,
@@ -24,7 +24,7 @@ pub struct Pin {
 }
 
 // What stands in a row of the room, where it is used.
-#[derive(Drop)]
+#[derive(Clone, Copy)]
 pub enum Held {
     Row(Pin),
     Nothing,

@@ -16,7 +16,7 @@ use super::{MOST, Number, WORD, clear_row};
 pub const STRIDE: usize = 5;
 
 // A row: thread and frame are 0 for global and weak handles, else from 1; class is 0 where none is stated.
-#[derive(Drop)]
+#[derive(Clone, Copy)]
 pub struct Reference {
     pub thread: Number,
     pub handle: Number,
@@ -26,7 +26,7 @@ pub struct Reference {
 }
 
 // What stands in a row of the room, where it is used.
-#[derive(Drop)]
+#[derive(Clone, Copy)]
 pub enum Held {
     Row(Reference),
     Nothing,

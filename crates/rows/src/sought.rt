@@ -10,7 +10,7 @@ use super::{Number, WORD, pins, references};
 
 // Row by row the compiler knows which is sought, and this is as fast as code for each. Word by word it does not: told what is sought,
 // the loops over words took 2 to 6 instructions in a hundred more, so each stands with its own (`find_in`, `count_in`, `end_in`, `of_in`).
-#[derive(Drop)]
+#[derive(Clone, Copy)]
 pub(crate) enum Sought {
     // References: of a handle in a thread, of a thread's frame, of that frame or above, of a thread.
     Handle(Number, Number),

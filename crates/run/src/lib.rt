@@ -1,4 +1,5 @@
 // The loop that holds the lent tables: the lines of a piece of the input, handed to the step one after another.
+#![tactic(auto)]
 mod attach;
 mod bits;
 mod call;
@@ -28,7 +29,7 @@ use report::MOST_SHOWN;
 use rows::Number;
 
 // Why a run stops: a line was refused, the slice has no room for the findings of one more, more must be read, or the input is at its end.
-#[derive(Drop)]
+#[derive(Clone, Copy)]
 pub enum Stop {
     Refused(u8),
     Full,
@@ -37,7 +38,7 @@ pub enum Stop {
 }
 
 // How many bytes of the piece were taken, how many bytes of findings were put, how many findings these are, and why the run stopped.
-#[derive(Drop)]
+#[derive(Clone, Copy)]
 pub struct Passed {
     pub taken: usize,
     pub put: usize,
@@ -46,7 +47,7 @@ pub struct Passed {
 }
 
 // How far a run has come. The line that comes next stands from `at` up to `to`; where there is none, `stop` says why.
-#[derive(Drop)]
+#[derive(Clone, Copy)]
 struct Way {
     at: usize,
     to: usize,

@@ -13,7 +13,7 @@ use facts::classes::NO_CLASS;
 use rows::Number;
 use words::Handle;
 
-#[derive(Drop)]
+#[derive(Clone, Copy)]
 pub struct CallSight {
     pub env: Handle,
     pub pending: u64,

@@ -6,7 +6,7 @@ ghost use Rattle.sight.specs.Sights.{declare_sight};
 use rows::Number;
 
 // The class is declared or reserved already, and so is its super.
-#[derive(Drop)]
+#[derive(Clone, Copy)]
 pub struct DeclareSight {
     pub known: bool,
     pub under: bool,

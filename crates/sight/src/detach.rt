@@ -9,7 +9,7 @@ use crate::seen::in_critical;
 use rows::Number;
 
 // The thread has a critical buffer outstanding; how many monitors it has.
-#[derive(Drop)]
+#[derive(Clone, Copy)]
 pub struct DetachSight {
     pub critical: bool,
     pub monitors: u64,

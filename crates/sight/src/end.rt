@@ -9,7 +9,7 @@ ghost use Rattle.sight.specs.Sights.{end_sight};
 
 use rows::Number;
 
-#[derive(Drop)]
+#[derive(Clone, Copy)]
 pub struct EndSight {
     pub buffers: u32,
     pub monitors: u32,

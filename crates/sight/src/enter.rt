@@ -10,7 +10,7 @@ use rows::Number;
 use words::Handle;
 
 // The thread's env, whether another thread has this one, whether a handle named is alive, how many rows are free, and the thread's frames.
-#[derive(Drop)]
+#[derive(Clone, Copy)]
 pub struct EnterSight {
     pub env: Handle,
     pub elsewhere: bool,

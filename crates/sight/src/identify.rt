@@ -7,7 +7,7 @@ use rows::Number;
 use words::Handle;
 
 // The class is declared or reserved, the place where the identity stands or can be put, and whether that is one of the room.
-#[derive(Drop)]
+#[derive(Clone, Copy)]
 pub struct IdentifySight {
     pub known: bool,
     pub place: usize,

@@ -11,7 +11,7 @@ use crate::spot::{Spot, handle};
 use rows::Number;
 use words::Handle;
 
-#[derive(Drop)]
+#[derive(Clone, Copy)]
 pub struct LeaveSight {
     pub critical: bool,
     pub result: Spot,

@@ -12,14 +12,14 @@ use rows::Number;
 use words::Handle;
 
 // What is made: whether it is alive already, the lowest free row of its table, and whether that is one of the room.
-#[derive(Drop)]
+#[derive(Clone, Copy)]
 pub struct Made {
     pub alive: bool,
     pub row: usize,
     pub fits: bool,
 }
 
-#[derive(Drop)]
+#[derive(Clone, Copy)]
 pub struct ReturnSight {
     pub kind: Result,
     pub made: Made,

@@ -16,7 +16,7 @@ use facts::identities::YES;
 use rows::Number;
 use words::Handle;
 
-#[derive(Drop)]
+#[derive(Clone, Copy)]
 pub struct Spot {
     pub there: bool,
     pub row: usize,

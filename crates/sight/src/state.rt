@@ -10,7 +10,7 @@ use rows::Number;
 use words::Handle;
 
 // The class is declared or reserved, the handle is alive for the thread, and its row.
-#[derive(Drop)]
+#[derive(Clone, Copy)]
 pub struct StateSight {
     pub known: bool,
     pub alive: bool,

@@ -1,1 +1,2 @@
 // That each public function's promise leaves nothing open. There is no code here.
+#![tactic(auto)]

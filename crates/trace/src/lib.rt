@@ -1,4 +1,5 @@
 // The judging of a whole lent trace: its report's bytes in a lent slice.
+#![tactic(auto)]
 ghost use Rattle.std.specs.Prelude.{◌≡◌, ◌+◌, ◌*◌, ◌≤◌, length, take};
 ghost use Rattle.std.proofs.Math.Seq.{paste};
 ghost use Rattle.history.specs.Replies.{most_lines};
@@ -14,7 +15,7 @@ use rows::Number;
 use run::{Passed, Stop};
 
 // What is answered of a whole trace. None of it is a refusal: that of a line is part of the report.
-#[derive(Drop)]
+#[derive(Clone, Copy)]
 pub enum Reported {
     // The report has so many bytes, and stands at the start of the slice.
     Bytes(usize),
@@ -28,7 +29,7 @@ pub enum Reported {
 const SCRATCH: usize = 4096;
 
 // A run so far: how many bytes of the trace are taken, how many findings there are, how many bytes they take, the refusal or 0, and whether it goes on.
-#[derive(Drop)]
+#[derive(Clone, Copy)]
 struct Run {
     at: usize,
     findings: usize,

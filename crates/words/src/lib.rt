@@ -1,4 +1,5 @@
 // The words that all definitions share, and the type of what a line numbers.
+#![tactic(auto)]
 
 // A handle; identities, buffers and envs are numbered alike.
 pub type Handle = u64;

@@ -7,7 +7,7 @@ use words::Handle;
 
 // The letter, how many numbers there are, their sizes at the front, and whether the one that may be below zero is;
 // and whether the event has its handles, or its result and status, as an event has them.
-#[derive(Drop)]
+#[derive(Clone, Copy)]
 pub(crate) struct Taken {
     pub letter: u8,
     pub count: usize,

@@ -1,4 +1,5 @@
 // The writer of lines: what the recorder links.
+#![tactic(auto)]
 ghost use Rattle.std.specs.Prelude.{◌≡◌, ◌∷◌, suc, ◌+◌, ◌≤◌, length};
 ghost use Rattle.words.specs.Text.{tab};
 ghost use Rattle.numbers.specs.Decimal.{shown};

@@ -1,0 +1,36 @@
+-- `numbers::read_digits` meets its contract; the loop keeps what that of `read_on` keeps. Assumes nothing.
+use Prim.Native.Nat.{◌-◌}
+use native.Mathlib.Omega.{arith}
+use lib.ListN.{get_or}
+use Rattle.numbers.proofs.Run.{set_out, digit_still, at_stop, at_end, then_found, one_digit}
+use Rattle.numbers.proofs.read_digits.Goals as goal
+
+pub loop-i-init : goal.loop-i-init
+loop-i-init c = set_out _ _ _ _ _ (omega arith)
+
+pub returns-then-b-stop : goal.returns-then-b-stop
+returns-then-b-stop c = at_stop c.loop-i.invariant (omega arith) c.if-b-stop.true
+
+pub read_on-requires : goal.read_on-requires
+read_on-requires c = c.loop-i.invariant.in_bound
+
+pub returns-then-stop_is_digit-is_digit : goal.returns-then-stop_is_digit-is_digit
+returns-then-stop_is_digit-is_digit c = then_found c.loop-i.invariant c.read_on.ensures
+
+pub read_on-requires-then-tenth-n : goal.read_on-requires-then-tenth-n
+read_on-requires-then-tenth-n c = c.loop-i.invariant.in_bound
+
+pub returns-then-tenth-n : goal.returns-then-tenth-n
+returns-then-tenth-n c = then_found c.loop-i.invariant c.read_on-then-tenth-n.ensures
+
+pub overflow_sub-b : goal.overflow_sub-b
+overflow_sub-b c = (digit_still c.args.stop (get_or c.args.s.now c.loop-i.i 0) c.is_digit-stop_is_digit.ensures c.is_digit.ensures c.if-stop_is_digit-is_digit.false).low
+
+pub overflow_add-n : goal.overflow_add-n
+overflow_add-n c = let d = (digit_still c.args.stop (get_or c.args.s.now c.loop-i.i 0) c.is_digit-stop_is_digit.ensures c.is_digit.ensures c.if-stop_is_digit-is_digit.false) in omega (arith, c.wide.ensures)
+
+pub loop-i-preserved : goal.loop-i-preserved
+loop-i-preserved c = let d = (digit_still c.args.stop (get_or c.args.s.now c.loop-i.i 0) c.is_digit-stop_is_digit.ensures c.is_digit.ensures c.if-stop_is_digit-is_digit.false) in one_digit c.loop-i.invariant (omega arith) d c.wide.ensures (omega (arith, c.wide.ensures))
+
+pub returns : goal.returns
+returns c = at_end c.loop-i.invariant (omega arith)
