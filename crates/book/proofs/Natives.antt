@@ -8,7 +8,7 @@ use Rattle.history.specs.Acceptance.{deepest}
 use Rattle.rows.specs.Scan.{how_many}
 use Rattle.rows.specs.Marks.{bit}
 use Rattle.rows.proofs.ScanLaws.{how_many_suc}
-use Rattle.rows.proofs.BitLaws.{bit_zero, bit_suc, bit_and, bit_or, bit_of_zero}
+use Rattle.rows.proofs.BitLaws.{bit_zero, bit_suc, bit-bit_and, bit-bit_or, bit_of_zero}
 use Rattle.book.specs.Layout.{items_at, natives_at, function_at, asked_at}
 use Rattle.book.specs.Threads.{Row, stack, opened, attached_function, item_is, items_of, natives}
 use Rattle.book.specs.Turns.{ByTurns}
@@ -62,17 +62,17 @@ pub in_turn : (w : ℕ) → bit_and w all_calls ≡ 0 → ByTurns w
 unfolding ByTurns
 in_turn w z i l o =
     let e : 2 * (i / 2) + 1 ≡ i = omega arith in
-    and_false (bit w i) (bit all_calls i) (sym (bit_and w all_calls i) ∙ ap (λ (x : ℕ). bit x i) z ∙ bit_of_zero i)
+    and_false (bit w i) (bit all_calls i) (sym (bit-bit_and w all_calls i) ∙ ap (λ (x : ℕ). bit x i) z ∙ bit_of_zero i)
     (ap (λ (k : ℕ). bit all_calls k) (sym e) ∙ call_marked 32 (i / 2) (omega arith))
 
 -- of two words together, each
 pub turns_left : (v w : ℕ) → ByTurns (bit_or v w) → ByTurns v
 unfolding ByTurns
-turns_left v w h i l o = or_left (bit v i) (bit w i) (sym (bit_or v w i) ∙ h i l o)
+turns_left v w h i l o = or_left (bit v i) (bit w i) (sym (bit-bit_or v w i) ∙ h i l o)
 
 pub turns_right : (v w : ℕ) → ByTurns (bit_or v w) → ByTurns w
 unfolding ByTurns
-turns_right v w h i l o = or_right (bit v i) (bit w i) (sym (bit_or v w i) ∙ h i l o)
+turns_right v w h i l o = or_right (bit v i) (bit w i) (sym (bit-bit_or v w i) ∙ h i l o)
 
 one_at_most : (p : Bool) → one p ≤ 1
 one_at_most true = omega arith

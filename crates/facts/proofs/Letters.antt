@@ -3,7 +3,7 @@ use mathlib.Core.Path.{◌≡◌, refl}
 use mathlib.Core.Bool.{Bool, true, false}
 use native.Mathlib.Omega.{arith}
 use Rattle.words.specs.Choice.{one}
-use Rattle.facts.specs.Table.{place, result}
+use Rattle.facts.specs.Table.{place, result_in}
 use Rattle.facts.specs.Letters.{place_letter, result_letter, wanted_letter, wanted_in}
 use Rattle.facts.specs.declared.identities.Wanted.{Wanted}
 use Rattle.facts.specs.declared.identities.Wanted.TheVariants as Wanted
@@ -22,7 +22,7 @@ place_back Place.Identity = refl
 place_back Place.Buffer = refl
 place_back Place.Unused = refl
 
-pub result_back : (x : Result) → result (result_letter x) ≡ x
+pub result_back : (x : Result) → result_in (result_letter x) ≡ x
 result_back Result.Local = refl
 result_back Result.Global = refl
 result_back Result.Weak = refl

@@ -8,7 +8,7 @@ use native.Mathlib.Decide.{dec_lt}
 use lib.Dec.{eqb}
 use borrow.Author.Tests.{lt-ltb, le-ltb, eqb-true}
 use Rattle.words.specs.Choice.{one}
-use Rattle.facts.specs.Table.{place, result, Fact, fact_of, no_fact, is_function, family}
+use Rattle.facts.specs.Table.{place, result_in, Fact, fact_of, no_fact, is_function, family}
 use Rattle.facts.specs.Classes.{class_a, class_b}
 use Rattle.facts.specs.Places.{places_of}
 use Rattle.facts.specs.Identities.{wanted_of, writes_field}
@@ -64,10 +64,10 @@ module _ (t : List (List ℕ)) where
             ∙ ap place (at_every (λ n. place_letter (read (places_in n))) (λ f. place_letter (part (fact_of f))) tested (λ f e. ap (λ x. place_letter (part x)) (no_fact_outside f e) ∙ ap place_letter none) f)
             ∙ place_back (part (fact_of f))
 
-    pub result_there : agrees (λ n. n) (λ f. result_letter (fact_of f).result) t ≡ true → {r : Result} → r ≡ result x → r ≡ (fact_of f).result
+    pub result_there : agrees (λ n. n) (λ f. result_letter (fact_of f).result) t ≡ true → {r : Result} → r ≡ result_in x → r ≡ (fact_of f).result
     result_there tested given =
         given
-        ∙ ap result (here ∙ at_every (λ n. n) (λ f. result_letter (fact_of f).result) tested (λ f e. ap (λ x. result_letter x.result) (no_fact_outside f e)) f)
+        ∙ ap result_in (here ∙ at_every (λ n. n) (λ f. result_letter (fact_of f).result) tested (λ f e. ap (λ x. result_letter x.result) (no_fact_outside f e)) f)
         ∙ result_back (fact_of f).result
 
     pub mark_there : (allowed : ℕ → Bool) → agrees (λ n. one (marked n)) (λ f. one (allowed f)) t ≡ true → ((f : ℕ) → is_function f ≡ false → allowed f ≡ false) → marked x ≡ allowed f

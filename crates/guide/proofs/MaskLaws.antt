@@ -11,7 +11,7 @@ use lib.ListN.{length, get_or, set, length-set}
 use lib.Seq.{get_or-set_same, get_or-set_other}
 use Rattle.rows.specs.Marks.{bit}
 use Rattle.rows.specs.Table.{Layout, Table}
-use Rattle.rows.proofs.BitLaws.{bit_or}
+use Rattle.rows.proofs.BitLaws.{bit-bit_or}
 use Rattle.rows.proofs.MarkLaws.{set_same, set_other}
 use Rattle.guide.specs.Masks.{with_bit, all_bits, no_bits, Shown}
 use Rattle.guide.proofs.Changes.{some_inj, Added}
@@ -80,10 +80,10 @@ or_right true b e = refl
 or_right false b e = e
 
 pub bit_left : (a b i : ℕ) → bit a i ≡ true → bit (bit_or a b) i ≡ true
-bit_left a b i e = bit_or a b i ∙ or_left (bit a i) (bit b i) e
+bit_left a b i e = bit-bit_or a b i ∙ or_left (bit a i) (bit b i) e
 
 pub bit_right : (a b i : ℕ) → bit b i ≡ true → bit (bit_or a b) i ≡ true
-bit_right a b i e = bit_or a b i ∙ or_right (bit a i) (bit b i) e
+bit_right a b i e = bit-bit_or a b i ∙ or_right (bit a i) (bit b i) e
 
 pub bit_among : (G : List ℕ) (k n j i : ℕ) → j < n → bit (get_or G (k + j) 0) i ≡ true → bit (all_bits G k n) i ≡ true
 unfolding all_bits

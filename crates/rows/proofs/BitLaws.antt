@@ -76,16 +76,16 @@ not_digit zero h = refl
 not_digit (suc zero) h = refl
 not_digit (suc (suc x)) h = absurd (omega arith)
 
-pub bit_or : (a b i : ℕ) → bit (bit_or a b) i ≡ (bit a i || bit b i)
+pub bit-bit_or : (a b i : ℕ) → bit (bit_or a b) i ≡ (bit a i || bit b i)
 unfolding bit
-bit_or a b i =
+bit-bit_or a b i =
     let e : bit_or (a / 2 ^ i) (b / 2 ^ i) % 2 ≡ max (a / 2 ^ i % 2) (b / 2 ^ i % 2) = omega (arith, or_step (a / 2 ^ i) (b / 2 ^ i)) in
     ap (λ (n : ℕ). eqb (n % 2) 1) (or_shr a b i) ∙ ap (λ (n : ℕ). eqb n 1) e
     ∙ or_digit (a / 2 ^ i % 2) (b / 2 ^ i % 2) (two (a / 2 ^ i)) (two (b / 2 ^ i))
 
-pub bit_and : (a b i : ℕ) → bit (bit_and a b) i ≡ (bit a i && bit b i)
+pub bit-bit_and : (a b i : ℕ) → bit (bit_and a b) i ≡ (bit a i && bit b i)
 unfolding bit
-bit_and a b i =
+bit-bit_and a b i =
     let e : bit_and (a / 2 ^ i) (b / 2 ^ i) % 2 ≡ min (a / 2 ^ i % 2) (b / 2 ^ i % 2) = omega (arith, and_step (a / 2 ^ i) (b / 2 ^ i)) in
     ap (λ (n : ℕ). eqb (n % 2) 1) (and_shr a b i) ∙ ap (λ (n : ℕ). eqb n 1) e
     ∙ and_digit (a / 2 ^ i % 2) (b / 2 ^ i % 2) (two (a / 2 ^ i)) (two (b / 2 ^ i))

@@ -15,7 +15,7 @@ use Rattle.words.specs.Choice.{one}
 use Rattle.rows.specs.Scan.{how_many, lowest}
 use Rattle.rows.specs.Marks.{word, in_word, bit, used, free, marked, unmarked}
 use Rattle.rows.proofs.ScanLaws.{how_many_add, how_many_ext, how_many_next, lowest_next, lowest_hit, lowest_ext, lowest_le, lowest_below, lowest_none, lowest_add, lowest_cut, lowest_end}
-use Rattle.rows.proofs.BitLaws.{bit_or, bit_and, bit_not, bit_pow, bit_of_zero, ones_count, ones_low_count, trailing_not}
+use Rattle.rows.proofs.BitLaws.{bit-bit_or, bit-bit_and, bit_not, bit_pow, bit_of_zero, ones_count, ones_low_count, trailing_not}
 
 pub shl_one : (k : ℕ) → k < word → 1 * 2 ^ k % 2 ^ word ≡ 2 ^ k
 shl_one k h = let e : 1 * 2 ^ k ≡ 2 ^ k = omega arith in shl_exact 1 k word (omega arith) (omega arith) ∙ e
@@ -147,19 +147,19 @@ and_false true = refl
 and_false false = refl
 
 pub set_same : (w j : ℕ) → bit (bit_or w (2 ^ j)) j ≡ true
-set_same w j = bit_or w (2 ^ j) j ∙ ap (λ (x : Bool). bit w j || x) (bit_pow j j ∙ eq-eqb j j refl) ∙ or_true (bit w j)
+set_same w j = bit-bit_or w (2 ^ j) j ∙ ap (λ (x : Bool). bit w j || x) (bit_pow j j ∙ eq-eqb j j refl) ∙ or_true (bit w j)
 
 pub set_other : (w j i : ℕ) → (i ≡ j → ⊥) → bit (bit_or w (2 ^ j)) i ≡ bit w i
-set_other w j i n = bit_or w (2 ^ j) i ∙ ap (λ (x : Bool). bit w i || x) (bit_pow j i ∙ ne_eqb i j n) ∙ or_false (bit w i)
+set_other w j i n = bit-bit_or w (2 ^ j) i ∙ ap (λ (x : Bool). bit w i || x) (bit_pow j i ∙ ne_eqb i j n) ∙ or_false (bit w i)
 
 pub clear_same : (w j : ℕ) → j < word → bit (bit_and w (2 ^ word - 1 - 2 ^ j)) j ≡ false
 clear_same w j h =
-    bit_and w (2 ^ word - 1 - 2 ^ j) j
+    bit-bit_and w (2 ^ word - 1 - 2 ^ j) j
     ∙ ap (λ (x : Bool). bit w j && x) (bit_not word (2 ^ j) j (pow-lt h) h ∙ ap not (bit_pow j j ∙ eq-eqb j j refl)) ∙ and_false (bit w j)
 
 pub clear_other : (w j i : ℕ) → j < word → i < word → (i ≡ j → ⊥) → bit (bit_and w (2 ^ word - 1 - 2 ^ j)) i ≡ bit w i
 clear_other w j i h k n =
-    bit_and w (2 ^ word - 1 - 2 ^ j) i
+    bit-bit_and w (2 ^ word - 1 - 2 ^ j) i
     ∙ ap (λ (x : Bool). bit w i && x) (bit_not word (2 ^ j) i (pow-lt h) k ∙ ap not (bit_pow j i ∙ ne_eqb i j n)) ∙ and_true (bit w i)
 
 -- ---- one word of the list changed at the bit of row r

@@ -14,7 +14,7 @@ use Rattle.rows.specs.Slots.{holding}
 use Rattle.rows.specs.Table.{Layout, Table, table, room, matches, passes, ended, ended_if, ended_from}
 use Rattle.rows.specs.View.{slot}
 use Rattle.rows.specs.References.{references, from_frame}
-use Rattle.rows.proofs.BitLaws.{bit_and, bit_shr, trailing_lowest}
+use Rattle.rows.proofs.BitLaws.{bit-bit_and, bit_shr, trailing_lowest}
 use Rattle.rows.proofs.ScanLaws.{lowest_below}
 use Rattle.rows.proofs.RowLaws.{ended_out, slot_ended_same, slot_ended_other}
 use Rattle.rows.proofs.ViewLaws.{room_same, ended_lengths, passes_slot}
@@ -104,7 +104,7 @@ module _ (t f : ℕ) where
       go : (b : Bool) → bit own k ≡ b → passes references (from_frame t f) (table rs ms) (w * word + k) ≡ false
       go true o =
           right_false (matches references (from_frame t f) rs (w * word + k)) (used ms (w * word + k))
-          (mark ∙ left_of (bit (get_or ms w 0) k) (ap (λ (b : Bool). bit (get_or ms w 0) k && b) (sym o) ∙ sym (bit_and (get_or ms w 0) own k) ∙ e))
+          (mark ∙ left_of (bit (get_or ms w 0) k) (ap (λ (b : Bool). bit (get_or ms w 0) k && b) (sym o) ∙ sym (bit-bit_and (get_or ms w 0) own k) ∙ e))
       go false o = let y : (w * word + k) % word ≡ k = omega arith in h (w * word + k) i (ap (bit own) y ∙ o)
 
   -- the first such row of word w, and the next one

@@ -1,0 +1,10 @@
+-- `guide::pins::cell_of` meets its contract. Assumes nothing.
+use borrow.Author.Rules.{rules}
+use Rattle.guide.proofs.PinSteps.{cell_own, cell_other}
+use Rattle.guide.proofs.pins.cell_of.Goals as goal
+
+pub returns-then-t-le16 : goal.returns-then-t-le16
+returns-then-t-le16 c = (cell_own _ c.if-t-le16.true, search rules)
+
+pub returns : goal.returns
+returns c = (cell_other _ c.if-t-le16.false, search rules)

@@ -1,0 +1,7 @@
+-- `guide::references::held` meets its contract. Assumes nothing.
+use Rattle.guide.specs.References.{places}
+use Rattle.guide.proofs.Steps.{number_of}
+use Rattle.guide.proofs.references.held.Goals as goal
+
+pub returns : goal.returns
+returns c = number_of c.args.guide.now places _ _ _ c.cell_of.ensures.0 c.number_at.ensures

@@ -1,0 +1,14 @@
+-- The loop of `rows::sought::find_first`. Assumes nothing.
+use Prim.Native.Nat.{◌-◌, ◌≤◌}
+use mathlib.Core.Path.{◌≡◌}
+use Rattle.rows.specs.Marks.{in_word}
+use Rattle.rows.specs.Scan.{lowest}
+use Rattle.rows.specs.Sought.{is, layout}
+use Rattle.rows.specs.Table.{passes, table}
+use Rattle.rows.proofs.sought.find_first.Given as goal
+
+abbrev pub invariant-loop-i : goal.invariant-loop-i
+invariant-loop-i l = (l.i ≤ l.m) × (l.i ≡ lowest (in_word (passes (layout l.what) (is l.what) (table l.rows l.marks)) l.w) l.i)
+
+abbrev pub decreases-loop-i : goal.decreases-loop-i
+decreases-loop-i l = l.m - l.i
