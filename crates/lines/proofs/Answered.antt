@@ -1,18 +1,15 @@
 -- An event that is a refusal, and one that is none: what was read. Assumes nothing.
 use mathlib.Core.Path.{◌≡◌, refl}
 use mathlib.Core.Bool.{Bool, true, false}
-use mathlib.Core.List.{List, [], ◌∷◌}
 use Prim.Native.Nat.{ℕ}
 use native.Mathlib.Omega.{arith}
 use lib.IntN.{pos}
-use types.Run.{OneOf, miss}
-use denote.Enum.Declared.{tag_of}
 use Rattle.words.specs.Choice.{if◌then◌else◌}
 use Rattle.lines.specs.Line.{K, O, M, Line, N, X, C, R, A, D, Z, states, above_zero}
 use Rattle.lines.specs.Reading.{Read, says, refused}
 use Rattle.lines.specs.Events.{gives_status, event_of}
+use Rattle.lines.specs.declared.Event.{Event}
 use Rattle.lines.specs.declared.Event.TheVariants as Event
-use Rattle.lines.specs.contracts.Event.{the_type}
 
 pub event_refused : (x : Read) (k : ℕ) → event_of x ≡ Event.Refused k → x ≡ refused k
 event_refused (refused j) k h = cc
@@ -31,10 +28,10 @@ event_refused (says (states (K c s))) k h = let z : ◌≡◌ {A = ℕ} 0 1 = cc
 event_refused (says (states (O t v c))) k h = let z : ◌≡◌ {A = ℕ} 0 1 = cc in absurd (omega arith)
 event_refused (says (states (M x sort c static final))) k h = let z : ◌≡◌ {A = ℕ} 0 1 = cc in absurd (omega arith)
 
--- the tags of the events that are lines, all but the last
-abbrev pub line_tags : List ℕ
-line_tags = 0 ∷ 1 ∷ 2 ∷ 3 ∷ 4 ∷ 5 ∷ 6 ∷ 7 ∷ 8 ∷ 9 ∷ []
+-- an event that is a line: no refusal
+abbrev pub IsLine : Event → Type 0
+IsLine e = (k : ℕ) → e ≡ Event.Refused k → ⊥
 
-pub event_said : (x : Read) → OneOf line_tags (tag_of the_type (event_of x)) → (e : Line) × (x ≡ says e)
-event_said (refused j) w = absurd (miss line_tags 10 tt w)
+pub event_said : (x : Read) → IsLine (event_of x) → (e : Line) × (x ≡ says e)
+event_said (refused j) w = absurd (w j refl)
 event_said (says e) w = (e, refl)

@@ -9,8 +9,6 @@ use lib.Dec.{eqb}
 use lib.IntN.{ℤ}
 use lib.ListN.{length, get_or, set, take, drop, replicate, take-append-drop}
 use lib.Seq.{length-take-le}
-use types.Run.{OneOf}
-use denote.Enum.Declared.{tag_of}
 use borrow.Author.Tests.{eq-eqb, ne_eqb}
 use Rattle.numbers.specs.Signed.{signed}
 use Rattle.lines.specs.Line.{Line, largest}
@@ -24,9 +22,8 @@ use Rattle.lines.specs.declared.Event.{Event}
 use Rattle.lines.specs.declared.Event.TheVariants as Event
 use Rattle.lines.specs.declared.apart.Apart.TheVariants as Apart
 use Rattle.lines.specs.declared.heads.Head.TheVariants as Head
-use Rattle.lines.specs.contracts.Event.{the_type}
 use Rattle.lines.proofs.Signs.{Away, away, away_next}
-use Rattle.lines.proofs.Answered.{event_refused, line_tags, event_said}
+use Rattle.lines.proofs.Answered.{event_refused, IsLine, event_said}
 use Rattle.lines.proofs.GatheredLaws.{line_in_numbered}
 
 pub below : (size : ℕ) → (size ≡ 0 → ⊥) → largest - (size - 1) ≡ as_told (signed true size)
@@ -110,10 +107,10 @@ module _ (b n : ℕ) (minus : Bool) (vs ws : List ℕ) {e : Event} (told : e ≡
   pub apart_refused : {k : ℕ} → e ≡ Event.Refused k → (x : Read) → Headed x (Head.Numbers b n minus) vs → Tells x ws (Apart.Refused k) ws
   apart_refused {k} h x r = rw (sym r.read ∙ event_refused (line_in b n minus vs) k (sym told ∙ h)) (refl, refl)
 
-  module _ (ten : length vs ≡ most_fields) (tag : OneOf line_tags (tag_of the_type e)) where
+  module _ (ten : length vs ≡ most_fields) (tag : IsLine e) where
     pub apart_line : {left : List ℕ} → left ≡ sizes_told b minus vs → (x : Read) → Headed x (Head.Numbers b n minus) vs → Tells x ws (Apart.Line b n) left
     apart_line w x r =
-        let s = event_said (line_in b n minus vs) (subst (λ (y : Event). OneOf line_tags (tag_of the_type y)) told tag) in
+        let s = event_said (line_in b n minus vs) (subst IsLine told tag) in
         let l = s.0 in
         let k = line_in_numbered b n minus vs l s.1 in
         let q : x ≡ says l = sym r.read ∙ s.1 in

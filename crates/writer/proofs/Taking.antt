@@ -8,8 +8,6 @@ use native.Mathlib.Omega.{arith}
 use lib.Dec.{eqb, leb}
 use lib.IntN.{ℤ, pos, negsuc, nat_abs}
 use lib.ListN.{length, get_or, take}
-use types.Run.{OneOf}
-use denote.Enum.Declared.{tag_of}
 use borrow.Author.Tests.{leb-true, ne_eqb}
 use Rattle.words.specs.Choice.{if◌then◌else◌}
 use Rattle.numbers.specs.Signed.{is_negative}
@@ -23,13 +21,12 @@ use Rattle.lines.specs.declared.Event.{Event}
 use Rattle.lines.specs.declared.Event.TheVariants as Event
 use Rattle.lines.specs.declared.Wrote.{Wrote}
 use Rattle.lines.specs.declared.Wrote.TheVariants as Wrote
-use Rattle.lines.specs.contracts.Event.{the_type}
 use Rattle.lines.proofs.Tests.{both}
 use Rattle.lines.proofs.Listed.{of_length}
 use Rattle.lines.proofs.Formed.{is_within}
 use Rattle.lines.proofs.FormLaws.{enter_in}
 use Rattle.lines.proofs.GatheredLaws.{line_in_said}
-use Rattle.lines.proofs.Answered.{event_refused, line_tags, event_said}
+use Rattle.lines.proofs.Answered.{event_refused, IsLine, event_said}
 use Rattle.writer.specs.Laid.{Writes, Answers}
 use Rattle.writer.specs.Apart.{are_empty, apart_return, apart}
 use Rattle.writer.specs.declared.apart.Taken.{Taken}
@@ -127,9 +124,9 @@ module _ (b n : ℕ) (minus : Bool) (vs d : List ℕ) {e : Event} (told : e ≡ 
   pub numbers_refused : {k : ℕ} → e ≡ Event.Refused k → Answers (line_in b n minus vs) d (Wrote.Refused k) d
   numbers_refused {k} h = rw (event_refused (line_in b n minus vs) k (sym told ∙ h)) (refl, refl)
 
-  module _ (tag : OneOf line_tags (tag_of the_type e)) where
+  module _ (tag : IsLine e) where
     said : (l : Line) × (line_in b n minus vs ≡ says l)
-    said = event_said (line_in b n minus vs) (subst (λ (x : Event). OneOf line_tags (tag_of the_type x)) told tag)
+    said = event_said (line_in b n minus vs) (subst IsLine told tag)
 
     pub numbers_few : n ≤ most_fields
     numbers_few = (line_in_said b n minus vs said.0 said.1).0

@@ -1,0 +1,13 @@
+-- The loop of `lines::named`. Assumes nothing.
+use mathlib.Core.Path.{◌≡◌}
+use Prim.Native.Nat.{◌-◌, ◌≤◌}
+use lib.ListN.{length, take}
+use Rattle.lines.specs.Events.{padded}
+use Rattle.lines.specs.Sizes.{named}
+use Rattle.lines.proofs.named.Given as goal
+
+abbrev pub invariant-loop-i : goal.invariant-loop-i
+invariant-loop-i l = (length l.v ≡ 10) × (l.i ≤ 8) × (l.h ≡ padded (take l.i (named l.n l.v)))
+
+abbrev pub decreases-loop-i : goal.decreases-loop-i
+decreases-loop-i l = 8 - l.i
