@@ -1,5 +1,6 @@
 // What an accepted line does to the lent tables, all but the open items.
 #![tactic(auto)]
+
 pub mod call;
 pub mod declare;
 pub mod detach;

@@ -1,5 +1,6 @@
 // What the judge answers to a line: the number given instead of an event, or the line's findings in their order.
 #![tactic(auto)]
+
 ghost use Rattle.std.specs.Prelude.{◌≡◌, []};
 ghost use Rattle.answers.specs.Answer.{refused_with, answer_of, with_found, found_if};
 ghost use Rattle.answers.specs.Listed.{of_rule, listed, is_clean};

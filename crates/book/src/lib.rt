@@ -1,5 +1,6 @@
 // The lent thread book: a row of numbers for each thread, and row 0 for the trace itself. Every function takes any contents, any thread and a short book too.
 #![tactic(auto)]
+
 ghost use Rattle.std.specs.Prelude.{◌≡◌, ℕ, ◌-◌, ◌/◌, ◌<◌, ◌≤◌, min, max, false, length};
 ghost use Rattle.std.proofs.Math.Option.{some};
 ghost use Rattle.words.specs.Choice.{one};

@@ -1,5 +1,6 @@
 // The lent class table: a number for each class, its super, or 0 where it is not declared; class c stands at index c - 1. The identities stand behind.
 #![tactic(auto)]
+
 pub mod identities;
 
 ghost use Rattle.std.specs.Prelude.{◌≡◌};

@@ -63,9 +63,9 @@ makes_placed past e h x m = made_placed past e h x (made_makes past e x m)
 
 pub gets_owned : (e : Line) → is_allowed e ≡ true → (x : Pin) → Memᴰ x (gets e) → unowned x ≡ false
 unfolding gets
-gets_owned (N t env hs) h x m = absurd (Memᴰ.not_nil m)
-gets_owned (X t r) h x m = absurd (Memᴰ.not_nil m)
-gets_owned (C t env f a b c n) h x m = absurd (Memᴰ.not_nil m)
+gets_owned (N t env hs) h x m = absurd (Memᴰ.not-nil m)
+gets_owned (X t r) h x m = absurd (Memᴰ.not-nil m)
+gets_owned (C t env f a b c n) h x m = absurd (Memᴰ.not-nil m)
 gets_owned (R t f r p) h x m = go (is_buffer_result (fact_of f).result && not (eqb (above_zero r) 0)) m
   where
     its_own : unowned (pin t f (above_zero r)) ≡ false
@@ -77,9 +77,9 @@ gets_owned (R t f r p) h x m = go (is_buffer_result (fact_of f).result && not (e
 
     go : (q : Bool) → Memᴰ x (if q then pin t f (above_zero r) ∷ [] else []) → unowned x ≡ false
     go true m = ap unowned (Memᴰ.eq_of_singleton m) ∙ its_own
-    go false m = absurd (Memᴰ.not_nil m)
-gets_owned Z h x m = absurd (Memᴰ.not_nil m)
-gets_owned (states s) h x m = absurd (Memᴰ.not_nil m)
+    go false m = absurd (Memᴰ.not-nil m)
+gets_owned Z h x m = absurd (Memᴰ.not-nil m)
+gets_owned (states s) h x m = absurd (Memᴰ.not-nil m)
 
 -- ---- what it asks
 

@@ -60,7 +60,7 @@ out_now past y i =
 
 got_at : (past : History) (y : Made Pin) → Memᴰ y (held (pin_rows past)) → GotAt y past
 unfolding pin_rows
-got_at [] y m = absurd (Memᴰ.not_nil m)
+got_at [] y m = absurd (Memᴰ.not-nil m)
 got_at (e ∷ past) y m =
     either (member_put_or_add_all (map (made_at (suc (length past))) (gets e)) (wipe_first (by_what (releases e)) (pin_rows past)) m) new
     (λ k. old (got_at past y (but_first_member (by_what (releases e)) (held (pin_rows past)) (subst (Memᴰ y) (held_wipe_first (by_what (releases e)) (pin_rows past)) k))))
@@ -102,7 +102,7 @@ left_rows room past so_far e =
 
 lives_at : (room : Room) (past : History) → Accepted room past → (y : Made Alive) → Memᴰ y (held (reference_rows past)) → LivesAt y past
 unfolding reference_rows lives_on
-lives_at room [] at_start y m = absurd (Memᴰ.not_nil m)
+lives_at room [] at_start y m = absurd (Memᴰ.not-nil m)
 lives_at room (e ∷ past) (and_line _ _ few fine no_refusal so_far) y m =
     either (member_put_or_add_all (map (made_at (suc (length past))) (makes e (depth (thread_of e) past))) (wipe (by_what (frame_gone (e ∷ past))) (wipe_first (by_what (deletes e)) (reference_rows past))) m) new
     (λ k. old (subst (Memᴰ y) (left_rows room past so_far e) k) (lives_at room past so_far y))

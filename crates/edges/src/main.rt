@@ -1,6 +1,7 @@
 // Reads cases from standard input and prints what the reader answers to each: the case's name, then the number given instead of an
 // event, or the event's letter and numbers. An N has its count and all eight slots; an R has its result, then its status.
 #![tactic(auto)]
+
 ghost use Rattle.std.specs.Prelude.{◌<◌, ◌≤◌, length};
 ghost use Rattle.io.specs.Counts.{IsPrefixLen};
 

@@ -1,5 +1,6 @@
 // A line of each event: weighed, and where it is accepted, what it does. Its thread's open items are told, and left as they are.
 #![tactic(auto)]
+
 pub mod attach;
 pub mod call;
 pub mod declare;

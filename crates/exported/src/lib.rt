@@ -1,5 +1,6 @@
 // The judge for C and Rust: a start and one step over lent slices, the findings as numbers; a piece of many lines, the findings as bytes; the list of leaks; and a whole trace with its report.
 #![tactic(auto)]
+
 ghost use Rattle.std.specs.Prelude.{◌≡◌, List, ℕ, ◌+◌, ◌*◌, ◌≤◌, length, take};
 ghost use Rattle.answers.specs.Answer.{most_found};
 ghost use Rattle.tables.specs.Tables.{tables};

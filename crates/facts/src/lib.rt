@@ -1,5 +1,6 @@
 // What each JNI function takes and gives, by its number.
 #![tactic(auto)]
+
 ghost use Rattle.std.specs.Prelude.{◌≡◌};
 ghost use Rattle.facts.specs.Table.{result_in, fact_of, is_allowed_pending, is_allowed_critical, family, is_critical};
 ghost use Rattle.facts.specs.Letters.{family_in};

@@ -1,5 +1,6 @@
 // A guide of lent rows: words beside them that tell where a row stands, so that it is found without a look at all of them. Whoever holds the rows for many lines fills one and keeps it.
 #![tactic(auto)]
+
 pub mod pins;
 pub mod references;
 mod spread;

@@ -74,21 +74,21 @@ buffer_place Place.Unused h = absurd (false≢true h)
 
 getting : (e : Line) (x : Pin) → Memᴰ x (gets e) → Gets e x
 unfolding gets
-getting (N t env hs) x m = absurd (Memᴰ.not_nil m)
-getting (X t r) x m = absurd (Memᴰ.not_nil m)
-getting (C t env f a b c n) x m = absurd (Memᴰ.not_nil m)
+getting (N t env hs) x m = absurd (Memᴰ.not-nil m)
+getting (X t r) x m = absurd (Memᴰ.not-nil m)
+getting (C t env f a b c n) x m = absurd (Memᴰ.not-nil m)
 getting (R t f (pos b) p) x m = go (is_buffer_result (fact_of f).result) refl (eqb b 0) refl m
   where
     go : (q : Bool) → is_buffer_result (fact_of f).result ≡ q → (z : Bool) → eqb b 0 ≡ z → Memᴰ x (if q && not z then pin t f b ∷ [] else []) → Gets (R t f (pos b) p) x
     go true eq false ez m = rw (Memᴰ.eq_of_singleton m) (at_return t f b p (buffer_result (fact_of f).result eq) (eqb-false _ _ ez))
-    go true eq true ez m = absurd (Memᴰ.not_nil m)
-    go false eq z ez m = absurd (Memᴰ.not_nil m)
+    go true eq true ez m = absurd (Memᴰ.not-nil m)
+    go false eq z ez m = absurd (Memᴰ.not-nil m)
 getting (R t f (negsuc b) p) x m = go (is_buffer_result (fact_of f).result) m
   where
     go : (q : Bool) → Memᴰ x (if q && false then pin t f 0 ∷ [] else []) → Gets (R t f (negsuc b) p) x
-    go true m = absurd (Memᴰ.not_nil m)
-    go false m = absurd (Memᴰ.not_nil m)
-getting Z x m = absurd (Memᴰ.not_nil m)
+    go true m = absurd (Memᴰ.not-nil m)
+    go false m = absurd (Memᴰ.not-nil m)
+getting Z x m = absurd (Memᴰ.not-nil m)
 
 is_got : (e : Line) (x : Pin) → Gets e x → Memᴰ x (gets e)
 unfolding gets

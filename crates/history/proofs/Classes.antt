@@ -104,7 +104,7 @@ class_some c h z = omega (arith, leb-true 1 c (and_left (leb 1 c) (leb c classes
 module _ (room : Room) where
   -- the super of a declared class is what its K says
   pub declared_is : (past : History) → Accepted room past → (c s : ℕ) → Memᴰ (states (K c s)) past → (super_of past c ≡ s) × (s ≢ no_class)
-  declared_is _ at_start c s m = absurd (Memᴰ.not_nil m)
+  declared_is _ at_start c s m = absurd (Memᴰ.not-nil m)
   declared_is _ (and_line e past few fine r so_far) c s m =
       go (declaring e) fine (passed room e past r) (declared_is past so_far c s) (Memᴰ.cases_cons m)
     where
@@ -156,7 +156,7 @@ module _ (room : Room) where
     over : Known past s
 
   declared_so : (past : History) → Accepted room past → (c s : ℕ) → Memᴰ (states (K c s)) past → Declared past c s
-  declared_so _ at_start c s m = absurd (Memᴰ.not_nil m)
+  declared_so _ at_start c s m = absurd (Memᴰ.not-nil m)
   declared_so _ (and_line e past few fine r so_far) c s m =
       either (Memᴰ.cases_cons m)
       (λ is.
@@ -258,7 +258,7 @@ module _ (room : Room) where
   super_root _ _ class_under = (refl, λ z. omega (arith, z))
   super_root _ _ string_under = (refl, λ z. omega (arith, z))
   super_root _ _ throwable_under = (refl, λ z. omega (arith, z))
-  super_root _ _ (by_K c s m) = absurd (Memᴰ.not_nil m)
+  super_root _ _ (by_K c s m) = absurd (Memᴰ.not-nil m)
 
   root_only : (c k : ℕ) → Below [] c k → (k ≡ object) × (c ≢ object)
   root_only _ _ (by_super c s sp) = super_root c s sp
@@ -295,7 +295,7 @@ module _ (room : Room) where
 
   count_more : (f g : ℕ → Bool) → ((x : ℕ) → f x ≡ true → g x ≡ true) → (d : ℕ) → f d ≡ false → g d ≡ true → (l : List ℕ) → Memᴰ d l
       → count f l < count g l
-  count_more f g h d fd gd [] m = absurd (Memᴰ.not_nil m)
+  count_more f g h d fd gd [] m = absurd (Memᴰ.not-nil m)
   count_more f g h d fd gd (x ∷ l) m =
       either (Memᴰ.cases_cons m)
       (λ is. omega (arith, count_cons f x l, count_cons g x l, count_le f g h l, ap one (subst (λ (y : ℕ). f y ≡ false) is fd), ap one (subst (λ (y : ℕ). g y ≡ true) is gd)))

@@ -149,7 +149,7 @@ module _ {ℓ} {A : Type ℓ} where
   -- ---- one that passes, and members
 
   pub member_counts : (f : A → Bool) (l : List A) (x : A) → Memᴰ x l → f x ≡ true → 0 < count f l
-  member_counts f [] x m h = absurd (Memᴰ.not_nil m)
+  member_counts f [] x m h = absurd (Memᴰ.not-nil m)
   member_counts f (y ∷ l) x m h = go (f y) refl (Memᴰ.cases_cons m) (λ k. member_counts f l x k h)
     where
       go : (q : Bool) → f y ≡ q → (x ≡ y) ⊎ Memᴰ x l → (Memᴰ x l → 0 < count f l) → 0 < (if q then suc (count f l) else count f l)
@@ -192,7 +192,7 @@ module _ {ℓ} {A : Type ℓ} where
   none_counts f l h = omega (arith, ltb-false 0 (count f l) (sym (any_counts f l) ∙ h))
 
   pub keep_member : {x : A} (f : A → Bool) (l : List A) → Memᴰ x (keep f l) → Memᴰ x l × (f x ≡ true)
-  keep_member f [] m = absurd (Memᴰ.not_nil m)
+  keep_member f [] m = absurd (Memᴰ.not-nil m)
   keep_member {x} f (y ∷ l) m = go (f y) refl m (keep_member f l)
     where
       go : (q : Bool) → f y ≡ q → Memᴰ x (if q then y ∷ keep f l else keep f l)
@@ -217,7 +217,7 @@ module _ {ℓ} {A : Type ℓ} where
           first (inr h) = Memᴰ.tail (ih h)
 
   pub member_kept : {x : A} (f : A → Bool) (l : List A) → Memᴰ x l → f x ≡ true → Memᴰ x (keep f l)
-  member_kept f [] m h = absurd (Memᴰ.not_nil m)
+  member_kept f [] m h = absurd (Memᴰ.not-nil m)
   member_kept {x} f (y ∷ l) m h = go (Memᴰ.cases_cons m) (λ i. member_kept f l i h)
     where
       rest : (q : Bool) → Memᴰ x (keep f l) → Memᴰ x (if q then y ∷ keep f l else keep f l)
@@ -244,7 +244,7 @@ count_map f g [] = refl
 count_map f g (x ∷ l) = omega (arith, count_cons f (g x) (map g l), count_cons (λ y. f (g y)) x l, count_map f g l)
 
 pub map_member : {A B : Type 0} {y : B} (f : A → B) (l : List A) → Memᴰ y (map f l) → (x : A) × Memᴰ x l × (y ≡ f x)
-map_member f [] m = absurd (Memᴰ.not_nil m)
+map_member f [] m = absurd (Memᴰ.not-nil m)
 map_member {A} {B} {y} f (x ∷ l) m = go (Memᴰ.cases_cons m) (map_member f l)
   where
     go : (y ≡ f x) ⊎ Memᴰ y (map f l) → (Memᴰ y (map f l) → (z : A) × Memᴰ z l × (y ≡ f z)) → (z : A) × Memᴰ z (x ∷ l) × (y ≡ f z)
@@ -252,5 +252,5 @@ map_member {A} {B} {y} f (x ∷ l) m = go (Memᴰ.cases_cons m) (map_member f l)
     go (inr h) ih = let (z, i, e) = ih h in (z, Memᴰ.tail i, e)
 
 pub member_map : {A B : Type 0} {x : A} (f : A → B) (l : List A) → Memᴰ x l → Memᴰ (f x) (map f l)
-member_map f [] m = absurd (Memᴰ.not_nil m)
+member_map f [] m = absurd (Memᴰ.not-nil m)
 member_map f (y ∷ l) m = either (Memᴰ.cases_cons m) (λ e. Memᴰ.head (ap f e)) (λ h. Memᴰ.tail (member_map f l h))

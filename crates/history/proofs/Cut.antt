@@ -29,7 +29,7 @@ no_feed : (b : ℕ) (bs : List ℕ) → b ≢ line_feed → ¬ Memᴰ line_feed 
 no_feed b bs d h m = either (Memᴰ.cases_cons m) (λ e. d (sym e)) h
 
 cut_onto : (b : ℕ) (lines : List (List ℕ)) → b ≢ line_feed → Cut lines → Cut (onto_first b lines)
-cut_onto b _ d no_more = rest (b ∷ []) (no_feed b [] d Memᴰ.not_nil) (λ e. nil≢cons (sym e))
+cut_onto b _ d no_more = rest (b ∷ []) (no_feed b [] d Memᴰ.not-nil) (λ e. nil≢cons (sym e))
 cut_onto b _ d (ended bs lines h k) = ended (b ∷ bs) lines (no_feed b bs d h) k
 cut_onto b _ d (rest bs h s) = rest (b ∷ bs) (no_feed b bs d h) (λ e. nil≢cons (sym e))
 
@@ -38,5 +38,5 @@ unfolding lines_of
 lines_cut [] = no_more
 lines_cut (b ∷ input) =
     whether (eqb b line_feed)
-    (λ is. rw (is, eqb-true b line_feed is) (ended [] (lines_of input) Memᴰ.not_nil (lines_cut input)))
+    (λ is. rw (is, eqb-true b line_feed is) (ended [] (lines_of input) Memᴰ.not-nil (lines_cut input)))
     (λ is. rw is (cut_onto b (lines_of input) (eqb-false b line_feed is) (lines_cut input)))

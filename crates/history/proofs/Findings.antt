@@ -67,7 +67,7 @@ record Is (g : Finding) (line rule place : ℕ) (b : Option ℕ) : Type 0 where
   thing : b ≡ some g.thing
 
 found_is : (g : Finding) (line rule place : ℕ) (b : Option ℕ) → Memᴰ g (found line rule place b) → Is g line rule place b
-found_is g line rule place none m = absurd (Memᴰ.not_nil m)
+found_is g line rule place none m = absurd (Memᴰ.not-nil m)
 found_is g line rule place (some v) m =
     let e = Memᴰ.eq_of_singleton m in
     record {
@@ -83,7 +83,7 @@ is_found g line rule place b k =
 
 found_ordered : (line rule place : ℕ) (b : Option ℕ) → Ordered (found line rule place b)
 found_ordered line rule place none = no_more
-found_ordered line rule place (some v) = then_more _ [] (λ g m. absurd (Memᴰ.not_nil m)) no_more
+found_ordered line rule place (some v) = then_more _ [] (λ g m. absurd (Memᴰ.not-nil m)) no_more
 
 module _ (line : ℕ) (e : Line) (v : Seen) where
   of_place : ℕ → ℕ → List Finding
@@ -138,7 +138,7 @@ line_is room past so_far e g = (
 
 finding_breached : (room : Room) (past : History) → Accepted room past → (g : Finding) → Memᴰ g (findings past) → Breached g past
 unfolding findings
-finding_breached room [] a g m = absurd (Memᴰ.not_nil m)
+finding_breached room [] a g m = absurd (Memᴰ.not-nil m)
 finding_breached room (e ∷ past) a g m =
     either (Memᴰ.append_cases (findings past) m)
     (λ h. later (finding_breached room past (before room e past a) g h))
@@ -173,7 +173,7 @@ line_number past e g m =
 
 within_lines : (past : History) (g : Finding) → Memᴰ g (findings past) → g.line ≤ length past
 unfolding findings
-within_lines [] g m = absurd (Memᴰ.not_nil m)
+within_lines [] g m = absurd (Memᴰ.not-nil m)
 within_lines (e ∷ past) g m =
     either (Memᴰ.append_cases (findings past) m) (λ h. omega (arith, within_lines past g h)) (λ h. omega (arith, line_number past e g h))
 

@@ -104,11 +104,11 @@ later e past x i none k =
     }
 
 here : (x sort c static final : ℕ) (past : History) → Identified x sort static final (states (M x sort c static final) ∷ past)
-here x sort c static final past = record { newer = []; class = c; older = past; split = refl; last = λ s d u v m. Memᴰ.not_nil m }
+here x sort c static final past = record { newer = []; class = c; older = past; split = refl; last = λ s d u v m. Memᴰ.not-nil m }
 
 -- of every history an identity is stated so, or never
 stated_or_not : (past : History) (x : ℕ) → Is past x (identity_of past x) ⊎ (Unstated x past × (identity_of past x ≡ not_stated))
-stated_or_not [] x = inr (λ s c u v m. Memᴰ.not_nil m, unfold identity_of in refl)
+stated_or_not [] x = inr (λ s c u v m. Memᴰ.not-nil m, unfold identity_of in refl)
 stated_or_not (e ∷ past) x = go (identifying e) (stated_or_not past x)
   where
     kept : (e : Line) → ((s c u v : ℕ) → states (M x s c u v) ≢ e) → Is past x (identity_of past x) ⊎ (Unstated x past × (identity_of past x ≡ not_stated))
@@ -177,7 +177,7 @@ identities_are past x = (there past x, λ (sort, static, final, i). back past i.
     there past x m = either (stated_or_not past x) (λ k. ((identity_of past x).sort, (identity_of past x).isstatic, (identity_of past x).isfinal, k)) (λ k. absurd (never past k.0 m))
       where
         never : (past : History) → Unstated x past → ¬ Memᴰ x (identities past)
-        never [] none m = Memᴰ.not_nil m
+        never [] none m = Memᴰ.not-nil m
         never (e ∷ past) none m = go (identifying e) none m (never past (λ s c u v k. none s c u v (Memᴰ.tail k)))
           where
             go : {e : Line} → Identifying e → Unstated x (e ∷ past) → Memᴰ x (identities (e ∷ past)) → ¬ Memᴰ x (identities past) → ⊥
@@ -190,7 +190,7 @@ identities_are past x = (there past x, λ (sort, static, final, i). back past i.
                     either (Memᴰ.cases_cons (subst (Memᴰ x) is m)) (λ z. none sort c static final (Memᴰ.head (ap (λ (w : ℕ). states (M w sort c static final)) z))) ih
 
     back : (past : History) (c sort static final : ℕ) → Memᴰ (states (M x sort c static final)) past → Memᴰ x (identities past)
-    back [] c sort static final m = absurd (Memᴰ.not_nil m)
+    back [] c sort static final m = absurd (Memᴰ.not-nil m)
     back (e ∷ past) c sort static final m = go (identifying e) (Memᴰ.cases_cons m) (back past c sort static final)
       where
         go : {e : Line} → Identifying e → (states (M x sort c static final) ≡ e) ⊎ Memᴰ (states (M x sort c static final)) past

@@ -69,7 +69,7 @@ member_by_line {z} (x ∷ xs) m =
 -- ---- in order
 
 placed_in_order : (x : Leak) (ys : List Leak) → InOrder ys → InOrder (placed x ys)
-placed_in_order x [] k = then_more x [] (λ y m. absurd (Memᴰ.not_nil m)) no_more
+placed_in_order x [] k = then_more x [] (λ y m. absurd (Memᴰ.not-nil m)) no_more
 placed_in_order x (y ∷ ys) (then_more _ _ before rest) = go (leb x.line y.line) refl (placed_in_order x ys rest)
   where
     go : (b : Bool) → leb x.line y.line ≡ b → InOrder (placed x ys) → InOrder (if b then x ∷ y ∷ ys else y ∷ placed x ys)

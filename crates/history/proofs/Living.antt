@@ -34,23 +34,23 @@ module _ (past : History) where
   made_makes (N t env hs) x m =
       let (h, i, e) = map_member (local t (suc (depth t past))) hs m in
       rw e (argument t env h hs i)
-  made_makes (X t r) x m = absurd (Memᴰ.not_nil m)
-  made_makes (C t env f a b c n) x m = absurd (Memᴰ.not_nil m)
-  made_makes (R t f (negsuc k) p) x m = absurd (Memᴰ.not_nil m)
+  made_makes (X t r) x m = absurd (Memᴰ.not-nil m)
+  made_makes (C t env f a b c n) x m = absurd (Memᴰ.not-nil m)
+  made_makes (R t f (negsuc k) p) x m = absurd (Memᴰ.not-nil m)
   made_makes (R t f (pos h) p) x m = go (eqb h 0) refl (fact_of f).result refl m
     where
       go : (q : Bool) → eqb h 0 ≡ q → (k : Result) → (fact_of f).result ≡ k → Memᴰ x (if q then [] else result_made k t (depth t past) h)
           → Makes past (R t f (pos h) p) x
-      go true z k is m = absurd (Memᴰ.not_nil m)
+      go true z k is m = absurd (Memᴰ.not-nil m)
       go false z Result.Local is m = rw (Memᴰ.eq_of_singleton m) (local_result t f h p is (eqb-false _ _ z))
       go false z Result.Global is m = rw (Memᴰ.eq_of_singleton m) (global_result t f h p is (eqb-false _ _ z))
       go false z Result.Weak is m = rw (Memᴰ.eq_of_singleton m) (weak_result t f h p is (eqb-false _ _ z))
-      go false z Result.Identity is m = absurd (Memᴰ.not_nil m)
-      go false z Result.Buffer is m = absurd (Memᴰ.not_nil m)
-      go false z Result.Status is m = absurd (Memᴰ.not_nil m)
-      go false z Result.Nothing is m = absurd (Memᴰ.not_nil m)
-  made_makes Z x m = absurd (Memᴰ.not_nil m)
-  made_makes (states s) x m = absurd (Memᴰ.not_nil m)
+      go false z Result.Identity is m = absurd (Memᴰ.not-nil m)
+      go false z Result.Buffer is m = absurd (Memᴰ.not-nil m)
+      go false z Result.Status is m = absurd (Memᴰ.not-nil m)
+      go false z Result.Nothing is m = absurd (Memᴰ.not-nil m)
+  made_makes Z x m = absurd (Memᴰ.not-nil m)
+  made_makes (states s) x m = absurd (Memᴰ.not-nil m)
 
   pub result_makes : (t f h p : ℕ) (k : Result) → (fact_of f).result ≡ k → h ≢ 0 → makes (R t f (pos h) p) (depth t past) ≡ result_made k t (depth t past) h
   unfolding makes
@@ -164,7 +164,7 @@ module _ (past : History) where
 -- every local alive stands in a frame that is there
 pub frame_stands : (past : History) (x : Alive) → Memᴰ x (living past) → frame_gone past x ≡ false
 unfolding living ends
-frame_stands [] x m = absurd (Memᴰ.not_nil m)
+frame_stands [] x m = absurd (Memᴰ.not-nil m)
 frame_stands (e ∷ past) x m =
     either (Memᴰ.append_cases (makes e (depth (thread_of e) past)) m)
     (λ h. there past e x (made_makes past e x h))
@@ -194,7 +194,7 @@ lives_on e past x d k =
 
 alive_lives : (past : History) (x : Alive) → Memᴰ x (living past) → Lives x past
 unfolding living
-alive_lives [] x m = absurd (Memᴰ.not_nil m)
+alive_lives [] x m = absurd (Memᴰ.not-nil m)
 alive_lives (e ∷ past) x m =
     either (Memᴰ.append_cases (makes e (depth (thread_of e) past)) m)
     (λ h. record { newer = []; maker = e; older = past; split = refl; made = made_makes past e x h; spared = so_far })

@@ -16,14 +16,14 @@ use Rattle.history.proofs.Tests.{either}
 -- ---- lists joined
 
 pub joined_member : {A : Type 0} {x : A} (ks : List ℕ) (f : ℕ → List A) → Memᴰ x (joined ks f) → (k : ℕ) × Memᴰ k ks × Memᴰ x (f k)
-joined_member [] f m = absurd (Memᴰ.not_nil m)
+joined_member [] f m = absurd (Memᴰ.not-nil m)
 joined_member {A} {x} (k ∷ ks) f m =
     either {C = (j : ℕ) × Memᴰ j (k ∷ ks) × Memᴰ x (f j)} (Memᴰ.append_cases (f k) m)
     (λ h. (k, Memᴰ.head refl, h))
     (λ h. let (j, i, y) = joined_member ks f h in (j, Memᴰ.tail i, y))
 
 pub member_joined : {A : Type 0} {x : A} (ks : List ℕ) (f : ℕ → List A) (k : ℕ) → Memᴰ k ks → Memᴰ x (f k) → Memᴰ x (joined ks f)
-member_joined [] f k i m = absurd (Memᴰ.not_nil i)
+member_joined [] f k i m = absurd (Memᴰ.not-nil i)
 member_joined {A} {x} (j ∷ ks) f k i m =
     either (Memᴰ.cases_cons i)
     (λ e. Memᴰ.append_left (joined ks f) (subst (λ (n : ℕ). Memᴰ x (f n)) e m))
@@ -36,7 +36,7 @@ from lo zero = []
 from lo (suc n) = lo ∷ from (suc lo) n
 
 from_bounds : (n lo k : ℕ) → Memᴰ k (from lo n) → (lo ≤ k) × (k < lo + n)
-from_bounds zero lo k m = absurd (Memᴰ.not_nil m)
+from_bounds zero lo k m = absurd (Memᴰ.not-nil m)
 from_bounds (suc n) lo k m = either (Memᴰ.cases_cons m) (λ e. omega (arith, e)) (λ h. omega (arith, from_bounds n (suc lo) k h))
 
 pub in_from : (n lo k : ℕ) → lo ≤ k → k < lo + n → Memᴰ k (from lo n)

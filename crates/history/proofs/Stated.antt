@@ -261,7 +261,7 @@ same_class_stated past t _ _ _ (a_shared h k) m = go m
     go (a_shared _ j) = refl
 
 pub of_first_member : {A : Type 0} (test : A → Bool) (f : A → ℕ) (l : List A) (x : A) → Memᴰ x l → test x ≡ true → ((y : A) → test y ≡ true → f y ≡ f x) → of_first test f l ≡ f x
-of_first_member test f [] x m k same = absurd (Memᴰ.not_nil m)
+of_first_member test f [] x m k same = absurd (Memᴰ.not-nil m)
 of_first_member {A} test f (y ∷ l) x m k same =
     go (test y) refl (either (Memᴰ.cases_cons m) (λ is q. true_not_false (test y) (subst (λ (z : A). test z ≡ true) is k) q) (λ i q. of_first_member test f l x i k same))
   where

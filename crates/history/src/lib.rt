@@ -1,5 +1,6 @@
 // What the judge's code shares with the definitions of the history.
 #![tactic(auto)]
+
 use words::Handle;
 
 // A breach that was found: the accepted line's number, the rule, the place and the thing.

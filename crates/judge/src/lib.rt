@@ -1,5 +1,6 @@
 // The judge over lent tables: a start, and one step.
 #![tactic(auto)]
+
 pub mod items;
 
 ghost use Rattle.std.specs.Prelude.{◌≡◌, List, ℕ, suc, ◌<◌, ◌≤◌};

@@ -1,5 +1,6 @@
 // The list of the leaks after Z: a record for each outstanding buffer and each global or weak alive, in a lent slice.
 #![tactic(auto)]
+
 mod entries;
 mod found;
 mod sorting;

@@ -1,5 +1,6 @@
 // Lines of a trace: their events, and the reader.
 #![tactic(auto)]
+
 ghost use Rattle.std.specs.Prelude.{◌≡◌};
 ghost use Rattle.lines.specs.Reading.{refused, read};
 ghost use Rattle.lines.specs.Events.{event_of, padded, slots_of, Reads};

@@ -1,5 +1,6 @@
 // Decimal numbers in byte slices: read without a copy, and written in place.
 #![tactic(auto)]
+
 ghost use Rattle.std.specs.Prelude.{◌≡◌, ◌∷◌, ◌+◌, ◌<◌, ◌≤◌, ◌^◌, pos, negsuc, nat_abs, length};
 ghost use Rattle.numbers.specs.Decimal.{minus_sign, digits, shown, is_digit};
 ghost use Rattle.numbers.specs.Reading.{found, found_decimal, found_on, skipped, out_or_bad, field_at, starts_minus, negated};

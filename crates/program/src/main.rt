@@ -1,6 +1,7 @@
 // The judge program: reads a trace from standard input, judges what each read brought, and prints the report on standard output as it goes, and the leaks behind it where
 // it is asked for them. What it needs does not grow with the trace.
 #![tactic(auto)]
+
 mod arguments; // arguments.rt: what the program is asked for
 mod listing; // listing.rt: the leaks
 mod streams; // streams.rt: standard input and standard output

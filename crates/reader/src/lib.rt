@@ -1,5 +1,6 @@
 // The reader of lines for C: a line's letter and numbers, or the number given instead.
 #![tactic(auto)]
+
 ghost use Rattle.std.specs.Prelude.{◌≡◌};
 ghost use Rattle.lines.specs.Reading.{read};
 ghost use Rattle.lines.specs.Apart.{apart_of, numbers_left};

@@ -1,5 +1,6 @@
 // The writer of lines for C: one function for each kind of line, on numbers and a lent byte slice.
 #![tactic(auto)]
+
 ghost use Rattle.std.specs.Prelude.{◌≡◌};
 ghost use Rattle.lines.specs.declared.Event.TheVariants.{Enter, Leave, Call, Return, Attach, Detach, Declare, State, Identify, End};
 ghost use Rattle.lines.specs.Events.{meant, wrote, left};

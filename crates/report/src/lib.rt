@@ -1,5 +1,6 @@
 // What the program prints: the findings of a line, the last line of a report, and the leaks behind it.
 #![tactic(auto)]
+
 ghost use Rattle.std.specs.Prelude.{◌≡◌, true, false, suc, ◌+◌, ◌<◌, ◌≤◌, length, take};
 ghost use Rattle.numbers.specs.Decimal.{digits};
 ghost use Rattle.numbers.specs.Writing.{Puts};

@@ -1,5 +1,6 @@
 // Rows of numbers and a mark for each, in slices that the caller lends: reference rows and pin rows.
 #![tactic(auto)]
+
 mod marks;
 pub mod pins;
 pub mod references;

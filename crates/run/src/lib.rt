@@ -1,5 +1,6 @@
 // The loop that holds the lent tables: the lines of a piece of the input, handed to the step one after another.
 #![tactic(auto)]
+
 mod attach;
 mod bits;
 mod call;

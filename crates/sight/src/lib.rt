@@ -1,5 +1,6 @@
 // What a line is told of the lent tables: looked up once, handed on by value.
 #![tactic(auto)]
+
 pub mod call;
 pub mod declare;
 pub mod detach;

@@ -1,5 +1,6 @@
 // The judging of a whole lent trace: its report's bytes in a lent slice.
 #![tactic(auto)]
+
 ghost use Rattle.std.specs.Prelude.{◌≡◌, ◌+◌, ◌*◌, ◌≤◌, length, take};
 ghost use Rattle.std.proofs.Math.Seq.{paste};
 ghost use Rattle.history.specs.Replies.{most_lines};

@@ -1,5 +1,6 @@
 // What is answered to a line that was read, from what it was told of the lent tables: the number given instead, or its findings.
 #![tactic(auto)]
+
 pub mod attach;
 pub mod call;
 pub mod declare;

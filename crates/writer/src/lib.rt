@@ -1,5 +1,6 @@
 // The writer of lines: what the recorder links.
 #![tactic(auto)]
+
 ghost use Rattle.std.specs.Prelude.{◌≡◌, ◌∷◌, suc, ◌+◌, ◌≤◌, length};
 ghost use Rattle.words.specs.Text.{tab};
 ghost use Rattle.numbers.specs.Decimal.{shown};

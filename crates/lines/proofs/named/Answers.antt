@@ -25,10 +25,10 @@ loop-i-preserved c =
     let i = c.loop-i.i in
     let l : i < 8 = c.loop-i-test.true in
     let k : i + 2 < a.n = omega (arith, c.if-n-i.false) in (
-    j.0,
-    omega arith,
-    ap (λ (h : List ℕ). set h i (get_or a.v (i + 2) 0)) j.2
-    ∙ slot_put (named a.n a.v) i (named_more a.n a.v j.0 i l k) (named_few a.n a.v j.0) (named_at a.n a.v j.0 i l k),
+      j.0,
+      omega arith,
+      ap (λ (h : List ℕ). set h i (get_or a.v (i + 2) 0)) j.2
+          ∙ slot_put (named a.n a.v) i (named_more a.n a.v j.0 i l k) (named_few a.n a.v j.0) (named_at a.n a.v j.0 i l k),
     )
 
 pub returns : goal.returns
