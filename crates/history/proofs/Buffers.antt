@@ -88,7 +88,10 @@ getting (R t f (negsuc b) p) x m = go (is_buffer_result (fact_of f).result) m
     go : (q : Bool) → Memᴰ x (if q && false then pin t f 0 ∷ [] else []) → Gets (R t f (negsuc b) p) x
     go true m = absurd (Memᴰ.not-nil m)
     go false m = absurd (Memᴰ.not-nil m)
+getting (A t env) x m = absurd (Memᴰ.not-nil m)
+getting (D t) x m = absurd (Memᴰ.not-nil m)
 getting Z x m = absurd (Memᴰ.not-nil m)
+getting (states s) x m = absurd (Memᴰ.not-nil m)
 
 is_got : (e : Line) (x : Pin) → Gets e x → Memᴰ x (gets e)
 unfolding gets

@@ -49,6 +49,8 @@ module _ (past : History) where
       go false z Result.Buffer is m = absurd (Memᴰ.not-nil m)
       go false z Result.Status is m = absurd (Memᴰ.not-nil m)
       go false z Result.Nothing is m = absurd (Memᴰ.not-nil m)
+  made_makes (A t env) x m = absurd (Memᴰ.not-nil m)
+  made_makes (D t) x m = absurd (Memᴰ.not-nil m)
   made_makes Z x m = absurd (Memᴰ.not-nil m)
   made_makes (states s) x m = absurd (Memᴰ.not-nil m)
 
@@ -202,12 +204,12 @@ alive_lives (e ∷ past) x m =
     let (i, k) = keep_member (λ (y : Alive). not (ends e past y)) (living past) h in
     lives_on e past x (λ d. true_not_false _ (ends_it past e x d) (not-true _ k)) (alive_lives past x i))
 
-lives_alive : (x : Alive) (newer : History) (e : Line) (older : History) → Makes older e x → Spared x (e ∷ older) newer
+lives_alive : (x : Alive) (e : Line) (older newer : History) → Makes older e x → Spared x (e ∷ older) newer
     → Memᴰ x (living (newer ++ (e ∷ older)))
 unfolding living
-lives_alive x _ e older m so_far =
+lives_alive x e older _ m so_far =
     Memᴰ.append_left (keep (λ (y : Alive). not (ends e older y)) (living older)) (makes_made older e x m)
-lives_alive x _ e older m (by_line n newer s k) = go (lives_alive x newer e older m k)
+lives_alive x e older _ m (by_line n newer s k) = go (lives_alive x e older newer m k)
   where
     go : Memᴰ x (living (newer ++ (e ∷ older))) → Memᴰ x (living (n ∷ (newer ++ (e ∷ older))))
     go i =
@@ -217,7 +219,7 @@ lives_alive x _ e older m (by_line n newer s k) = go (lives_alive x newer e olde
 
 -- alive: an earlier line made it and no line since has ended it
 pub living_are : (past : History) (x : Alive) → Memᴰ x (living past) ↔ Lives x past
-living_are past x = (alive_lives past x, λ k. rw k.split (lives_alive x k.newer k.maker k.older k.made k.spared))
+living_are past x = (alive_lives past x, λ k. rw k.split (lives_alive x k.maker k.older k.newer k.made k.spared))
 
 -- a local, by its thread
 pub local_alive : (past : History) (t h : ℕ) → (is_alive (is_local t h) (seen past) ≡ true) ↔ LocalLives t h past

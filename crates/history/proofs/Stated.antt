@@ -200,15 +200,15 @@ computed_stated (e ∷ past) x c nz is =
     go false m true k ih is = here (subst (States e x) is (states_by e x k))
     go false m false k ih is = stated_later e past x c m k (ih is)
 
-stated_computed : (x : Alive) (c : ℕ) (newer older : History) (stater : Line) → States stater x c → Unsaid x (stater ∷ older) newer → class_stated (newer ++ (stater ∷ older)) x ≡ c
-stated_computed x c _ older stater s so_far = states_so stater older x c s
-stated_computed x c _ older stater s (by_line e newer none unmade before) =
+stated_computed : (x : Alive) (c : ℕ) (older : History) (stater : Line) (newer : History) → States stater x c → Unsaid x (stater ∷ older) newer → class_stated (newer ++ (stater ∷ older)) x ≡ c
+stated_computed x c older stater _ s so_far = states_so stater older x c s
+stated_computed x c older stater _ s (by_line e newer none unmade before) =
     class_next e (newer ++ (stater ∷ older)) x
-    ∙ rw (not_made e (newer ++ (stater ∷ older)) x unmade, never_true (stating e x) (λ h. none (class_in_line e) (states_by e x h))) (stated_computed x c newer older stater s before)
+    ∙ rw (not_made e (newer ++ (stater ∷ older)) x unmade, never_true (stating e x) (λ h. none (class_in_line e) (states_by e x h))) (stated_computed x c older stater newer s before)
 
 -- of every history
 pub class_is : (past : History) (x : Alive) (c : ℕ) → c ≢ no_class → (class_stated past x ≡ c) ↔ Stated x c past
-class_is past x c nz = (computed_stated past x c nz, λ st. rw st.split (stated_computed x c st.newer st.older st.stater st.said st.last))
+class_is past x c nz = (computed_stated past x c nz, λ st. rw st.split (stated_computed x c st.older st.stater st.newer st.said st.last))
 
 -- what accepted lines state is a class
 pub stated_some : (room : Room) (past : History) → Accepted room past → (x : Alive) (c : ℕ) → Stated x c past → c ≢ no_class

@@ -28,7 +28,7 @@ loop-i-preserved c =
       ap₂ (λ (x : List ℕ) (n : ℕ). put x n (rest a.minus a.v.now (l.i + 1))) f.ensures.1 f.ensures.0
           ∙ put_next l.d l.at a.minus a.v.now l.i (omega arith) (omega (arith, c.requires, l.invariant.1, l.invariant.3))
           ∙ l.invariant.2,
-      f.auto.0 ∙ l.invariant.3,
+      f.auto.d ∙ l.invariant.3,
     )
 
 pub shape_of-d : goal.shape_of-d

@@ -20,7 +20,7 @@ put_fields-at-requires c = simp length-set (omega (arith, c.fields_width-w.ensur
 pub bounds-d-at : goal.bounds-d-at
 bounds-d-at c =
     let a = c.args in
-    let l : length c.put_fields-at.new.0 ≡ length a.d.now = c.put_fields-at.auto.d ∙ length-set a.d.now 0 a.letter in omega (arith, c.fields_width-w.ensures.0, c.put_fields-at.ensures.0)
+    let l : length c.put_fields-at.new.d ≡ length a.d.now = c.put_fields-at.auto.d ∙ length-set a.d.now 0 a.letter in omega (arith, c.fields_width-w.ensures.0, c.put_fields-at.ensures.0)
 
 pub shape_of-d : goal.shape_of-d
 shape_of-d c = simp length-set (simp length-set at c.put_fields-at.auto.d)

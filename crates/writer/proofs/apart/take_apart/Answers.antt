@@ -33,8 +33,8 @@ returns-in-Call c =
     let f = c.in-Call.thread in
     let n = f.1.1.1.1.1.1.0 in
     let z = to_z-of_z {w = w32} {z = n} (search rules) in
-    ap₂ (λ (m b : Bool). taken 67 7 m (f.0 ∷ f.1.0 ∷ f.1.1.0 ∷ f.1.1.1.0 ∷ f.1.1.1.1.0 ∷ f.1.1.1.1.1.0 ∷ c.type_size.result ∷ 0 ∷ 0 ∷ 0 ∷ []) b) (c.is_negative.ensures ∙ ap is_negative z) c.are_empty-in-Call.ensures
-    ∙ ap (λ (m : ℕ). taken 67 7 (is_negative n) (f.0 ∷ f.1.0 ∷ f.1.1.0 ∷ f.1.1.1.0 ∷ f.1.1.1.1.0 ∷ f.1.1.1.1.1.0 ∷ m ∷ 0 ∷ 0 ∷ 0 ∷ []) (are_empty 0 a.h)) (c.type_size.ensures ∙ ap nat_abs z)
+    ap₂ (λ (m b : Bool). taken 67 7 m (f.0 ∷ f.1.0 ∷ f.1.1.0 ∷ f.1.1.1.0 ∷ f.1.1.1.1.0 ∷ f.1.1.1.1.1.0 ∷ c.size_of.result ∷ 0 ∷ 0 ∷ 0 ∷ []) b) (c.is_negative.ensures ∙ ap is_negative z) c.are_empty-in-Call.ensures
+    ∙ ap (λ (m : ℕ). taken 67 7 (is_negative n) (f.0 ∷ f.1.0 ∷ f.1.1.0 ∷ f.1.1.1.0 ∷ f.1.1.1.1.0 ∷ f.1.1.1.1.1.0 ∷ m ∷ 0 ∷ 0 ∷ 0 ∷ []) (are_empty 0 a.h)) (c.size_of.ensures ∙ ap nat_abs z)
     ∙ sym (ap (λ (x : Event). apart x a.h) c.in-Call.is)
 
 pub returns-in-Return : goal.returns-in-Return

@@ -18,7 +18,7 @@ returns-then-gives_status c =
     let z = to_z-of_z {w = w32} c.ranges.status in
     rw (sym c.gives_status.ensures ∙ c.if-gives_status.true)
     (ap₂ (λ (m : Bool) (n : ℕ). taken 82 4 m (a.thread ∷ a.function ∷ n ∷ a.pending ∷ 0 ∷ 0 ∷ 0 ∷ 0 ∷ 0 ∷ 0 ∷ []) (eqb a.res 0 && a.empty))
-    (c.is_negative.ensures ∙ ap is_negative z) (c.type_size.ensures ∙ ap nat_abs z))
+    (c.is_negative.ensures ∙ ap is_negative z) (c.size_of-size.ensures ∙ ap nat_abs z))
 
 pub returns : goal.returns
 returns c =
