@@ -11,11 +11,11 @@ use Rattle.writer.proofs.write_event.Goals as goal
 pub returns-then-not-t : goal.returns-then-not-t
 returns-then-not-t c =
     let a = c.args in
-    let m = bad_taken a.e a.h (search rules) c.take_apart-t.ensures (not-true c.take_apart-t.result.good (ap not c.if-not-t.true)) in
+    let m = bad_taken a.e a.h (search rules) c.take_apart-t.ensures (not-true c.take_apart-t.result.good c.if-not-t.true) in
     (ap (λ (x : Read). wrote x a.d.now) m, ap (λ (x : Read). left x a.d.now) m)
 
 pub returns : goal.returns
 returns c =
     let a = c.args in
-    let m = good_taken a.e a.h (search rules) c.take_apart-t.ensures (not-false c.take_apart-t.result.good (ap not c.if-not-t.false)) in
+    let m = good_taken a.e a.h (search rules) c.take_apart-t.ensures (not-false c.take_apart-t.result.good c.if-not-t.false) in
     (c.write_numbers.ensures.0 ∙ ap (λ (x : Read). wrote x a.d.now) m, c.write_numbers.ensures.1 ∙ ap (λ (x : Read). left x a.d.now) m)

@@ -20,13 +20,13 @@ pub slice_bounds-v-end : goal.slice_bounds-v-end
 slice_bounds-v-end c =
     let a = c.args in
     let ten : length a.v ≡ 10 = search rules in
-    omega (arith, numbers_few a.letter a.n a.minus a.v a.d.now c.event_of-e.ensures c.in_default.is)
+    omega (arith, numbers_few a.letter a.n a.minus a.v a.d.now c.event_of-e.ensures c.in_default.not-Refused)
 
 pub slice_bounds-put_line-end : goal.slice_bounds-put_line-end
 slice_bounds-put_line-end c =
     let a = c.args in
     let ten : length a.v ≡ 10 = search rules in
-    sym (length-take-le a.n a.v (omega (arith, numbers_few a.letter a.n a.minus a.v a.d.now c.event_of-e.ensures c.in_default.is)))
+    sym (length-take-le a.n a.v (omega (arith, numbers_few a.letter a.n a.minus a.v a.d.now c.event_of-e.ensures c.in_default.not-Refused)))
 
 pub put_line-requires : goal.put_line-requires
 put_line-requires c =
@@ -38,5 +38,5 @@ put_line-requires c =
 pub returns : goal.returns
 returns c =
     let a = c.args in
-    numbers_written a.letter a.n a.minus a.v a.d.now c.event_of-e.ensures c.in_default.is
+    numbers_written a.letter a.n a.minus a.v a.d.now c.event_of-e.ensures c.in_default.not-Refused
     (writes_as (ap (λ (k : ℕ). lettered a.letter (signed_at 0 k (take a.n a.v))) c.minus_place.ensures) c.put_line.ensures)

@@ -6,10 +6,8 @@ use native.Mathlib.Omega.{arith}
 use lib.Dec.{eqb}
 use Rattle.lines.proofs.Every.{every_next, every_end}
 use borrow.Author.Rules.{rules}
+use Rattle.writer.proofs.apart.are_empty.Invariants.{is_empty}
 use Rattle.writer.proofs.apart.are_empty.Goals as goal
-
-abbrev is_empty : ℕ → Bool
-is_empty h = eqb h 0
 
 pub loop-i-init : goal.loop-i-init
 loop-i-init c = (search rules, refl)

@@ -30,19 +30,17 @@ returns-in-Leave c =
 pub returns-in-Call : goal.returns-in-Call
 returns-in-Call c =
     let a = c.args in
-    let f = c.in-Call.thread in
-    let n = f.1.1.1.1.1.1.0 in
+    let n = c.in-Call.n in
     let z = to_z-of_z {w = w32} {z = n} (search rules) in
-    ap₂ (λ (m b : Bool). taken 67 7 m (f.0 ∷ f.1.0 ∷ f.1.1.0 ∷ f.1.1.1.0 ∷ f.1.1.1.1.0 ∷ f.1.1.1.1.1.0 ∷ c.size_of.result ∷ 0 ∷ 0 ∷ 0 ∷ []) b) (c.is_negative.ensures ∙ ap is_negative z) c.are_empty-in-Call.ensures
-    ∙ ap (λ (m : ℕ). taken 67 7 (is_negative n) (f.0 ∷ f.1.0 ∷ f.1.1.0 ∷ f.1.1.1.0 ∷ f.1.1.1.1.0 ∷ f.1.1.1.1.1.0 ∷ m ∷ 0 ∷ 0 ∷ 0 ∷ []) (are_empty 0 a.h)) (c.size_of.ensures ∙ ap nat_abs z)
+    ap₂ (λ (m b : Bool). taken 67 7 m (c.in-Call.thread ∷ c.in-Call.env ∷ c.in-Call.function ∷ c.in-Call.a ∷ c.in-Call.b ∷ c.in-Call.c ∷ c.size_of.result ∷ 0 ∷ 0 ∷ 0 ∷ []) b) (c.is_negative.ensures ∙ ap is_negative z) c.are_empty-in-Call.ensures
+    ∙ ap (λ (m : ℕ). taken 67 7 (is_negative n) (c.in-Call.thread ∷ c.in-Call.env ∷ c.in-Call.function ∷ c.in-Call.a ∷ c.in-Call.b ∷ c.in-Call.c ∷ m ∷ 0 ∷ 0 ∷ 0 ∷ []) (are_empty 0 a.h)) (c.size_of.ensures ∙ ap nat_abs z)
     ∙ sym (ap (λ (x : Event). apart x a.h) c.in-Call.is)
 
 pub returns-in-Return : goal.returns-in-Return
 returns-in-Return c =
     let a = c.args in
-    let f = c.in-Return.thread in
     c.take_return.ensures
-    ∙ ap₂ (λ (s : ℤ) (b : Bool). apart_return f.0 f.1.0 f.1.1.0 s f.1.1.1.1.0 b) (to_z-of_z {w = w32} {z = f.1.1.1.0} (search rules)) c.are_empty-in-Return.ensures
+    ∙ ap₂ (λ (s : ℤ) (b : Bool). apart_return c.in-Return.thread c.in-Return.function c.in-Return.result s c.in-Return.pending b) (to_z-of_z {w = w32} {z = c.in-Return.status} (search rules)) c.are_empty-in-Return.ensures
     ∙ sym (ap (λ (x : Event). apart x a.h) c.in-Return.is)
 
 pub returns-in-Attach : goal.returns-in-Attach
@@ -72,8 +70,7 @@ returns-in-State c =
 pub returns-in-Identify : goal.returns-in-Identify
 returns-in-Identify c =
     let a = c.args in
-    let f = c.in-Identify.identity in
-    ap (λ (b : Bool). taken 77 5 false (f.0 ∷ f.1.0 ∷ f.1.1.0 ∷ f.1.1.1.0 ∷ f.1.1.1.1.0 ∷ 0 ∷ 0 ∷ 0 ∷ 0 ∷ 0 ∷ []) b) c.are_empty-in-Identify.ensures
+    ap (λ (b : Bool). taken 77 5 false (c.in-Identify.identity ∷ c.in-Identify.sort ∷ c.in-Identify.class ∷ c.in-Identify.isstatic ∷ c.in-Identify.isfinal ∷ 0 ∷ 0 ∷ 0 ∷ 0 ∷ 0 ∷ []) b) c.are_empty-in-Identify.ensures
     ∙ sym (ap (λ (x : Event). apart x a.h) c.in-Identify.is)
 
 pub returns-in-End : goal.returns-in-End
