@@ -1,0 +1,6 @@
+-- `sight::leave::leave` meets its contract. Assumes nothing.
+use Rattle.sight.proofs.SightLaws.{leave_seen}
+use Rattle.sight.proofs.leave.leave.Goals as goal
+
+pub returns : goal.returns
+returns c = λ b cs. leave_seen _ _ _ _ b cs _ _ _ _ c.in_critical-critical.ensures c.handle-at.ensures

@@ -1,0 +1,6 @@
+-- `sight::seen::pin_row_of` meets its contract. Assumes nothing.
+use Rattle.sight.proofs.LeadLaws.{pin_row_found}
+use Rattle.sight.proofs.seen.pin_row_of.Goals as goal
+
+pub returns : goal.returns
+returns c = pin_row_found _ _ _ _ _ _ c.requires c.find.ensures

@@ -1,0 +1,6 @@
+-- `sight::seen::row_of` meets its contract. Assumes nothing.
+use Rattle.sight.proofs.LeadLaws.{row_found}
+use Rattle.sight.proofs.seen.row_of.Goals as goal
+
+pub returns : goal.returns
+returns c = row_found _ _ _ _ _ c.requires c.find.ensures
