@@ -15,10 +15,10 @@ pub returns-in-Line : goal.returns-in-Line
 returns-in-Line c =
     let s = c.args.line.now in
     let a = c.read_apart.ensures in
-    (letter_told s a.0 (search rules) c.in-Line.is, (a.1, counts s a.0 c.args.count.now c.in-Line.is))
+    record { value = letter_told s a.0 (search rules) c.in-Line.is; numbers_after = a.1; count_after = counts s a.0 c.args.count.now c.in-Line.is }
 
 pub returns-in-Refused : goal.returns-in-Refused
 returns-in-Refused c =
     let s = c.args.line.now in
     let a = c.read_apart.ensures in
-    (refusal_told s a.0 {k = c.in-Refused.k} (search rules) c.in-Refused.is, (a.1, counts s a.0 c.args.count.now c.in-Refused.is))
+    record { value = refusal_told s a.0 {k = c.in-Refused.k} (search rules) c.in-Refused.is; numbers_after = a.1; count_after = counts s a.0 c.args.count.now c.in-Refused.is }

@@ -15,4 +15,7 @@ returns c =
     let a = c.args in
     let e : ℤ → Read = λ z. meant (Return a.thread a.function a.res z a.pending) no_handles in
     let n = to_z-of_z {w = w32} c.ranges.status in
-    (to_z-of_z {w = w32} {z = c.tell.result} (search rules) ∙ c.tell.ensures.value ∙ ap (λ (z : ℤ). told (wrote (e z) a.d.now)) n, c.tell.ensures.d_after ∙ ap (λ (z : ℤ). left (e z) a.d.now) n)
+    record {
+      value = to_z-of_z {w = w32} {z = c.tell.result} (search rules) ∙ c.tell.ensures.value ∙ ap (λ (z : ℤ). told (wrote (e z) a.d.now)) n;
+      d_after = c.tell.ensures.d_after ∙ ap (λ (z : ℤ). left (e z) a.d.now) n;
+    }

@@ -26,7 +26,7 @@ loop-i-preserved c =
     omega arith,
     omega (arith, length_parts parts, f.ensures.past, l.invariant.1),
     put_on parts f.ensures ∙ l.invariant.2,
-    f.auto.0 ∙ l.invariant.3,
+    f.auto.d ∙ l.invariant.3,
     )
 
 pub shape_of-d : goal.shape_of-d

@@ -10,14 +10,14 @@ pub put_field-j-requires : goal.put_field-j-requires
 put_field-j-requires c =
     let a = c.args in
     let x = c.put_field-i in
-    omega (arith, c.requires, length_parts (three_parts a.a a.b a.c), length_parts (two_parts a.b a.c), x.auto.0, x.ensures.past)
+    omega (arith, c.requires, length_parts (three_parts a.a a.b a.c), length_parts (two_parts a.b a.c), x.auto.d, x.ensures.past)
 
 pub put_field-requires : goal.put_field-requires
 put_field-requires c =
     let a = c.args in
     let x = c.put_field-i in
     let y = c.put_field-j in
-    omega (arith, c.requires, length_parts (three_parts a.a a.b a.c), length_parts (two_parts a.b a.c), x.auto.0, x.ensures.past, y.auto.0, y.ensures.past)
+    omega (arith, c.requires, length_parts (three_parts a.a a.b a.c), length_parts (two_parts a.b a.c), x.auto.d, x.ensures.past, y.auto.d, y.ensures.past)
 
 pub returns : goal.returns
 returns c =

@@ -6,4 +6,4 @@ pub returns-then-fixed-at : goal.returns-then-fixed-at
 returns-then-fixed-at c = λ ps ns b. unjudged_at _ _ _ _ _ (c.handle-at.ensures ps ns b _) c.if-fixed-at.true
 
 pub returns : goal.returns
-returns c = λ ps ns b. judged_at _ _ _ _ _ (c.handle-at.ensures ps ns b _) _ _ c.if-fixed-at.false c.class_at-stated.ensures c.fits2.ensures
+returns c = λ ps ns b. judged_at _ _ _ _ _ (c.handle-at.ensures ps ns b _) _ _ c.if-fixed-at.false c.class_at-stated.ensures c.fits-fits.ensures

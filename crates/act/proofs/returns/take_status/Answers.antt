@@ -1,0 +1,9 @@
+-- `act::returns::take_status` meets its contract. Assumes nothing.
+use Rattle.act.proofs.Returning.{status_acts, status_rests}
+use Rattle.act.proofs.returns.take_status.Goals as goal
+
+pub returns-then-status-eq0 : goal.returns-then-status-eq0
+returns-then-status-eq0 c = status_acts _ _ _ _ _ _ _ c.ranges.status c.if-status-eq0.true c.succeed.ensures
+
+pub returns-else-status-eq0 : goal.returns-else-status-eq0
+returns-else-status-eq0 c = status_rests _ _ _ _ _ _ c.if-status-eq0.false

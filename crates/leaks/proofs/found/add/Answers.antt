@@ -1,0 +1,14 @@
+-- `leaks::found::add` meets its contract. Assumes nothing.
+use native.Mathlib.Omega.{arith}
+use Rattle.leaks.proofs.EntryLaws.{length_entries}
+use Rattle.leaks.proofs.FoundLaws.{added_one, added_none}
+use Rattle.leaks.proofs.found.add.Goals as goal
+
+pub write-requires : goal.write-requires
+write-requires c = let h = rw c.in-Leak.is at c.requires in omega arith
+
+pub returns-in-Leak : goal.returns-in-Leak
+returns-in-Leak c = rw c.in-Leak.is (let h = rw c.in-Leak.is at c.requires in added_one _ _ _ _ (omega (arith, length_entries c.args.leaks.now)) c.write.ensures)
+
+pub returns-in-Nothing : goal.returns-in-Nothing
+returns-in-Nothing c = rw c.in-Nothing.is (added_none _ _)
