@@ -78,6 +78,8 @@ gets_owned (R t f r p) h x m = go (is_buffer_result (fact_of f).result && not (e
     go : (q : Bool) → Memᴰ x (if q then pin t f (above_zero r) ∷ [] else []) → unowned x ≡ false
     go true m = ap unowned (Memᴰ.eq_of_singleton m) ∙ its_own
     go false m = absurd (Memᴰ.not-nil m)
+gets_owned (A t env) h x m = absurd (Memᴰ.not-nil m)
+gets_owned (D t) h x m = absurd (Memᴰ.not-nil m)
 gets_owned Z h x m = absurd (Memᴰ.not-nil m)
 gets_owned (states s) h x m = absurd (Memᴰ.not-nil m)
 

@@ -13,14 +13,14 @@ pub put_field-j-requires : goal.put_field-j-requires
 put_field-j-requires c =
     let a = c.args in
     let x = c.put_bytes-i in
-    omega (arith, length_parts (leak_parts a.rule a.thread a.value a.line), c.leak_width.ensures.0, c.has_room.ensures.0 c.if-has_room.true, length_parts (fields_parts a.rule a.thread a.value a.line), x.auto.0, x.ensures.past)
+    omega (arith, length_parts (leak_parts a.rule a.thread a.value a.line), c.leak_width.ensures.0, c.has_room.ensures.0 c.if-has_room.true, length_parts (fields_parts a.rule a.thread a.value a.line), x.auto.d, x.ensures.past)
 
 pub put_three-requires : goal.put_three-requires
 put_three-requires c =
     let a = c.args in
     let x = c.put_bytes-i in
     let y = c.put_field-j in
-    omega (arith, length_parts (leak_parts a.rule a.thread a.value a.line), c.leak_width.ensures.0, c.has_room.ensures.0 c.if-has_room.true, length_parts (fields_parts a.rule a.thread a.value a.line), x.auto.0, x.ensures.past, y.auto.0, y.ensures.past)
+    omega (arith, length_parts (leak_parts a.rule a.thread a.value a.line), c.leak_width.ensures.0, c.has_room.ensures.0 c.if-has_room.true, length_parts (fields_parts a.rule a.thread a.value a.line), x.auto.d, x.ensures.past, y.auto.d, y.ensures.past)
 
 pub returns-then-has_room : goal.returns-then-has_room
 returns-then-has_room c =

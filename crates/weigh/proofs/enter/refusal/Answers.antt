@@ -1,0 +1,17 @@
+-- `weigh::enter::refusal` meets its contract. Assumes nothing.
+use Rattle.weigh.proofs.EnterLaws.{enter_5, enter_6, enter_7, enter_0}
+use mathlib.Core.Path.{ap}
+use mathlib.Core.Bool.{not}
+use Rattle.weigh.proofs.enter.refusal.Goals as goal
+
+pub returns-then-not-env_fits : goal.returns-then-not-env_fits
+returns-then-not-env_fits c = enter_5 _ _ _ _ _ c.env_fits.ensures (ap not c.if-not-env_fits.true)
+
+pub returns-then-seen-named_twice : goal.returns-then-seen-named_twice
+returns-then-seen-named_twice c = enter_6 _ _ _ _ _ c.env_fits.ensures _ c.named_twice.ensures (ap not c.if-not-env_fits.false) c.if-seen-named_twice.true
+
+pub returns-then-not-has_room : goal.returns-then-not-has_room
+returns-then-not-has_room c = enter_7 _ _ _ _ _ c.env_fits.ensures _ c.named_twice.ensures (ap not c.if-not-env_fits.false) _ c.if-seen-named_twice.false c.has_room.ensures (ap not c.if-not-has_room.true)
+
+pub returns : goal.returns
+returns c = enter_0 _ _ _ _ _ c.env_fits.ensures _ c.named_twice.ensures (ap not c.if-not-env_fits.false) _ c.if-seen-named_twice.false c.has_room.ensures (ap not c.if-not-has_room.false)
