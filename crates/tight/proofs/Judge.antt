@@ -1,21 +1,22 @@
 -- That the promises of the judge are tight. Assumes nothing.
 use mathlib.Core.List.{[]}
 use Rattle.judge.proofs as judge
+use Rattle.judge.specs.contracts as of_judge
 use Rattle.events.specs.Outcome.{Outcome}
 use Rattle.tight.specs.Tight.{given, Tight}
 use Rattle.tight.proofs.Shapes.{by, by_reply, by_slice, by_tables, with_tables}
 
-pub thread_of_tight : Tight judge.items.thread_of.ended judge.items.thread_of.Reads.Asked judge.items.thread_of.Reads.Learnt
+pub thread_of_tight : Tight of_judge.items.thread_of.ended judge.items.thread_of.Reads.Asked judge.items.thread_of.Reads.Learnt
 thread_of_tight κs args = (tt, by_reply)
 
-pub move_item_tight : Tight judge.items.move_item.ended judge.items.move_item.Reads.Asked judge.items.move_item.Reads.Learnt
+pub move_item_tight : Tight of_judge.items.move_item.ended judge.items.move_item.Reads.Asked judge.items.move_item.Reads.Learnt
 move_item_tight κs args = (tt, λ x y p q. by_slice x y (p []) (q []))
 
-pub start_tight : Tight judge.start.ended judge.start.Reads.Asked judge.start.Reads.Learnt
+pub start_tight : Tight of_judge.start.ended judge.start.Reads.Asked judge.start.Reads.Learnt
 start_tight κs args = (tt, by_tables)
 
-pub refused_by_tables_tight : Tight judge.refused_by_tables.ended judge.refused_by_tables.Reads.Asked judge.refused_by_tables.Reads.Learnt
+pub refused_by_tables_tight : Tight of_judge.refused_by_tables.ended judge.refused_by_tables.Reads.Asked judge.refused_by_tables.Reads.Learnt
 refused_by_tables_tight κs args = (tt, λ x y p q. by_reply x y (p [] [] [] []) (q [] [] [] []))
 
-pub step_tight : Tight judge.step.ended judge.step.Reads.Asked judge.step.Reads.Learnt
+pub step_tight : Tight of_judge.step.ended judge.step.Reads.Asked judge.step.Reads.Learnt
 step_tight κs args = (tt, λ x y. by (λ (o : Outcome). given o.answer (tt, with_tables o.left tt)))

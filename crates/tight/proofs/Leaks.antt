@@ -2,6 +2,7 @@
 use mathlib.Core.Path.{◌≡◌, refl, sym, ap, ◌∙◌}
 use mathlib.Core.List.{[]}
 use Rattle.leaks.proofs as leaks
+use Rattle.leaks.specs.contracts as of_leaks
 use Rattle.leaks.specs.Reply.{reply_of}
 use Rattle.leaks.specs.declared.Listed.{Listed}
 use Rattle.tables.specs.Listing.{Listing}
@@ -14,7 +15,7 @@ one_reply (Listed.Written m) (Listed.Refused k) e = cc
 one_reply (Listed.Refused k) (Listed.Written n) e = cc
 one_reply (Listed.Refused j) (Listed.Refused k) e = cc
 
-pub list_tight : Tight leaks.list.ended leaks.list.Reads.Asked leaks.list.Reads.Learnt
+pub list_tight : Tight of_leaks.list.ended leaks.list.Reads.Asked leaks.list.Reads.Learnt
 list_tight κs args = (
   tt,
   λ x y p q.

@@ -1,0 +1,13 @@
+-- `run::heard` meets its contract. Assumes nothing.
+use mathlib.Core.Path.{refl}
+use Rattle.run.specs.Way.{line_refused}
+use Rattle.run.proofs.Ways.{goes_on}
+use Rattle.run.proofs.heard.Goals as goal
+
+pub returns-then-refusal-ne0 : goal.returns-then-refusal-ne0
+returns-then-refusal-ne0 c = let q = c.stopped.ensures in line_refused c.if-refusal-ne0.true q.0 q.1 q.2 refl
+
+pub returns : goal.returns
+returns c =
+    let q = c.aimed.ensures in
+    goes_on c.if-refusal-ne0.false c.requires.1 c.put_found-width.ensures refl refl refl q.0 q.1

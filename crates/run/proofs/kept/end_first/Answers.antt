@@ -1,0 +1,33 @@
+-- `run::kept::end_first` meets its contract; the invariant: the rows before i that pass are ended. Assumes nothing.
+use Prim.Native.Nat.{◌-◌}
+use borrow.Author.Rules.{rules}
+use mathlib.Core.Path.{refl}
+use native.Mathlib.Omega.{arith}
+use Rattle.rows.specs.Table.{room}
+use Rattle.rows.proofs.TableLaws.{ended_end}
+use Rattle.run.proofs.Shown.{own_first, own_next}
+use Rattle.run.proofs.kept.end_first.Goals as goal
+
+pub next_own-i-requires : goal.next_own-i-requires
+next_own-i-requires c = (unfold room in omega arith, omega arith, search rules)
+
+pub loop-i-init : goal.loop-i-init
+loop-i-init c = let told = c.next_own-i.ensures in (told.1, refl, refl, refl, own_first _ _ _ _ _ _ _ (omega arith) (omega arith) c.requires.3 told.2, c.requires.0)
+
+pub overflow_mul-w : goal.overflow_mul-w
+overflow_mul-w c = unfold room in omega arith
+
+pub overflow_add-w : goal.overflow_add-w
+overflow_add-w c = unfold room in omega arith
+
+pub end_if-requires : goal.end_if-requires
+end_if-requires c = (search rules, unfold room in omega arith)
+
+pub next_own-i-requires-in-loop-i : goal.next_own-i-requires-in-loop-i
+next_own-i-requires-in-loop-i c = (unfold room in omega arith, omega arith, search rules)
+
+pub loop-i-preserved : goal.loop-i-preserved
+loop-i-preserved c = let told = c.next_own-i-in-loop-i.ensures in (told.1, omega arith, omega arith, omega arith, own_next _ _ _ _ _ _ _ _ _ _ (omega arith) (omega arith) c.requires.3 c.loop-i.invariant.4 c.end_if.ensures.left told.0 told.2, c.end_if.ensures.guided)
+
+pub returns-clause-left : goal.returns-clause-left
+returns-clause-left c = search ended_end

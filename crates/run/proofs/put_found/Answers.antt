@@ -1,0 +1,11 @@
+-- `run::put_found` meets its contract. Assumes nothing.
+use native.Mathlib.Omega.{arith}
+use Rattle.run.proofs.Putting.{put_there}
+use Rattle.run.proofs.Ways.{none_shown}
+use Rattle.run.proofs.put_found.Goals as goal
+
+pub returns-then-answer-eq0 : goal.returns-then-answer-eq0
+returns-then-answer-eq0 c = let a = c.args in none_shown _ a.at a.answer c.if-answer-eq0.true
+
+pub returns : goal.returns
+returns c = let w = c.findings_width.ensures in (w.0, w.1, put_there c.put_findings.ensures (omega (arith, w, c.requires)))
