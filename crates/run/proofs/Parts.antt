@@ -2,74 +2,60 @@
 use Prim.Native.Nat.{ℕ}
 use mathlib.Core.Path.{◌≡◌, refl, sym}
 use mathlib.Core.Bool.{false, false≢true}
-use mathlib.Core.List.{List, [], ◌∷◌}
-use types.Run.{OneOf, miss}
-use denote.Enum.Declared.{tag_of}
+use lib.IntN.{ℤ}
 use Rattle.lines.specs.declared.Event.{Event}
 use Rattle.lines.specs.declared.Event.TheVariants as Event
-use Rattle.lines.specs.contracts.Event.{the_type}
 use Rattle.run.specs.Parts.{opens, closes, is_call}
 
-abbrev no_openings : List ℕ
-no_openings = 1 ∷ 2 ∷ 3 ∷ 5 ∷ 6 ∷ 7 ∷ 8 ∷ 9 ∷ 10 ∷ []
+pub opens_not : (e : Event) → ((t env n : ℕ) → e ≡ Event.Enter t env n → ⊥) → ((t env : ℕ) → e ≡ Event.Attach t env → ⊥) → opens e ≡ false
+opens_not (Event.Enter t env n) enter attach = absurd (enter t env n refl)
+opens_not (Event.Leave t r) enter attach = refl
+opens_not (Event.Call t env f a b c n) enter attach = refl
+opens_not (Event.Return t f h s p) enter attach = refl
+opens_not (Event.Attach t env) enter attach = absurd (attach t env refl)
+opens_not (Event.Detach t) enter attach = refl
+opens_not (Event.Declare c s) enter attach = refl
+opens_not (Event.State t h c) enter attach = refl
+opens_not (Event.Identify x sort c static final) enter attach = refl
+opens_not Event.End enter attach = refl
+opens_not (Event.Refused k) enter attach = refl
 
-pub opens_not : (e : Event) → OneOf no_openings (tag_of the_type e) → opens e ≡ false
-opens_not (Event.Enter t env n) w = absurd (miss no_openings 0 tt w)
-opens_not (Event.Leave t r) w = refl
-opens_not (Event.Call t env f a b c n) w = refl
-opens_not (Event.Return t f h s p) w = refl
-opens_not (Event.Attach t env) w = absurd (miss no_openings 4 tt w)
-opens_not (Event.Detach t) w = refl
-opens_not (Event.Declare c s) w = refl
-opens_not (Event.State t h c) w = refl
-opens_not (Event.Identify x sort c static final) w = refl
-opens_not Event.End w = refl
-opens_not (Event.Refused k) w = refl
+pub closes_not : (e : Event) → ((t r : ℕ) → e ≡ Event.Leave t r → ⊥) → ((t : ℕ) → e ≡ Event.Detach t → ⊥) → closes e ≡ false
+closes_not (Event.Enter t env n) leave detach = refl
+closes_not (Event.Leave t r) leave detach = absurd (leave t r refl)
+closes_not (Event.Call t env f a b c n) leave detach = refl
+closes_not (Event.Return t f h s p) leave detach = refl
+closes_not (Event.Attach t env) leave detach = refl
+closes_not (Event.Detach t) leave detach = absurd (detach t refl)
+closes_not (Event.Declare c s) leave detach = refl
+closes_not (Event.State t h c) leave detach = refl
+closes_not (Event.Identify x sort c static final) leave detach = refl
+closes_not Event.End leave detach = refl
+closes_not (Event.Refused k) leave detach = refl
 
-abbrev no_closings : List ℕ
-no_closings = 0 ∷ 2 ∷ 3 ∷ 4 ∷ 6 ∷ 7 ∷ 8 ∷ 9 ∷ 10 ∷ []
+pub calls_not : (e : Event) → ((t env f a b c : ℕ) (n : ℤ) → e ≡ Event.Call t env f a b c n → ⊥) → ((t f h : ℕ) (s : ℤ) (p : ℕ) → e ≡ Event.Return t f h s p → ⊥) → is_call e ≡ false
+calls_not (Event.Enter t env n) call returns = refl
+calls_not (Event.Leave t r) call returns = refl
+calls_not (Event.Call t env f a b c n) call returns = absurd (call t env f a b c n refl)
+calls_not (Event.Return t f h s p) call returns = absurd (returns t f h s p refl)
+calls_not (Event.Attach t env) call returns = refl
+calls_not (Event.Detach t) call returns = refl
+calls_not (Event.Declare c s) call returns = refl
+calls_not (Event.State t h c) call returns = refl
+calls_not (Event.Identify x sort c static final) call returns = refl
+calls_not Event.End call returns = refl
+calls_not (Event.Refused k) call returns = refl
 
-pub closes_not : (e : Event) → OneOf no_closings (tag_of the_type e) → closes e ≡ false
-closes_not (Event.Enter t env n) w = refl
-closes_not (Event.Leave t r) w = absurd (miss no_closings 1 tt w)
-closes_not (Event.Call t env f a b c n) w = refl
-closes_not (Event.Return t f h s p) w = refl
-closes_not (Event.Attach t env) w = refl
-closes_not (Event.Detach t) w = absurd (miss no_closings 5 tt w)
-closes_not (Event.Declare c s) w = refl
-closes_not (Event.State t h c) w = refl
-closes_not (Event.Identify x sort c static final) w = refl
-closes_not Event.End w = refl
-closes_not (Event.Refused k) w = refl
-
-abbrev no_calls : List ℕ
-no_calls = 0 ∷ 1 ∷ 4 ∷ 5 ∷ 6 ∷ 7 ∷ 8 ∷ 9 ∷ 10 ∷ []
-
-pub calls_not : (e : Event) → OneOf no_calls (tag_of the_type e) → is_call e ≡ false
-calls_not (Event.Enter t env n) w = refl
-calls_not (Event.Leave t r) w = refl
-calls_not (Event.Call t env f a b c n) w = absurd (miss no_calls 2 tt w)
-calls_not (Event.Return t f h s p) w = absurd (miss no_calls 3 tt w)
-calls_not (Event.Attach t env) w = refl
-calls_not (Event.Detach t) w = refl
-calls_not (Event.Declare c s) w = refl
-calls_not (Event.State t h c) w = refl
-calls_not (Event.Identify x sort c static final) w = refl
-calls_not Event.End w = refl
-calls_not (Event.Refused k) w = refl
-
-abbrev no_statements : List ℕ
-no_statements = 0 ∷ 1 ∷ 2 ∷ 3 ∷ 4 ∷ 5 ∷ 9 ∷ []
-
-pub ends : (e : Event) → OneOf no_statements (tag_of the_type e) → opens e ≡ false → closes e ≡ false → is_call e ≡ false → e ≡ Event.End
-ends (Event.Enter t env n) w opened closed called = absurd (false≢true (sym opened))
-ends (Event.Leave t r) w opened closed called = absurd (false≢true (sym closed))
-ends (Event.Call t env f a b c n) w opened closed called = absurd (false≢true (sym called))
-ends (Event.Return t f h s p) w opened closed called = absurd (false≢true (sym called))
-ends (Event.Attach t env) w opened closed called = absurd (false≢true (sym opened))
-ends (Event.Detach t) w opened closed called = absurd (false≢true (sym closed))
-ends (Event.Declare c s) w opened closed called = absurd (miss no_statements 6 tt w)
-ends (Event.State t h c) w opened closed called = absurd (miss no_statements 7 tt w)
-ends (Event.Identify x sort c static final) w opened closed called = absurd (miss no_statements 8 tt w)
-ends Event.End w opened closed called = refl
-ends (Event.Refused k) w opened closed called = absurd (miss no_statements 10 tt w)
+pub ends : (e : Event) → ((c s : ℕ) → e ≡ Event.Declare c s → ⊥) → ((t h c : ℕ) → e ≡ Event.State t h c → ⊥) → ((x sort c static final : ℕ) → e ≡ Event.Identify x sort c static final → ⊥) → ((k : ℕ) → e ≡ Event.Refused k → ⊥)
+    → opens e ≡ false → closes e ≡ false → is_call e ≡ false → e ≡ Event.End
+ends (Event.Enter t env n) declare state identify refused opened closed called = absurd (false≢true (sym opened))
+ends (Event.Leave t r) declare state identify refused opened closed called = absurd (false≢true (sym closed))
+ends (Event.Call t env f a b c n) declare state identify refused opened closed called = absurd (false≢true (sym called))
+ends (Event.Return t f h s p) declare state identify refused opened closed called = absurd (false≢true (sym called))
+ends (Event.Attach t env) declare state identify refused opened closed called = absurd (false≢true (sym opened))
+ends (Event.Detach t) declare state identify refused opened closed called = absurd (false≢true (sym closed))
+ends (Event.Declare c s) declare state identify refused opened closed called = absurd (declare c s refl)
+ends (Event.State t h c) declare state identify refused opened closed called = absurd (state t h c refl)
+ends (Event.Identify x sort c static final) declare state identify refused opened closed called = absurd (identify x sort c static final refl)
+ends Event.End declare state identify refused opened closed called = refl
+ends (Event.Refused k) declare state identify refused opened closed called = absurd (refused k refl)

@@ -5,9 +5,7 @@ use Rattle.run.proofs.Ways.{goes_on}
 use Rattle.run.proofs.heard.Goals as goal
 
 pub returns-then-refusal-ne0 : goal.returns-then-refusal-ne0
-returns-then-refusal-ne0 c = let q = c.stopped.ensures in line_refused c.if-refusal-ne0.true q.0 q.1 q.2 refl
+returns-then-refusal-ne0 c = line_refused c.if-refusal-ne0.true c.stopped.ensures.0 c.stopped.ensures.1 c.stopped.ensures.2 refl
 
 pub returns : goal.returns
-returns c =
-    let q = c.aimed.ensures in
-    goes_on c.if-refusal-ne0.false c.requires.1 c.put_found-width.ensures refl refl refl q.0 q.1
+returns c = goes_on c.if-refusal-ne0.false c.requires.1 c.put_found-width.ensures refl refl refl c.aimed.ensures.0 c.aimed.ensures.1

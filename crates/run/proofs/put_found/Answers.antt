@@ -8,4 +8,4 @@ pub returns-then-answer-eq0 : goal.returns-then-answer-eq0
 returns-then-answer-eq0 c = let a = c.args in none_shown _ a.at a.answer c.if-answer-eq0.true
 
 pub returns : goal.returns
-returns c = let w = c.findings_width.ensures in (w.0, w.1, put_there c.put_findings.ensures (omega (arith, w, c.requires)))
+returns c = (c.findings_width.ensures.0, c.findings_width.ensures.1, put_there c.put_findings.ensures (omega (arith, c.findings_width.ensures, c.requires)))

@@ -1,31 +1,26 @@
 -- `run::run_by_scans` meets its contract. The loop keeps what was judged before its place. Assumes nothing.
 use mathlib.Core.Path.{refl}
 use native.Mathlib.Omega.{arith}
-use Rattle.tables.specs.Tables.{Tables, tables}
+use Rattle.tables.specs.Tables.{tables}
 use Rattle.demands.specs.Calls.{Alike}
 use Rattle.run.proofs.Going.{going_start, going_on, going_told, alike_still, roomy, less}
 use Rattle.run.proofs.run_by_scans.Goals as goal
 
-abbrev at_step : tie.After-slice-known14 invariant_loop decreases_loop → tie.After-step invariant_loop decreases_loop
-at_step c = c
+pub loop-way-init : goal.loop-way-init
+loop-way-init c = (record { reference_rows = refl; reference_marks = refl; pin_rows = refl; pin_marks = refl; books = refl; class_tables = refl }, going_start c.start-way.ensures.0 c.start-way.ensures.1 c.start-way.ensures.2 c.start-way.ensures.3)
 
-abbrev at_if1 : tie.After-step invariant_loop decreases_loop → tie.Then1 invariant_loop decreases_loop
-at_if1 c = c
+pub slice_bounds-step-end : goal.slice_bounds-step-end
+slice_bounds-step-end c = (c.loop-way.invariant.1.line c.loop-way-test.true).within
 
-abbrev at_loop : tie.Then1 invariant_loop decreases_loop → tie.At-loop invariant_loop decreases_loop
-at_loop c = c
+pub heard-way-requires : goal.heard-way-requires
+heard-way-requires c = roomy c.loop-way.invariant.1 c.loop-way-test.true {S' = (tables c.step-answer.new.rows c.step-answer.new.marks c.step-answer.new.pins c.step-answer.new.pinmarks c.step-answer.new.book c.step-answer.new.classes)} c.step-answer.ensures
 
-abbrev at_end : tie.After-how-far invariant_loop decreases_loop → tie.At-loop invariant_loop decreases_loop
-at_end c = c
+pub loop-way-smaller : goal.loop-way-smaller
+loop-way-smaller c = less c.loop-way.invariant.1 c.loop-way-test.true c.heard-way.ensures
 
-abbrev held : tie.At-loop invariant_loop decreases_loop → Tables
-held c = tables c.loop-way.rows c.loop-way.marks c.loop-way.pins c.loop-way.pinmarks c.loop-way.book c.loop-way.classes
-
-abbrev left : tie.After-step invariant_loop decreases_loop → Tables
-left c = tables c.step-answer.new.rows c.step-answer.new.marks c.step-answer.new.pins c.step-answer.new.pinmarks c.step-answer.new.book c.step-answer.new.classes
-
-as_long : (c : tie.After-step invariant_loop decreases_loop) → Alike (left c) (held (at_loop (at_if1 c)))
-as_long c =
+pub loop-way-preserved : goal.loop-way-preserved
+loop-way-preserved c =
+    let as_long : Alike (tables c.step-answer.new.rows c.step-answer.new.marks c.step-answer.new.pins c.step-answer.new.pinmarks c.step-answer.new.book c.step-answer.new.classes) (tables c.loop-way.rows c.loop-way.marks c.loop-way.pins c.loop-way.pinmarks c.loop-way.book c.loop-way.classes) =
     record {
       reference_rows = c.step-answer.auto.rows;
       reference_marks = c.step-answer.auto.marks;
@@ -33,49 +28,31 @@ as_long c =
       pin_marks = c.step-answer.auto.pinmarks;
       books = c.step-answer.auto.book;
       class_tables = c.step-answer.auto.classes;
-    }
-
-pub loop-way-init : goal.loop-way-init
-loop-way-init c = (record { reference_rows = refl; reference_marks = refl; pin_rows = refl; pin_marks = refl; books = refl; class_tables = refl }, going_start c.start-way.ensures.0 c.start-way.ensures.1 c.start-way.ensures.2 c.start-way.ensures.3)
-
-pub slice_bounds-step-end : goal.slice_bounds-step-end
-slice_bounds-step-end c = ((at_loop c).loop.invariant.1.line c.loop-way-test.true).within
-
-pub heard-way-requires : goal.heard-way-requires
-heard-way-requires c = let if1 = at_if1 c in roomy (at_loop if1).loop.inv.1 if1.if1.taken {S' = left c} c.step-answer.ensures
-
-pub loop-way-smaller : goal.loop-way-smaller
-loop-way-smaller c = let if1 = at_if1 (at_step c) in less (at_loop if1).loop.inv.1 if1.if1.taken c.heard-way.ensures
-
-pub loop-way-preserved : goal.loop-way-preserved
-loop-way-preserved c =
-    let step = at_step c in
-    let if1 = at_if1 step in
-    let loop = at_loop if1 in (
-    alike_still {S = held loop} (as_long step) loop.loop.inv.0,
-    going_on loop.loop.inv.1 if1.if1.taken {S' = left step} step.step.ensures c.heard-way.ensures,
+    } in
+    (alike_still {S = (tables c.loop-way.rows c.loop-way.marks c.loop-way.pins c.loop-way.pinmarks c.loop-way.book c.loop-way.classes)} as_long c.loop-way.invariant.0,
+    going_on c.loop-way.invariant.1 c.loop-way-test.true {S' = (tables c.step-answer.new.rows c.step-answer.new.marks c.step-answer.new.pins c.step-answer.new.pinmarks c.step-answer.new.book c.step-answer.new.classes)} c.step-answer.ensures c.heard-way.ensures
     )
 
 pub shape_of-rows : goal.shape_of-rows
-shape_of-rows c = (at_end c).loop.invariant.0.reference_rows
+shape_of-rows c = c.loop-way.invariant.0.reference_rows
 
 pub shape_of-marks : goal.shape_of-marks
-shape_of-marks c = (at_end c).loop.invariant.0.reference_marks
+shape_of-marks c = c.loop-way.invariant.0.reference_marks
 
 pub shape_of-pins : goal.shape_of-pins
-shape_of-pins c = (at_end c).loop.invariant.0.pin_rows
+shape_of-pins c = c.loop-way.invariant.0.pin_rows
 
 pub shape_of-pinmarks : goal.shape_of-pinmarks
-shape_of-pinmarks c = (at_end c).loop.invariant.0.pin_marks
+shape_of-pinmarks c = c.loop-way.invariant.0.pin_marks
 
 pub shape_of-book : goal.shape_of-book
-shape_of-book c = (at_end c).loop.invariant.0.books
+shape_of-book c = c.loop-way.invariant.0.books
 
 pub shape_of-classes : goal.shape_of-classes
-shape_of-classes c = (at_end c).loop.invariant.0.class_tables
+shape_of-classes c = c.loop-way.invariant.0.class_tables
 
 pub shape_of-out : goal.shape_of-out
-shape_of-out c = (at_end c).loop.invariant.1.as_long
+shape_of-out c = c.loop-way.invariant.1.as_long
 
 pub returns : goal.returns
-returns c = going_told c.how_far.ensures (at_end c).loop.invariant.1 (omega (arith, c.loop-way-test.false))
+returns c = going_told c.how_far.ensures c.loop-way.invariant.1 (omega (arith, c.loop-way-test.false))

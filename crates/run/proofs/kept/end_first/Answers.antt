@@ -12,7 +12,7 @@ pub next_own-i-requires : goal.next_own-i-requires
 next_own-i-requires c = (unfold room in omega arith, omega arith, search rules)
 
 pub loop-i-init : goal.loop-i-init
-loop-i-init c = let told = c.next_own-i.ensures in (told.1, refl, refl, refl, own_first _ _ _ _ _ _ _ (omega arith) (omega arith) c.requires.3 told.2, c.requires.0)
+loop-i-init c = (c.next_own-i.ensures.1, refl, refl, refl, own_first _ _ _ _ _ _ _ (omega arith) (omega arith) c.requires.3 c.next_own-i.ensures.2, c.requires.0)
 
 pub overflow_mul-w : goal.overflow_mul-w
 overflow_mul-w c = unfold room in omega arith
@@ -27,7 +27,7 @@ pub next_own-i-requires-in-loop-i : goal.next_own-i-requires-in-loop-i
 next_own-i-requires-in-loop-i c = (unfold room in omega arith, omega arith, search rules)
 
 pub loop-i-preserved : goal.loop-i-preserved
-loop-i-preserved c = let told = c.next_own-i-in-loop-i.ensures in (told.1, omega arith, omega arith, omega arith, own_next _ _ _ _ _ _ _ _ _ _ (omega arith) (omega arith) c.requires.3 c.loop-i.invariant.4 c.end_if.ensures.left told.0 told.2, c.end_if.ensures.guided)
+loop-i-preserved c = (c.next_own-i-in-loop-i.ensures.1, omega arith, omega arith, omega arith, own_next _ _ _ _ _ _ _ _ _ _ (omega arith) (omega arith) c.requires.3 c.loop-i.invariant.4 c.end_if.ensures.left c.next_own-i-in-loop-i.ensures.0 c.next_own-i-in-loop-i.ensures.2, c.end_if.ensures.guided)
 
 pub returns-clause-left : goal.returns-clause-left
 returns-clause-left c = search ended_end

@@ -4,4 +4,4 @@ use Rattle.run.proofs.Shown.{unshown_between}
 use Rattle.run.proofs.kept.next_shown.Goals as goal
 
 pub returns : goal.returns
-returns c = let told = c.next_bit.ensures in unshown_between _ _ _ _ _ c.lesser.ensures (search rules) told.0 told.1 told.2
+returns c = unshown_between _ _ _ _ _ c.lesser.ensures (search rules) c.next_bit.ensures.0 c.next_bit.ensures.1 c.next_bit.ensures.2
