@@ -10,7 +10,6 @@ use Rattle.history.specs.Replies.{most_lines}
 use Rattle.book.specs.Layout.{width, lines_at, closed_at, env_at, pending_at, monitors_at, frames_at, capacity_at, items_at, natives_at, cell, Write, into, wrote, Stands}
 use Rattle.book.specs.Threads.{Row, Thread, thread_of, thread_in, frame_is, top_capacity, no_function, attached_function, item_bound, item_is, items_of, items_in, top_is, lines_in, closed_in}
 use Rattle.book.specs.declared.Top.{Top}
-use Rattle.book.specs.declared.Top.TheVariants as Top
 use Rattle.book.specs.Moves.{push_frame, frame_pushed, leave_native, native_left, frames_ended, pop_frame, frame_popped, raise_capacity, capacity_raised, push_item, item_pushed, pop_item, item_popped, env_set, pending_set, monitor_added, monitor_taken, monitors_dropped}
 use Rattle.book.specs.Unfit.{overdone_in}
 use Rattle.book.specs.Changes.{with_frame, cut_to, with_raised, with_pending, with_monitors, with_env, pushed_item, stay, Kept, Changes}

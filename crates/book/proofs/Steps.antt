@@ -18,7 +18,6 @@ use Rattle.rows.specs.Marks.{bit}
 use Rattle.book.specs.Layout.{width, whole, lines_at, closed_at, env_at, pending_at, monitors_at, frames_at, capacity_at, pushed_at, items_at, natives_at, function_at, asked_at, cell, put, wrote}
 use Rattle.book.specs.Threads.{stack, depth, frame_is, is_pushed, thread_of, thread_in, top_capacity, opened, attached_function, marked_function, item_bound, item_is, items_of, items_in, natives, top_is, lines_in, closed_in, env_elsewhere, all_monitors}
 use Rattle.book.specs.declared.Top.{Top}
-use Rattle.book.specs.declared.Top.TheVariants as Top
 use Rattle.book.specs.Moves.{push_frame, frame_pushed, leave_native, native_left, frames_ended, pop_frame, frame_popped, raise_capacity, capacity_raised, with_mark, push_item, item_pushed, pop_item, item_popped, env_set, pending_set, monitor_added, monitor_taken, monitors_dropped, line_counted, closed_set, cleared}
 use Rattle.book.specs.Turns.{ByTurns}
 use Rattle.book.specs.Unfit.{overdone, overdone_in, unfit}

@@ -11,7 +11,6 @@ use Rattle.history.specs.Thread.{all_threads}
 use Rattle.rows.specs.Marks.{bit}
 use Rattle.book.specs.Layout.{lines_at, closed_at, env_at, pending_at, monitors_at, frames_at, capacity_at, pushed_at, items_at, natives_at, function_at, asked_at, cell}
 use Rattle.book.specs.declared.Top.{Top}
-use Rattle.book.specs.declared.Top.TheVariants as Top
 
 -- the numbers of a row by their columns
 abbrev pub Row : Type 0

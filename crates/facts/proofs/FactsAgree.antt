@@ -17,7 +17,6 @@ use Rattle.facts.specs.Classes.{no_class, class_a, class_b}
 use Rattle.facts.specs.Identities.{wanted_of, writes_field}
 use Rattle.facts.specs.Letters.{place_letter, no_letter, wanted_letter, no_family}
 use Rattle.facts.specs.declared.Place.{Place}
-use Rattle.facts.specs.declared.Place.TheVariants as Place
 use Rattle.facts.proofs.Letters.{place_back, one_back}
 use Rattle.facts.proofs.Each.{each, each_at}
 use Rattle.facts.proofs.Outside.{how_many, above_last, gets, releases, no_fact_outside, no_row_outside, not_pending_outside, not_critical_outside, no_family_outside, no_pair_outside, no_getter_outside, no_releaser_outside, no_class_a_outside, no_class_b_outside, nothing_wanted_outside, writes_nothing_outside}

@@ -6,11 +6,8 @@ use Rattle.words.specs.Choice.{one}
 use Rattle.facts.specs.Table.{place, result_in}
 use Rattle.facts.specs.Letters.{place_letter, result_letter, wanted_letter, wanted_in}
 use Rattle.facts.specs.declared.identities.Wanted.{Wanted}
-use Rattle.facts.specs.declared.identities.Wanted.TheVariants as Wanted
 use Rattle.facts.specs.declared.Place.{Place}
-use Rattle.facts.specs.declared.Place.TheVariants as Place
 use Rattle.facts.specs.declared.Result.{Result}
-use Rattle.facts.specs.declared.Result.TheVariants as Result
 
 pub place_back : (p : Place) → place (place_letter p) ≡ p
 place_back Place.Handle = refl

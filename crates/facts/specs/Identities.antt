@@ -3,7 +3,6 @@ use Rattle.std.specs.Prelude.{ℕ, Bool, false, ◌&&◌, [], ◌∷◌, eqb}
 use Rattle.words.specs.Choice.{if◌then◌else◌}
 use Rattle.facts.specs.Table.{only, ◌to◌, lists}
 use Rattle.facts.specs.declared.identities.Wanted.{Wanted}
-use Rattle.facts.specs.declared.identities.Wanted.TheVariants as Wanted
 
 -- sort is 1 method or 2 field
 abbrev pub method : ℕ

@@ -6,12 +6,9 @@ use Rattle.words.specs.Text.{bytes}
 use Rattle.facts.specs.Table.{place, families}
 use Rattle.facts.specs.Classes.{class, string, throwable, no_class}
 use Rattle.facts.specs.declared.identities.Wanted.{Wanted}
-use Rattle.facts.specs.declared.identities.Wanted.TheVariants as Wanted
 use Rattle.facts.specs.declared.Place.{Place}
-use Rattle.facts.specs.declared.Place.TheVariants as Place
 use Rattle.facts.specs.declared.places.Places.{Places}
 use Rattle.facts.specs.declared.Result.{Result}
-use Rattle.facts.specs.declared.Result.TheVariants as Result
 
 abbrev pub no_letter : ℕ
 no_letter = code "-"

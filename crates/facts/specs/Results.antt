@@ -1,9 +1,7 @@
 -- What a result or a place is of: a local, any handle, a buffer. Assumes nothing.
 use Rattle.std.specs.Prelude.{Bool, true, false}
 use Rattle.facts.specs.declared.Place.{Place}
-use Rattle.facts.specs.declared.Place.TheVariants as Place
 use Rattle.facts.specs.declared.Result.{Result}
-use Rattle.facts.specs.declared.Result.TheVariants as Result
 
 -- L
 abbrev pub is_local_result : Result → Bool

@@ -6,9 +6,7 @@ use Rattle.words.specs.Choice.{if◌then◌else◌, within}
 use Rattle.words.specs.Lists.{any, place_of}
 use Rattle.words.specs.Text.{bytes}
 use Rattle.facts.specs.declared.Place.{Place}
-use Rattle.facts.specs.declared.Place.TheVariants as Place
 use Rattle.facts.specs.declared.Result.{Result}
-use Rattle.facts.specs.declared.Result.TheVariants as Result
 
 -- ---- numbers
 

@@ -1,23 +1,19 @@
 -- What a guide keeps of any rows: each used row is listed and counted; one row more, one less. Assumes nothing.
-use mathlib.Core.Path.{◌≡◌, refl, sym, ap, ap₂, subst, ◌∙◌}
+use mathlib.Core.Path.{◌≡◌, refl, sym, ap, ◌∙◌}
 use mathlib.Core.Bool.{Bool, true, false}
 use mathlib.Core.List.{List}
 use mathlib.Core.Option.{Option, none, some}
-use Prim.Native.Nat.{ℕ, suc, ◌+◌, ◌-◌, ◌≤◌, ◌<◌}
-use native.Mathlib.Decide.{ℕ_discrete}
+use Prim.Native.Nat.{ℕ, suc, ◌+◌, ◌≤◌, ◌<◌}
 use native.Mathlib.Omega.{arith}
-use lib.Dec.{eqb, ltb}
-use lib.ListN.{length, get_or, set, length-set}
+use lib.Dec.{eqb}
+use lib.ListN.{length, get_or, length-set}
 use lib.Seq.{get_or-set_other}
-use Rattle.words.specs.Choice.{if◌then◌else◌, one}
-use Rattle.rows.specs.Scan.{how_many}
+use Rattle.words.specs.Choice.{if◌then◌else◌}
 use Rattle.rows.specs.Slots.{holding}
-use Rattle.rows.specs.Table.{Layout, Table, most}
-use Rattle.rows.specs.View.{view}
-use Rattle.rows.proofs.ScanLaws.{how_many_ext}
-use Rattle.guide.specs.Words.{lane, full_word, named}
+use Rattle.rows.specs.Table.{Layout, Table}
+use Rattle.guide.specs.Words.{full_word, named}
 use Rattle.guide.specs.Listing.{word_at, lists, with_row, put_row_at, with_listed, Listed}
-use Rattle.guide.specs.Tallies.{more_at, less_at, tally, Tallied}
+use Rattle.guide.specs.Tallies.{more_at, less_at, Tallied}
 use Rattle.guide.proofs.Changes.{not_none, below_last, Added, Removed, still}
 use Rattle.guide.proofs.ListingLaws.{listed_more}
 use Rattle.guide.proofs.TallyLaws.{tally_more, tally_next, tallied_like, tallied_plus, tallied_minus}

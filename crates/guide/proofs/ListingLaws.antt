@@ -1,22 +1,20 @@
 -- A guide lists each used row: what is found by it is what a look at all rows finds, and one row more is listed too. Assumes nothing.
-use mathlib.Core.Path.{◌≡◌, refl, sym, ap, ap₂, subst, ◌∙◌}
-use mathlib.Core.Bool.{Bool, true, false, not, ◌&&◌, ◌||◌, false≢true}
+use mathlib.Core.Path.{◌≡◌, refl, sym, ap, subst, ◌∙◌}
+use mathlib.Core.Bool.{Bool, true, false, ◌&&◌, ◌||◌, false≢true}
 use mathlib.Core.List.{List}
 use mathlib.Core.Option.{Option, none, some}
-use Prim.Native.Nat.{ℕ, suc, ◌≤◌, ◌<◌}
+use Prim.Native.Nat.{ℕ, ◌≤◌, ◌<◌}
 use native.Mathlib.Decide.{ℕ_discrete}
 use native.Mathlib.Omega.{arith}
 use lib.Dec.{eqb}
 use lib.ListN.{length, get_or, set, length-set}
 use lib.Seq.{get_or-set_same, get_or-set_other}
-use borrow.Author.Tests.{eqb-true, eq-eqb, ne_eqb, le-leb, leb-true}
-use Rattle.words.specs.Choice.{if◌then◌else◌}
-use Rattle.rows.specs.Scan.{lowest}
+use borrow.Author.Tests.{eq-eqb, ne_eqb, le-leb, leb-true}
 use Rattle.rows.specs.Slots.{holding}
 use Rattle.rows.specs.Table.{Layout, Table, room, passes, found}
 use Rattle.rows.specs.View.{slot, view}
 use Rattle.rows.proofs.ScanLaws.{lowest_ext}
-use Rattle.rows.proofs.ViewLaws.{passes_slot, view_at}
+use Rattle.rows.proofs.ViewLaws.{passes_slot}
 use Rattle.guide.specs.Words.{lane, full_word, name_a, name_b, name_c, above, is_full, word_of, named}
 use Rattle.guide.specs.Listing.{word_at, lists, found_by, wants, with_row, put_row_at, with_listed, Listed}
 use Rattle.guide.proofs.WordLaws.{named_is}

@@ -1,14 +1,14 @@
 -- A guide of pin rows: what it tells, and that it stays one as rows are stored and ended. Assumes nothing.
-use mathlib.Core.Path.{◌≡◌, refl, sym, ap, ap₂, subst, ◌∙◌}
+use mathlib.Core.Path.{◌≡◌, refl, sym, subst, ◌∙◌}
 use mathlib.Core.Bool.{Bool, true, false, ◌&&◌, false≢true}
 use mathlib.Core.List.{List}
 use mathlib.Core.Option.{Option, none, some}
 use Prim.Native.Nat.{ℕ, zero, suc, ◌+◌, ◌≤◌, ◌<◌}
-use native.Mathlib.Decide.{ℕ_discrete, dec_lt}
+use native.Mathlib.Decide.{dec_lt}
 use native.Mathlib.Omega.{arith}
 use lib.Dec.{eqb, leb}
 use lib.ListN.{length, get_or, replicate, get_or-replicate, length-replicate}
-use borrow.Author.Tests.{eqb-true, eq-eqb, ne_eqb, le-leb, lt-leb, leb-true}
+use borrow.Author.Tests.{eqb-true, ne_eqb, le-leb, leb-true}
 use Rattle.words.specs.Choice.{if◌then◌else◌}
 use Rattle.rows.specs.Scan.{how_many}
 use Rattle.rows.specs.Slots.{holding}
@@ -19,7 +19,7 @@ use Rattle.rows.specs.Pins.{pins, of_thread, is_buffer}
 use Rattle.rows.proofs.ScanLaws.{how_many_ext}
 use Rattle.rows.proofs.RowLaws.{ended_out}
 use Rattle.rows.proofs.ViewLaws.{passes_slot, view_at, view_past}
-use Rattle.guide.specs.Tallies.{less_at, tally}
+use Rattle.guide.specs.Tallies.{tally}
 use Rattle.guide.specs.Pins.{places, size, first_of, second_of, first, second, cell_of, cell, found_in, with_slot, noted, without_slot, forgotten, filled, Guides, Leads, scans, by_guide}
 use Rattle.guide.proofs.Changes.{added_stored, stored_there, added_next, removed_ended, ended_free, ended_room}
 use Rattle.guide.proofs.ListingLaws.{found_by_is}

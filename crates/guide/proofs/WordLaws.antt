@@ -1,11 +1,10 @@
 -- A word of a guide made of its parts. Assumes nothing.
-use mathlib.Core.Path.{◌≡◌, refl, sym, ap, ap₂, ◌∙◌}
-use mathlib.Core.Bool.{Bool, true, false, ◌||◌}
-use Prim.Native.Nat.{ℕ, ◌+◌, ◌*◌, ◌/◌, ◌%◌, ◌≤◌, ◌<◌}
+use mathlib.Core.Path.{◌≡◌, refl}
+use mathlib.Core.Bool.{◌||◌}
+use Prim.Native.Nat.{ℕ, ◌<◌}
 use native.Mathlib.Omega.{arith}
-use lib.Dec.{eqb, leb}
-use borrow.Author.Tests.{eq-eqb}
-use Rattle.guide.specs.Words.{lane, full_word, name_a, name_b, name_c, is_full, word_of, named}
+use lib.Dec.{eqb}
+use Rattle.guide.specs.Words.{lane, name_a, name_b, name_c, word_of, named}
 
 module _ (a b c top : ℕ) (la : a < lane) (lb : b < lane) (lc : c < lane) where
   pub parts_a : name_a (word_of a b c top) ≡ a

@@ -15,10 +15,8 @@ use Rattle.facts.specs.Table.{fact_of, is_allowed_pending, is_allowed_critical}
 use Rattle.facts.specs.Named.{PopLocalFrame, MonitorExit}
 use Rattle.facts.specs.Classes.{no_class, class_a, class_b}
 use Rattle.facts.specs.declared.Place.{Place}
-use Rattle.facts.specs.declared.Place.TheVariants as Place
 use Rattle.facts.specs.declared.Result.{Result}
 use Rattle.facts.specs.Results.{is_local_result}
-use Rattle.facts.specs.declared.Result.TheVariants as Result
 use Rattle.lines.specs.Line.{Line, N, X, C, R, A, D, Z, states, above_zero}
 use Rattle.history.specs.Past.{History}
 use Rattle.history.specs.Frames.{frames, top_pushed, depth}

@@ -13,10 +13,8 @@ use Rattle.words.specs.Choice.{if◌then◌else◌, one}
 use Rattle.words.specs.Lists.{count, but_first}
 use Rattle.facts.specs.Table.{fact_of}
 use Rattle.facts.specs.declared.Place.{Place}
-use Rattle.facts.specs.declared.Place.TheVariants as Place
 use Rattle.facts.specs.declared.Result.{Result}
 use Rattle.facts.specs.Results.{is_buffer_result, is_buffer_place}
-use Rattle.facts.specs.declared.Result.TheVariants as Result
 use Rattle.lines.specs.Line.{Line, N, X, C, R, A, D, Z, states}
 use Rattle.history.specs.Past.{History}
 use Rattle.history.specs.Buffers.{Pin, ordinary, critical, pin, same_pin, gets, releases, outstanding}

@@ -15,7 +15,6 @@ use Rattle.words.specs.Lists.{keep, count}
 use Rattle.facts.specs.Table.{fact_of}
 use Rattle.facts.specs.Named.{PushLocalFrame, PopLocalFrame, DeleteGlobalRef, DeleteLocalRef, DeleteWeakGlobalRef}
 use Rattle.facts.specs.declared.Result.{Result}
-use Rattle.facts.specs.declared.Result.TheVariants as Result
 use Rattle.lines.specs.Line.{Line, N, X, C, R, A, D, Z, states, kind, is_zero}
 use Rattle.history.specs.Past.{History, thread_of, is_of}
 use Rattle.history.specs.Frames.{Frame, entered, pushed, frames, depth, without_pushed}

@@ -13,7 +13,6 @@ use Rattle.words.specs.Choice.{if◌then◌else◌}
 use Rattle.words.specs.Lists.{any, keep, count}
 use Rattle.facts.specs.Table.{fact_of, is_function}
 use Rattle.facts.specs.declared.Result.{Result}
-use Rattle.facts.specs.declared.Result.TheVariants as Result
 use Rattle.lines.specs.Line.{Line, N, R, kind, most_handles, is_thread, is_env, is_allowed, is_argument, is_value, is_made, result_allows, value_allows}
 use Rattle.history.specs.Past.{History, thread_of, closed}
 use Rattle.history.specs.Items.{Item, items, top_of, is_call_of}

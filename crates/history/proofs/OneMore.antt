@@ -12,7 +12,6 @@ use borrow.Author.Tests.{eqb-true, ne_eqb, le-ltb}
 use Rattle.words.specs.Lists.{count}
 use Rattle.facts.specs.Table.{fact_of}
 use Rattle.facts.specs.declared.Result.{Result}
-use Rattle.facts.specs.declared.Result.TheVariants as Result
 use Rattle.lines.specs.Line.{R}
 use Rattle.history.specs.Past.{History}
 use Rattle.history.specs.Frames.{depth}

@@ -11,7 +11,6 @@ use Rattle.words.specs.Choice.{if◌then◌else◌}
 use Rattle.facts.specs.Classes.{no_class}
 use Rattle.facts.specs.Identities.{wanted_of, suits, writes_field}
 use Rattle.facts.specs.declared.Place.{Place}
-use Rattle.facts.specs.declared.Place.TheVariants as Place
 use Rattle.lines.specs.Line.{kind}
 use Rattle.history.specs.Past.{History}
 use Rattle.history.specs.Handles.{Alive, local, shared}

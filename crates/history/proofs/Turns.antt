@@ -11,7 +11,6 @@ use Rattle.words.specs.Choice.{if◌then◌else◌}
 use Rattle.words.specs.Lists.{any}
 use Rattle.facts.specs.Table.{fact_of}
 use Rattle.facts.specs.declared.Result.{Result}
-use Rattle.facts.specs.declared.Result.TheVariants as Result
 use Rattle.lines.specs.Line.{Line, N, X, C, R, A, D, Z, states, above_zero}
 use Rattle.history.specs.Past.{History, thread_of, closed}
 use Rattle.history.specs.Items.{Item, in_native, in_call, attached, items, top_of}

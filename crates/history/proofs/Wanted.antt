@@ -1,7 +1,7 @@
 -- What a function wants of an identity, and whether it writes, is computed as document 02 says it. Assumes nothing.
 use Prim.Native.Nat.{ℕ, ◌≤◌, ◌<◌}
-use mathlib.Core.Path.{◌≡◌, refl, sym, ◌∙◌}
-use mathlib.Core.Logic.{◌↔◌, ◌⊎◌, inl, inr}
+use mathlib.Core.Path.{◌≡◌, refl}
+use mathlib.Core.Logic.{◌↔◌, inl, inr}
 use mathlib.Core.Bool.{Bool, true, false, ◌&&◌, ◌||◌, false≢true}
 use mathlib.Core.List.{[], ◌∷◌}
 use native.Mathlib.Omega.{arith}
@@ -11,9 +11,8 @@ use Rattle.words.specs.Choice.{if◌then◌else◌, within}
 use Rattle.facts.specs.Table.{only, ◌to◌, lists}
 use Rattle.facts.specs.Identities.{method, field, wanted_of, suits, writes_field}
 use Rattle.facts.specs.declared.identities.Wanted.{Wanted}
-use Rattle.facts.specs.declared.identities.Wanted.TheVariants as Wanted
 use Rattle.history.specs.Identified.{Suits, object_method, static_method, object_field, static_field, any_method, any_field, Writes, object_written, static_written}
-use Rattle.history.proofs.Tests.{and_left, and_right, or_cases, either, eqb_self}
+use Rattle.history.proofs.Tests.{and_left, and_right, or_cases, either}
 
 -- ---- numbers from one to another
 

@@ -8,7 +8,6 @@ use Rattle.facts.specs.Results.{is_local_result, is_handle_place, is_buffer_plac
 use Rattle.facts.specs.Classes.{no_class, class_a, class_b}
 use Rattle.facts.specs.Identities.{wanted_of, suits, writes_field}
 use Rattle.facts.specs.declared.Place.{Place}
-use Rattle.facts.specs.declared.Place.TheVariants as Place
 use Rattle.lines.specs.Line.{Line, if_X◌then◌else◌, if_C◌then◌else◌, if_R◌then◌else◌, if_D◌then◌else◌, if_Z◌then◌else◌, kind, above_zero}
 use Rattle.history.specs.Past.{thread_of}
 use Rattle.history.specs.Frames.{top_pushed}

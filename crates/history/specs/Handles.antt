@@ -5,7 +5,6 @@ use Rattle.words.specs.Lists.{keep, count}
 use Rattle.facts.specs.Table.{fact_of}
 use Rattle.facts.specs.Named.{DeleteGlobalRef, DeleteLocalRef, DeleteWeakGlobalRef}
 use Rattle.facts.specs.declared.Result.{Result}
-use Rattle.facts.specs.declared.Result.TheVariants as Result
 use Rattle.lines.specs.Line.{Line, if_N◌then◌else◌, if_C◌then◌else◌, if_R◌then◌else◌, kind, above_zero}
 use Rattle.history.specs.Past.{History, thread_of}
 use Rattle.history.specs.Frames.{depth}

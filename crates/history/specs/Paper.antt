@@ -6,7 +6,6 @@ use Rattle.facts.specs.Table.{fact_of, is_allowed_pending}
 use Rattle.facts.specs.Named.{PopLocalFrame, MonitorExit}
 use Rattle.facts.specs.Classes.{no_class, class_a, class_b}
 use Rattle.facts.specs.declared.Place.{Place}
-use Rattle.facts.specs.declared.Place.TheVariants as Place
 use Rattle.facts.specs.declared.Result.TheVariants as Result
 use Rattle.lines.specs.Line.{Line, X, C, R, D, Z, kind}
 use Rattle.history.specs.Past.{History}

@@ -9,7 +9,6 @@ use Rattle.lines.specs.Line.{K, O, M, Line, N, X, C, R, A, D, Z, states, above_z
 use Rattle.lines.specs.Reading.{Read, says, refused}
 use Rattle.lines.specs.Events.{gives_status, event_of}
 use Rattle.lines.specs.declared.Event.{Event}
-use Rattle.lines.specs.declared.Event.TheVariants as Event
 
 pub event_refused : (x : Read) (k : ℕ) → event_of x ≡ Event.Refused k → x ≡ refused k
 event_refused (refused j) k h = cc

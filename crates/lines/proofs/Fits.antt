@@ -16,9 +16,7 @@ use Rattle.numbers.proofs.Digits.{length_below}
 use Rattle.numbers.specs.Signed.{is_i32, largest_i32}
 use Rattle.facts.specs.Table.{fact_of, is_function, first_function, last_function}
 use Rattle.facts.specs.declared.Place.{Place}
-use Rattle.facts.specs.declared.Place.TheVariants as Place
 use Rattle.facts.specs.declared.Result.{Result}
-use Rattle.facts.specs.declared.Result.TheVariants as Result
 use Rattle.lines.specs.Line.{K, O, M, Line, N, X, C, R, A, D, Z, states, is_allowed, is_thread, is_env, is_value, is_class, is_identity, is_sort, is_argument, is_made, is_zero, kind, threads, classes, largest, longest, most_handles, place_allows, capacity_allows, value_allows, result_allows}
 use Rattle.lines.specs.Forms.{most_fields, form_of, letter_of, numbers_of}
 use Rattle.lines.specs.Reading.{line_of}

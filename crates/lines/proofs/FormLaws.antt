@@ -21,7 +21,6 @@ use Rattle.lines.specs.Reading.{says, refused, if_allowed, line_of}
 use Rattle.lines.specs.Events.{gives_status, event_of}
 use Rattle.lines.specs.Sizes.{signed_at, numbers_in, right_count, line_in, named}
 use Rattle.lines.specs.declared.Event.{Event}
-use Rattle.lines.specs.declared.Event.TheVariants as Event
 use Rattle.lines.proofs.Tests.{both, all3, all4, all5, all7, and_false}
 use Rattle.lines.proofs.Listed.{of_length}
 use Rattle.lines.proofs.Formed.{within_low, within_high, within_one, no_count}

@@ -23,7 +23,6 @@ use Rattle.lines.specs.Sizes.{numbers_in, right_count, line_in, named, slots_in}
 use Rattle.lines.specs.Gathered.{tally, nothing_yet, no_values, Gathered, gathered_as, gathered, made}
 use Rattle.lines.specs.declared.heads.Tally.{Tally}
 use Rattle.lines.specs.declared.Event.{Event}
-use Rattle.lines.specs.declared.Event.TheVariants as Event
 use Rattle.lines.proofs.Tests.{and_false}
 use Rattle.lines.proofs.Formed.{within_high, most_few}
 use Rattle.lines.proofs.Gathering.{any_wrong, counted_from, gathered_count, gathered_out, gathered_values}

@@ -3,7 +3,7 @@ use mathlib.Core.Path.{◌≡◌, refl, ap, ap₂, sym, ◌∙◌}
 use mathlib.Core.Bool.{Bool, true, false, not, ◌&&◌, ◌||◌}
 use mathlib.Core.List.{List, [], ◌∷◌, map}
 use mathlib.Core.Option.{Option, none, some}
-use Prim.Native.Nat.{ℕ, suc, ◌+◌, ◌%◌, ◌≤◌, ◌<◌}
+use Prim.Native.Nat.{ℕ, suc, ◌+◌, ◌≤◌, ◌<◌}
 use native.Mathlib.Omega.{arith}
 use native.Mathlib.Decide.{dec_le, dec_lt}
 use lib.Dec.{eqb, leb, ltb}
@@ -17,7 +17,6 @@ use Rattle.numbers.specs.Decimal.{number}
 use Rattle.numbers.specs.Reading.{bounded, found}
 use Rattle.numbers.specs.Writing.{put}
 use Rattle.numbers.specs.declared.Field.{Field}
-use Rattle.numbers.specs.declared.Field.TheVariants as Field
 use Rattle.numbers.proofs.Put.{put_none, put_cons}
 use Rattle.numbers.specs.Signed.{is_negative}
 use Rattle.lines.specs.Line.{largest}

@@ -10,7 +10,6 @@ use Rattle.lines.specs.Sizes.{line_in}
 use Rattle.lines.specs.Gathered.{fields_from, letter_alone, Gathered, gathered_as, made, said, Headed}
 use Rattle.lines.specs.declared.heads.Tally.{Tally}
 use Rattle.lines.specs.declared.heads.Head.{Head}
-use Rattle.lines.specs.declared.heads.Head.TheVariants as Head
 use Rattle.lines.proofs.Content.{alone}
 use Rattle.lines.proofs.Numbered.{never}
 use Rattle.lines.proofs.GatheredLaws.{gathered_of, made_numbers, made_rest}

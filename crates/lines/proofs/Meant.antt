@@ -13,12 +13,10 @@ use Rattle.words.specs.Choice.{if◌then◌else◌}
 use Rattle.words.specs.Lists.{any}
 use Rattle.facts.specs.Table.{fact_of, is_function}
 use Rattle.facts.specs.declared.Result.{Result}
-use Rattle.facts.specs.declared.Result.TheVariants as Result
 use Rattle.lines.specs.Line.{K, O, M, Line, N, X, C, R, A, D, Z, states, is_allowed, is_thread, is_env, is_argument, is_zero, is_made, result_allows, value_allows, above_zero, most_handles}
 use Rattle.lines.specs.Reading.{says, refused}
 use Rattle.lines.specs.Events.{is_status, gives_status, event_of, padded, slots_of, not_zero, with_slots, meant}
 use Rattle.lines.specs.declared.Event.{Event}
-use Rattle.lines.specs.declared.Event.TheVariants as Event
 use Rattle.lines.proofs.Tests.{all4, neither}
 use Rattle.lines.proofs.Numbered.{never}
 

@@ -8,10 +8,8 @@ use lib.IntN.{ℤ, pos, negsuc}
 use borrow.Author.Tests.{ne_eqb}
 use Rattle.words.specs.Choice.{if◌then◌else◌}
 use Rattle.facts.specs.declared.Result.{Result}
-use Rattle.facts.specs.declared.Result.TheVariants as Result
 use Rattle.numbers.specs.Signed.{signed, is_i32, as_int}
 use Rattle.numbers.specs.declared.Int.{Int}
-use Rattle.numbers.specs.declared.Int.TheVariants as Int
 use Rattle.numbers.proofs.Bounds.{int_was, int_was_out}
 use Rattle.lines.specs.Line.{is_zero, capacity_allows, result_allows}
 use Rattle.lines.specs.Events.{is_status}

@@ -19,7 +19,6 @@ use Rattle.lines.specs.Apart.{as_told, numbers_told}
 use Rattle.lines.specs.Sizes.{signed_at, minus_place, line_in, sizes_told}
 use Rattle.lines.specs.Gathered.{Headed, Tells}
 use Rattle.lines.specs.declared.Event.{Event}
-use Rattle.lines.specs.declared.Event.TheVariants as Event
 use Rattle.lines.specs.declared.apart.Apart.TheVariants as Apart
 use Rattle.lines.specs.declared.heads.Head.TheVariants as Head
 use Rattle.lines.proofs.Signs.{Away, away, away_next}

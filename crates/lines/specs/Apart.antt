@@ -4,7 +4,6 @@ use Rattle.lines.specs.Line.{Line, largest}
 use Rattle.lines.specs.Forms.{most_fields, letter_of, numbers_of}
 use Rattle.lines.specs.Reading.{Read, says, refused}
 use Rattle.lines.specs.declared.apart.Apart.{Apart}
-use Rattle.lines.specs.declared.apart.Apart.TheVariants as Apart
 
 -- a number below zero is its two's complement: -1 is the largest
 abbrev pub as_told : ℤ → ℕ

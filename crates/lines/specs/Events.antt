@@ -4,14 +4,11 @@ use Rattle.words.specs.Choice.{if◌then◌else◌}
 use Rattle.words.specs.Lists.{any}
 use Rattle.facts.specs.Table.{fact_of}
 use Rattle.facts.specs.declared.Result.{Result}
-use Rattle.facts.specs.declared.Result.TheVariants as Result
 use Rattle.lines.specs.Line.{K, O, M, Line, N, X, C, R, A, D, Z, states, if_N◌then◌else◌, is_allowed, is_zero, above_zero, most_handles}
 use Rattle.lines.specs.Reading.{Read, says, refused}
 use Rattle.lines.specs.Writing.{written}
 use Rattle.lines.specs.declared.Event.{Event}
-use Rattle.lines.specs.declared.Event.TheVariants as Event
 use Rattle.lines.specs.declared.Wrote.{Wrote}
-use Rattle.lines.specs.declared.Wrote.TheVariants as Wrote
 
 abbrev pub is_status : Result → Bool
 is_status Result.Status = true

@@ -5,7 +5,6 @@ use Rattle.words.specs.Text.{tab}
 use Rattle.numbers.specs.Decimal.{number}
 use Rattle.numbers.specs.Reading.{bounded}
 use Rattle.numbers.specs.declared.Field.{Field}
-use Rattle.numbers.specs.declared.Field.TheVariants as Field
 use Rattle.lines.specs.Line.{Line, largest}
 use Rattle.lines.specs.Forms.{most_fields, numbers_of}
 use Rattle.lines.specs.Reading.{Read, says, refused, fields}
@@ -14,7 +13,6 @@ use Rattle.lines.specs.Sizes.{right_count, line_in}
 use Rattle.lines.specs.declared.apart.Apart.{Apart}
 use Rattle.lines.specs.declared.heads.Tally.{Tally}
 use Rattle.lines.specs.declared.heads.Head.{Head}
-use Rattle.lines.specs.declared.heads.Head.TheVariants as Head
 
 -- the fields from a place on, none past the end
 abbrev pub fields_from : List ℕ → ℕ → List (List ℕ)

@@ -6,7 +6,6 @@ use Rattle.numbers.specs.Signed.{largest_i32}
 use Rattle.lines.specs.Line.{largest}
 use Rattle.lines.specs.Events.{gives_status, padded}
 use Rattle.lines.specs.declared.Event.{Event}
-use Rattle.lines.specs.declared.Event.TheVariants as Event
 
 -- the capacity or the status that is told as w: `weir_signed` of include/weir.h
 abbrev pub signed_of : ℕ → ℤ

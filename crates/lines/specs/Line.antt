@@ -7,9 +7,7 @@ use Rattle.facts.specs.Table.{fact_of, is_function}
 use Rattle.facts.specs.Named.{PushLocalFrame, EnsureLocalCapacity}
 use Rattle.facts.specs.Identities.{method, field}
 use Rattle.facts.specs.declared.Place.{Place}
-use Rattle.facts.specs.declared.Place.TheVariants as Place
 use Rattle.facts.specs.declared.Result.{Result}
-use Rattle.facts.specs.declared.Result.TheVariants as Result
 
 -- what is stated of classes and identities; it opens and closes nothing
 pub data Statement : Type 0 where

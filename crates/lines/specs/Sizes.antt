@@ -8,7 +8,6 @@ use Rattle.lines.specs.Events.{padded}
 use Rattle.lines.specs.Apart.{as_told}
 use Rattle.lines.specs.declared.forms.Counts.{Counts}
 use Rattle.lines.specs.declared.Event.{Event}
-use Rattle.lines.specs.declared.Event.TheVariants as Event
 
 -- how many numbers a form has, and which may be below zero
 abbrev pub counts_of : Form → Counts

@@ -14,7 +14,6 @@ use Rattle.numbers.specs.Signed.{signed, is_negative, largest_i32, is_i32, as_in
 use Rattle.numbers.specs.declared.Field.{Field}
 use Rattle.numbers.specs.declared.Field.TheVariants.{Plus, Minus, Out, Bad}
 use Rattle.numbers.specs.declared.Int.{Int}
-use Rattle.numbers.specs.declared.Int.TheVariants as Int
 use Rattle.numbers.proofs.Back.{written_is_read}
 use Rattle.numbers.proofs.Signed.{signed_size}
 

@@ -15,7 +15,7 @@ use lib.Seq.{drop-length}
 use lib.Dec.{ltb}
 use Rattle.words.specs.Choice.{one}
 use Rattle.rows.specs.Scan.{how_many, lowest, some_below}
-use Rattle.rows.specs.Marks.{word, in_word, used, free, marked, unmarked}
+use Rattle.rows.specs.Marks.{word, in_word, used, marked, unmarked}
 use Rattle.rows.specs.Table.{Layout, Table, table, put_row, room, row_at, matches, passes, free_row, alive, counted, some_row, stored, taken, changed, ended, ended_if, ended_from, ended_all, cleared}
 use Rattle.rows.specs.View.{slot, view}
 use Rattle.rows.proofs.ViewLaws.{view_at, view_past}

@@ -21,7 +21,6 @@ use Rattle.lines.specs.Writing.{tabbed, lettered}
 use Rattle.lines.specs.Sizes.{signed_at}
 use Rattle.writer.specs.Laid.{Writes}
 use Rattle.lines.specs.declared.Wrote.{Wrote}
-use Rattle.lines.specs.declared.Wrote.TheVariants as Wrote
 
 -- ---- one number after the other
 

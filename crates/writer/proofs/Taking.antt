@@ -15,12 +15,10 @@ use Rattle.lines.specs.Line.{K, O, M, Line, N, X, C, R, A, D, Z, states, is_allo
 use Rattle.lines.specs.Forms.{most_fields, of_letter}
 use Rattle.lines.specs.Reading.{Read, says, refused, if_allowed, line_of}
 use Rattle.lines.specs.Writing.{lettered}
-use Rattle.lines.specs.Events.{gives_status, event_of, with_slots, meant, left}
+use Rattle.lines.specs.Events.{gives_status, event_of, with_slots, meant}
 use Rattle.lines.specs.Sizes.{signed_at, numbers_in, line_in, named}
 use Rattle.lines.specs.declared.Event.{Event}
-use Rattle.lines.specs.declared.Event.TheVariants as Event
 use Rattle.lines.specs.declared.Wrote.{Wrote}
-use Rattle.lines.specs.declared.Wrote.TheVariants as Wrote
 use Rattle.lines.proofs.Tests.{both}
 use Rattle.lines.proofs.Listed.{of_length}
 use Rattle.lines.proofs.Formed.{is_within}

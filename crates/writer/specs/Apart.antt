@@ -7,7 +7,6 @@ use Rattle.numbers.specs.Signed.{is_negative}
 use Rattle.lines.specs.Line.{is_zero, most_handles}
 use Rattle.lines.specs.Events.{gives_status, not_zero}
 use Rattle.lines.specs.declared.Event.{Event}
-use Rattle.lines.specs.declared.Event.TheVariants as Event
 use Rattle.writer.specs.declared.apart.Taken.{Taken}
 
 abbrev pub taken : ℕ → ℕ → Bool → List ℕ → Bool → Taken

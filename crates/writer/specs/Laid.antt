@@ -4,7 +4,6 @@ use Rattle.words.specs.Choice.{if◌then◌else◌}
 use Rattle.lines.specs.Reading.{Read}
 use Rattle.lines.specs.Events.{wrote, left}
 use Rattle.lines.specs.declared.Wrote.{Wrote}
-use Rattle.lines.specs.declared.Wrote.TheVariants as Wrote
 
 -- the reply `r` and what is left, `d'`, of d: the bytes at its start, or 7 and nothing written where it is short
 pub record Writes (bs d : List ℕ) (r : Wrote) (d' : List ℕ) : Type 0 where

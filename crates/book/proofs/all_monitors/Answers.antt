@@ -1,5 +1,5 @@
 -- `book::all_monitors` meets its contract. Assumes nothing.
-use Rattle.std.proofs.Common.{◌-◌, arith}
+use Rattle.std.proofs.Common.{arith}
 use Rattle.book.proofs.Steps.{monitors_first, monitors_next, monitors_last}
 use Rattle.book.proofs.all_monitors.Goals as goal
 

@@ -1,5 +1,5 @@
 -- `book::clear` meets its contract. Assumes nothing.
-use Rattle.std.proofs.Common.{◌-◌, refl, arith, length-set}
+use Rattle.std.proofs.Common.{refl, arith, length-set}
 use Rattle.book.proofs.Steps.{fill_first, fill_next, fill_all}
 use Rattle.book.proofs.clear.Goals as goal
 

@@ -1,5 +1,5 @@
 -- `book::env_elsewhere` meets its contract. Assumes nothing.
-use Rattle.std.proofs.Common.{◌-◌, arith}
+use Rattle.std.proofs.Common.{arith}
 use Rattle.book.proofs.Steps.{elsewhere_first, elsewhere_next, elsewhere_last}
 use Rattle.book.proofs.env_elsewhere.Goals as goal
 

@@ -1,5 +1,5 @@
 -- `book::natives_below` meets its contract. Assumes nothing.
-use Rattle.std.proofs.Common.{◌-◌, refl, arith, rules}
+use Rattle.std.proofs.Common.{refl, arith, rules}
 use Rattle.rows.specs.Scan.{how_many}
 use Rattle.rows.proofs.ScanLaws.{how_many_next, how_many_end}
 use Rattle.book.proofs.natives_below.Goals as goal

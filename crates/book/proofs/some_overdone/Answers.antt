@@ -1,5 +1,5 @@
 -- `book::some_overdone` meets its contract. Assumes nothing.
-use Rattle.std.proofs.Common.{◌-◌, arith}
+use Rattle.std.proofs.Common.{arith}
 use Rattle.book.proofs.Steps.{unfit_first, unfit_next, unfit_last}
 use Rattle.book.proofs.some_overdone.Goals as goal
 

@@ -1,5 +1,5 @@
 -- `book::unfit` meets its contract. Assumes nothing.
-use Rattle.std.proofs.Common.{◌-◌, arith}
+use Rattle.std.proofs.Common.{arith}
 use Rattle.book.proofs.Steps.{unfit_short, doubt_first, doubt_next, doubt_none}
 use Rattle.book.proofs.unfit.Goals as goal
 

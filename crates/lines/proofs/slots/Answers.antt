@@ -5,7 +5,6 @@ use Prim.Native.Nat.{ℕ}
 use Rattle.lines.specs.Events.{padded}
 use Rattle.lines.specs.Sizes.{slots_in}
 use Rattle.lines.specs.declared.Event.{Event}
-use Rattle.lines.specs.declared.Event.TheVariants as Event
 use Rattle.lines.proofs.slots.Goals as goal
 
 -- an event of another variant than the first names no handle

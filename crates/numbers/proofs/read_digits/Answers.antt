@@ -1,5 +1,4 @@
 -- `numbers::read_digits` meets its contract; the loop keeps what that of `read_on` keeps. Assumes nothing.
-use Prim.Native.Nat.{◌-◌}
 use native.Mathlib.Omega.{arith}
 use lib.ListN.{get_or}
 use Rattle.numbers.proofs.Run.{set_out, digit_still, at_stop, at_end, then_found, one_digit}

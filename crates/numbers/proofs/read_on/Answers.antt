@@ -1,6 +1,5 @@
 -- `numbers::read_on` meets its contract; the loop keeps a number in the bound, and that what is found from i on is what was found from the start. Assumes nothing.
 use mathlib.Core.Path.{◌∙◌}
-use Prim.Native.Nat.{◌-◌}
 use native.Mathlib.Omega.{arith}
 use lib.ListN.{get_or}
 use Rattle.numbers.proofs.Run.{set_out, digit_here, at_stop, at_end, at_other, too_large, one_digit}

@@ -1,5 +1,4 @@
 -- `numbers::skip` meets its contract; the loop keeps whether the bytes before i were digits. Assumes nothing.
-use Prim.Native.Nat.{◌-◌}
 use native.Mathlib.Omega.{arith}
 use Rattle.numbers.proofs.Run.{skip_out, skipped_stop, skipped_end, one_skipped}
 use Rattle.numbers.proofs.skip.Goals as goal

@@ -6,6 +6,6 @@ use Rattle.report.proofs.end_width.Goals as goal
 pub returns : goal.returns
 returns c =
     let a = c.args in (
-    omega (arith, length_parts (end_parts a.closed a.lines a.refusal a.printed), c.head_width.ensures.0, c.three_width.ensures.0),
-    omega (arith, c.head_width.ensures.1, c.three_width.ensures.1),
+      omega (arith, length_parts (end_parts a.closed a.lines a.refusal a.printed), c.head_width.ensures.0, c.three_width.ensures.0),
+      omega (arith, c.head_width.ensures.1, c.three_width.ensures.1),
     )

@@ -1,7 +1,6 @@
 -- `report::findings_width` meets its contract. The loop keeps that the bytes counted and those to come are all of them. Assumes nothing.
 use mathlib.Core.Path.{ap}
 use native.Mathlib.Omega.{arith}
-use Prim.Native.Nat.{◌-◌}
 use lib.ListN.{length}
 use Rattle.report.proofs.Parts.{length_parts, rest_all, rest_next, rest_end}
 use Rattle.report.proofs.findings_width.Goals as goal

@@ -2,7 +2,7 @@
 use mathlib.Core.Path.{refl, ap, ◌∙◌}
 use native.Mathlib.Omega.{arith}
 use mathlib.Core.List.{List}
-use Prim.Native.Nat.{ℕ, ◌+◌, ◌-◌}
+use Prim.Native.Nat.{ℕ, ◌+◌}
 use native.Mathlib.Numerals.{add-one}
 use lib.ListN.{get_or, set, length-set}
 use lib.Seq.{paste-zero, paste-suc}
@@ -16,11 +16,11 @@ pub loop-i-preserved : goal.loop-i-preserved
 loop-i-preserved c =
     let a = c.args in
     let l = c.loop-i in (
-    omega arith,
-    rw add-one
-    (ap (λ (x : List ℕ). set x (a.at + l.i) (get_or a.s.now l.i 0)) l.invariant.1
-    ∙ paste-suc a.d.now a.at a.s.now l.i 0 (omega arith) (omega arith)),
-    simp length-set l.invariant.2,
+      omega arith,
+      rw add-one
+          (ap (λ (x : List ℕ). set x (a.at + l.i) (get_or a.s.now l.i 0)) l.invariant.1
+          ∙ paste-suc a.d.now a.at a.s.now l.i 0 (omega arith) (omega arith)),
+      simp length-set l.invariant.2,
     )
 
 pub returns : goal.returns

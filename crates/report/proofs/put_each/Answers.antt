@@ -1,7 +1,6 @@
 -- `report::put_each` meets its contract. The loop keeps that what stands there with the findings to come is all of them put. Assumes nothing.
 use mathlib.Core.Path.{refl, ap, sym, ◌∙◌}
 use native.Mathlib.Omega.{arith}
-use Prim.Native.Nat.{◌-◌}
 use lib.ListN.{length}
 use Rattle.numbers.specs.Writing.{put}
 use Rattle.numbers.proofs.Put.{put_none}
@@ -23,10 +22,10 @@ loop-i-preserved c =
     let l = c.loop-i in
     let f = c.put_finding-at in
     let parts = rest_next c.args.answer c.count_of-n.ensures.0 l.i (omega arith) in (
-    omega arith,
-    omega (arith, length_parts parts, f.ensures.past, l.invariant.1),
-    put_on parts f.ensures ∙ l.invariant.2,
-    f.auto.d ∙ l.invariant.3,
+      omega arith,
+      omega (arith, length_parts parts, f.ensures.past, l.invariant.1),
+      put_on parts f.ensures ∙ l.invariant.2,
+      f.auto.d ∙ l.invariant.3,
     )
 
 pub shape_of-d : goal.shape_of-d
@@ -41,7 +40,7 @@ returns c =
     let all = rest_all a n in
     fills_as (sym all)
     (record {
-    fits = omega (arith, c.requires, ap length all);
-    past = omega (arith, l.invariant.1, ap length none);
-    left = sym (put_none l.d l.at) ∙ ap (put l.d l.at) (sym none) ∙ l.invariant.2;
+      fits = omega (arith, c.requires, ap length all);
+      past = omega (arith, l.invariant.1, ap length none);
+      left = sym (put_none l.d l.at) ∙ ap (put l.d l.at) (sym none) ∙ l.invariant.2;
     })

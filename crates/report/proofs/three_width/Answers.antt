@@ -9,6 +9,6 @@ returns c =
     let a = c.args in
     let k = length_parts (three_parts a.a a.b a.c) in
     let l = length_parts (two_parts a.b a.c) in (
-    omega (arith, length_field a.a tab, length_field a.b tab, length_field a.c line_feed, c.field_width.ensures.0, c.field_width-2.ensures.0, c.field_width-3.ensures.0),
-    omega (arith, c.field_width.ensures.1, c.field_width-2.ensures.1, c.field_width-3.ensures.1),
+      omega (arith, length_field a.a tab, length_field a.b tab, length_field a.c line_feed, c.field_width.ensures.0, c.field_width-2.ensures.0, c.field_width-3.ensures.0),
+      omega (arith, c.field_width.ensures.1, c.field_width-2.ensures.1, c.field_width-3.ensures.1),
     )

@@ -1,5 +1,4 @@
 -- `rows::clear_marks` meets its contract; the invariant: the numbers before i are 0, the others as they were. Assumes nothing.
-use Prim.Native.Nat.{◌-◌}
 use lib.ListN.{length-set}
 use mathlib.Core.Path.{refl}
 use native.Mathlib.Omega.{arith}

@@ -1,6 +1,5 @@
 -- `writer::fields_width` meets its contract. The loop keeps that the bytes counted and those to come are all of them. Assumes nothing.
 use mathlib.Core.Path.{ap}
-use Prim.Native.Nat.{◌-◌}
 use native.Mathlib.Omega.{arith}
 use lib.ListN.{length}
 use Rattle.writer.proofs.Laid.{rest_length, rest_end}

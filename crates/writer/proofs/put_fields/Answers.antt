@@ -1,7 +1,7 @@
 -- `writer::put_fields` meets its contract. The loop keeps that what stands there with the numbers to come is all of them put. Assumes nothing.
 use mathlib.Core.Path.{refl, ap, ap₂, sym, ◌∙◌}
 use mathlib.Core.List.{List}
-use Prim.Native.Nat.{ℕ, ◌+◌, ◌-◌}
+use Prim.Native.Nat.{ℕ, ◌+◌}
 use native.Mathlib.Omega.{arith}
 use lib.ListN.{length}
 use Rattle.numbers.specs.Writing.{put}

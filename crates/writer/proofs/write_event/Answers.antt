@@ -5,7 +5,6 @@ use Rattle.lines.specs.Reading.{Read}
 use Rattle.lines.specs.Events.{wrote, left}
 use Rattle.writer.proofs.Taking.{good_taken, bad_taken}
 use borrow.Author.Rules.{rules}
-use mathlib.Core.Bool.{not}
 use Rattle.writer.proofs.write_event.Goals as goal
 
 pub returns-then-not-t : goal.returns-then-not-t

@@ -1,5 +1,4 @@
 -- `classes::identities::first` meets its contract; the invariant: the first place from i on is the first from `from` on. Assumes nothing.
-use Prim.Native.Nat.{◌-◌}
 use mathlib.Core.Path.{refl, ◌∙◌}
 use native.Mathlib.Omega.{arith}
 use Rattle.classes.specs.Identities.{identity_room}

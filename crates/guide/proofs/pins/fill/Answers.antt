@@ -1,6 +1,5 @@
 -- `guide::pins::fill` meets its contract; the invariant: the rows before r are noted. Assumes nothing.
 use mathlib.Core.Path.{refl}
-use Prim.Native.Nat.{◌-◌}
 use native.Mathlib.Omega.{arith}
 use borrow.Author.Rules.{rules}
 use Rattle.guide.proofs.PinSteps.{filled_first, filled_more, filled_all}

@@ -1,6 +1,5 @@
 -- `guide::references::bits_from` meets its contract; the invariant: the bits of the frames before i, together. Assumes nothing.
 use mathlib.Core.Path.{refl}
-use Prim.Native.Nat.{◌-◌}
 use native.Mathlib.Omega.{arith}
 use Rattle.guide.proofs.Steps.{first_bits, more_bits}
 use Rattle.guide.proofs.ReferenceSteps.{bits_are}

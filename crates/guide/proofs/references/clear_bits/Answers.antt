@@ -1,6 +1,5 @@
 -- `guide::references::clear_bits` meets its contract; the invariant: none of the frames before i. Assumes nothing.
 use mathlib.Core.Path.{refl}
-use Prim.Native.Nat.{◌-◌}
 use native.Mathlib.Omega.{arith}
 use borrow.Author.Rules.{rules}
 use Rattle.guide.proofs.Steps.{first_none, more_none}

@@ -1,6 +1,5 @@
 -- `guide::references::fill` meets its contract; the invariant: the rows before r are noted. Assumes nothing.
 use mathlib.Core.Path.{refl}
-use Prim.Native.Nat.{◌-◌}
 use native.Mathlib.Omega.{arith}
 use borrow.Author.Rules.{rules}
 use Rattle.guide.proofs.ReferenceSteps.{filled_first, filled_more, filled_all}

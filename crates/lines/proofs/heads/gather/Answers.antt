@@ -1,6 +1,6 @@
 -- `lines::heads::gather` meets its contract. The loop keeps that what is gathered so far with the fields to come is what all of them give. Assumes nothing.
 use mathlib.Core.Path.{refl, ap, ap₂, sym, subst, ◌∙◌}
-use Prim.Native.Nat.{ℕ, ◌+◌, ◌-◌, ◌<◌}
+use Prim.Native.Nat.{ℕ, ◌+◌, ◌<◌}
 use native.Mathlib.Omega.{arith}
 use Rattle.words.specs.Text.{tab}
 use Rattle.numbers.specs.Reading.{found}

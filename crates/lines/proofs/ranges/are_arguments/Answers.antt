@@ -1,6 +1,5 @@
 -- `lines::ranges::are_arguments` meets its contract. The loop keeps that the handles seen and those to come pass together where all do. Assumes nothing.
 use mathlib.Core.Path.{refl, ap, sym, ◌∙◌}
-use Prim.Native.Nat.{◌-◌}
 use native.Mathlib.Omega.{arith}
 use lib.ListN.{take, length-take}
 use lib.Seq.{get_or-take}

@@ -1,5 +1,4 @@
 -- `rows::marks::free_below` meets its contract; the invariant: no row of the words from `from` to w is free. Assumes nothing.
-use Prim.Native.Nat.{◌-◌}
 use native.Mathlib.Omega.{arith}
 use Rattle.rows.proofs.FreeLaws.{none_below, free_later}
 use Rattle.rows.proofs.MarkLaws.{search_cut, search_end, search_word}

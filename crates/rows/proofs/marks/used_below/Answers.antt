@@ -1,5 +1,4 @@
 -- `rows::marks::used_below` meets its contract; the invariant: the sum is that of the words before w. Assumes nothing.
-use Prim.Native.Nat.{◌-◌}
 use native.Mathlib.Omega.{arith}
 use Rattle.rows.proofs.MarkLaws.{count_last, count_whole, count_word}
 use Rattle.rows.proofs.ScanLaws.{how_many_first}

@@ -1,5 +1,4 @@
 -- `rows::pins::outstanding` meets its contract; the invariant: no row of the words before w passes. Assumes nothing.
-use Prim.Native.Nat.{◌-◌}
 use native.Mathlib.Omega.{arith}
 use Rattle.rows.proofs.MarkLaws.{search_word}
 use Rattle.rows.proofs.ScanLaws.{lowest_first}

@@ -1,5 +1,4 @@
 -- `rows::references::above` meets its contract; the invariant: the sum is that of the rows before i. Assumes nothing.
-use Prim.Native.Nat.{◌-◌}
 use native.Mathlib.Omega.{arith}
 use Rattle.rows.proofs.ScanLaws.{how_many_end, how_many_first}
 use Rattle.rows.proofs.TableLaws.{match_next}

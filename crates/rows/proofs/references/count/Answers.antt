@@ -1,5 +1,4 @@
 -- `rows::references::count` meets its contract; the invariant: the sum is that of the words before w. Assumes nothing.
-use Prim.Native.Nat.{◌-◌}
 use mathlib.Core.Path.{◌∙◌}
 use native.Mathlib.Omega.{arith}
 use Rattle.rows.specs.Table.{counted, room}

@@ -1,5 +1,4 @@
 -- `rows::references::find` meets its contract; the invariant: no row of the words before w passes. Assumes nothing.
-use Prim.Native.Nat.{◌-◌}
 use native.Mathlib.Omega.{arith}
 use Rattle.rows.specs.Table.{found, room}
 use Rattle.rows.proofs.MarkLaws.{search_hit, search_last, search_word}

@@ -1,5 +1,4 @@
 -- `rows::sought::count_first` meets its contract; the invariant: the sum is that of the rows before i. Assumes nothing.
-use Prim.Native.Nat.{◌-◌}
 use native.Mathlib.Omega.{arith}
 use Rattle.rows.specs.Table.{room}
 use Rattle.rows.proofs.MarkLaws.{sum_next}

@@ -1,5 +1,4 @@
 -- `rows::sought::find_first` meets its contract; the invariant: no row before i passes. Assumes nothing.
-use Prim.Native.Nat.{◌-◌}
 use native.Mathlib.Omega.{arith}
 use Rattle.rows.specs.Table.{room}
 use Rattle.rows.proofs.MarkLaws.{seek_hit, seek_next}

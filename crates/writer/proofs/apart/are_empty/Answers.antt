@@ -1,9 +1,6 @@
 -- `writer::apart::are_empty` meets its contract. The loop keeps that the slots seen and those to come are empty together where all are. Assumes nothing.
 use mathlib.Core.Path.{refl, sym, ◌∙◌}
-use mathlib.Core.Bool.{Bool}
-use Prim.Native.Nat.{ℕ, ◌-◌}
 use native.Mathlib.Omega.{arith}
-use lib.Dec.{eqb}
 use Rattle.lines.proofs.Every.{every_next, every_end}
 use borrow.Author.Rules.{rules}
 use Rattle.writer.proofs.apart.are_empty.Invariants.{is_empty}
