@@ -19,9 +19,8 @@ overflow_add-next c =
     record { fits = omega (arith, within) }
 
 pub returns : goal.returns
-returns c =
-    (
-    more_read c.requires.1 c.read_behind-streams.ensures.0 c.is_unreadable.ensures c.if-is_unreadable.false c.bytes_read.ensures c.bytes_read-2.ensures
-    _ _ _ c.requires.0 c.shift.ensures c.read_behind-streams.ensures.2,
-    c.read_behind-streams.ensures.1,
-    )
+returns c = (
+  more_read c.requires.1 c.read_behind-streams.ensures.0 c.is_unreadable.ensures c.if-is_unreadable.false c.bytes_read.ensures c.bytes_read-2.ensures
+      _ _ _ c.requires.0 c.shift.ensures c.read_behind-streams.ensures.2,
+  c.read_behind-streams.ensures.1,
+)

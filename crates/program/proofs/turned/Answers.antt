@@ -15,12 +15,11 @@ returns-then-is_unwritable c =
     (failed (not_wrote WroteSo.0 s.0 s.1 c.is_unwritable.ensures c.if-is_unwritable.true), still_newest s.1 WroteSo.1)
 
 pub read_more-requires : goal.read_more-requires
-read_more-requires c =
-    (
-    c.requires.0,
-    few_unread c.requires.1 (wrote c.args.run.streams _ c.print-streams.ensures.0 c.is_unwritable.ensures c.if-is_unwritable.false) c.in-More.is,
-    c.print-streams.ensures.1,
-    )
+read_more-requires c = (
+  c.requires.0,
+  few_unread c.requires.1 (wrote c.args.run.streams _ c.print-streams.ensures.0 c.is_unwritable.ensures c.if-is_unwritable.false) c.in-More.is,
+  c.print-streams.ensures.1,
+)
 
 pub returns-in-Refused : goal.returns-in-Refused
 returns-in-Refused c =
@@ -31,11 +30,10 @@ pub returns-in-Full : goal.returns-in-Full
 returns-in-Full c = (is_full c.in-Full.is (passed c.requires.1 (wrote c.args.run.streams _ c.print-streams.ensures.0 c.is_unwritable.ensures c.if-is_unwritable.false)) refl, c.print-streams.ensures.1)
 
 pub returns-in-More : goal.returns-in-More
-returns-in-More c =
-    (
-    read_turned c.in-More.is (passed c.requires.1 (wrote c.args.run.streams _ c.print-streams.ensures.0 c.is_unwritable.ensures c.if-is_unwritable.false)) c.read_more.ensures.0,
-    c.read_more.ensures.1,
-    )
+returns-in-More c = (
+  read_turned c.in-More.is (passed c.requires.1 (wrote c.args.run.streams _ c.print-streams.ensures.0 c.is_unwritable.ensures c.if-is_unwritable.false)) c.read_more.ensures.0,
+  c.read_more.ensures.1,
+)
 
 pub returns-in-End : goal.returns-in-End
 returns-in-End c =

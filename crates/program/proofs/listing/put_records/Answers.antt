@@ -21,12 +21,12 @@ loop-i-preserved c =
     let l = c.loop-i in
     let f = c.put_record-at in
     let parts = shown_next c.args.records.now l.i c.args.to (omega arith) in (
-    omega (arith, l.invariant.0),
-    omega arith,
-    omega (arith, f.ensures.1, l.invariant.2, l.invariant.0),
-    omega (arith, length_parts parts, f.ensures.0.past, l.invariant.3),
-    put_on parts f.ensures.0 ∙ l.invariant.4,
-    f.auto.out ∙ l.invariant.5,
+      omega (arith, l.invariant.0),
+      omega arith,
+      omega (arith, f.ensures.1, l.invariant.2, l.invariant.0),
+      omega (arith, length_parts parts, f.ensures.0.past, l.invariant.3),
+      put_on parts f.ensures.0 ∙ l.invariant.4,
+      f.auto.out ∙ l.invariant.5,
     )
 
 pub shape_of-out : goal.shape_of-out
@@ -38,10 +38,10 @@ returns c =
     let none = shown_none c.args.records.now l.i c.args.to (omega arith) in
     let a = c.args in
     let short : l.at ≤ longest_leak * (a.to - a.from) = omega (arith, l.invariant.1, l.invariant.2) in (
-    record {
-    fits = omega (arith, l.invariant.3, ap length none, short, c.requires.2);
-    past = omega (arith, l.invariant.3, ap length none);
-    left = sym (put_none l.out l.at) ∙ ap (put l.out l.at) (sym none) ∙ l.invariant.4;
-    },
-    short,
+      record {
+        fits = omega (arith, l.invariant.3, ap length none, short, c.requires.2);
+        past = omega (arith, l.invariant.3, ap length none);
+        left = sym (put_none l.out l.at) ∙ ap (put l.out l.at) (sym none) ∙ l.invariant.4;
+      },
+      short,
     )
