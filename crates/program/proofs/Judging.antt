@@ -19,7 +19,6 @@ use Rattle.demands.specs.Calls.{Ran, ran, go_on_in, run_in, printed}
 use Rattle.demands.specs.Tied.{AllTied}
 use Rattle.run.specs.declared.Passed.{Passed}
 use Rattle.run.specs.declared.Stop.{Stop}
-use Rattle.run.specs.declared.Stop.TheVariants as Stop
 use Rattle.run.specs.Running.{all_shown}
 use Rattle.run.specs.Passing.{from_stop}
 use Rattle.run.proofs.Going.{all_shown_append}

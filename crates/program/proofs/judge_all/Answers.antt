@@ -7,7 +7,6 @@ use native.Mathlib.Omega.{arith}
 use borrow.Author.Rules.{rules}
 use lib.ListN.{length}
 use Rattle.tables.specs.Tables.{Tables, tables}
-use Rattle.tables.specs.Stepping.{start_of}
 use Rattle.run.specs.declared.Passed.{Passed}
 use Rattle.run.specs.Running.{leaves, piece_outcome}
 use Rattle.program.specs.declared.Run.{Run}
