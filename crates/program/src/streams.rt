@@ -1,4 +1,4 @@
-// Standard input and standard output: how much has gone through them. The numbers of `Streams` are changed here alone, by calls of `read` and `write`; `moved`, a sum of them
+// Standard input and standard output: how much has gone through them. The numbers of `Streams` are changed here alone, by calls of `read` and `write_all`; `moved`, a sum of them
 // that is kept apart, shuts out `Streams` of before the last call.
 ghost use Rattle.std.specs.Prelude.{◌≡◌, ◌||◌, ◌≤◌, ◌<◌, length, IfSome};
 ghost use Rattle.program.specs.Progress.{buffer_size, Few};
