@@ -2,11 +2,11 @@
 // event, or the event's letter and numbers. An N has its count and all eight slots; an R has its result, then its status.
 #![tactic(auto)]
 
-ghost use Rattle.std.specs.Prelude.{◌<◌, ◌≤◌, length};
-ghost use Rattle.io.specs.Counts.{IsPrefixLen};
+ghost use Rattle.std.specs.Prelude.{◌≡◌, ◌<◌, ◌≤◌, length, take, IfOk};
 
-use libc::{STDIN_FILENO, STDOUT_FILENO};
 use lines::{Event, LINE_FEED, TAB};
+use std::io;
+use std::io::{Read, Stdin};
 use words::Handle;
 
 // A line of the input that begins with it, or is empty, is no case. A case is a name, a tab, and what spells a line's bytes.
@@ -22,39 +22,31 @@ const ESCAPE: u8 = b'\\';
 // Given instead of a digit, or more instead of a byte.
 const NONE: u32 = 256;
 
-fn put(text: &[u8]) {
-    io::write_all(STDOUT_FILENO, text);
+fn put_number(rt: &impl Print, n: Handle) -> io::Result<()> {
+    print!(rt; " {n}")
 }
 
-fn put_number(n: Handle) {
-    put(b" ");
-    io::print_decimal(STDOUT_FILENO, n);
-}
-
-fn put_numbers(letter: &[u8], n: &[Handle]) {
-    put(letter);
+fn put_numbers(rt: &impl Print, letter: &[u8], n: &[Handle]) -> io::Result<()> {
+    rt.write_all(letter)?;
     let mut i = 0;
     while i < n.len() {
-        put_number(n[i]);
+        put_number(rt, n[i])?;
         i += 1;
     }
+    Ok(())
 }
 
-fn put_signed(n: i32) {
-    put(b" ");
-    if numbers::is_negative(n) {
-        put(b"-");
-    }
-    io::print_decimal(STDOUT_FILENO, numbers::size_of(n));
+fn put_signed(rt: &impl Print, n: i32) -> io::Result<()> {
+    print!(rt; " {n}")
 }
 
-fn put_event(e: Event, h: &[Handle; 8]) {
+fn put_event(rt: &impl Print, e: Event, h: &[Handle; 8]) -> io::Result<()> {
     match e {
         Event::Enter { thread, env, count } => {
-            put_numbers(b" N", &[thread as Handle, env, count as Handle]);
-            put_numbers(b"", h);
+            put_numbers(rt, b" N", &[thread as Handle, env, count as Handle])?;
+            put_numbers(rt, b"", h)
         }
-        Event::Leave { thread, result } => put_numbers(b" X", &[thread as Handle, result]),
+        Event::Leave { thread, result } => put_numbers(rt, b" X", &[thread as Handle, result]),
         Event::Call {
             thread,
             env,
@@ -64,8 +56,12 @@ fn put_event(e: Event, h: &[Handle; 8]) {
             c,
             n,
         } => {
-            put_numbers(b" C", &[thread as Handle, env, function as Handle, a, b, c]);
-            put_signed(n);
+            put_numbers(
+                rt,
+                b" C",
+                &[thread as Handle, env, function as Handle, a, b, c],
+            )?;
+            put_signed(rt, n)
         }
         Event::Return {
             thread,
@@ -74,13 +70,14 @@ fn put_event(e: Event, h: &[Handle; 8]) {
             status,
             pending,
         } => {
-            put_numbers(b" R", &[thread as Handle, function as Handle, result]);
-            put_signed(status);
-            put_number(pending as Handle);
+            put_numbers(rt, b" R", &[thread as Handle, function as Handle, result])?;
+            put_signed(rt, status)?;
+            put_number(rt, pending as Handle)
         }
-        Event::Attach { thread, env } => put_numbers(b" A", &[thread as Handle, env]),
-        Event::Detach { thread } => put_numbers(b" D", &[thread as Handle]),
+        Event::Attach { thread, env } => put_numbers(rt, b" A", &[thread as Handle, env]),
+        Event::Detach { thread } => put_numbers(rt, b" D", &[thread as Handle]),
         Event::Declare { class, superclass } => put_numbers(
+            rt,
             b" K",
             &[class as Handle, superclass as Handle],
         ),
@@ -88,7 +85,7 @@ fn put_event(e: Event, h: &[Handle; 8]) {
             thread,
             handle,
             class,
-        } => put_numbers(b" O", &[thread as Handle, handle, class as Handle]),
+        } => put_numbers(rt, b" O", &[thread as Handle, handle, class as Handle]),
         Event::Identify {
             identity,
             sort,
@@ -96,6 +93,7 @@ fn put_event(e: Event, h: &[Handle; 8]) {
             isstatic,
             isfinal,
         } => put_numbers(
+            rt,
             b" M",
             &[
                 identity,
@@ -105,8 +103,8 @@ fn put_event(e: Event, h: &[Handle; 8]) {
                 isfinal as Handle,
             ],
         ),
-        Event::End => put(b" Z"),
-        Event::Refused(k) => put_number(k as Handle),
+        Event::End => rt.write_all(b" Z"),
+        Event::Refused(k) => put_number(rt, k as Handle),
     }
 }
 
@@ -145,7 +143,8 @@ fn first_byte(s: &[u8]) -> u32
 // a byte is badly written.
 fn decode(s: &[u8], line: &mut [u8]) -> usize
     requires { length line.old ≤ 4096 }
-    ensures { IsPrefixLen result line.new }
+    ensures bound { result ≤ length line.new }
+    ensures value { result ≡ length (take result line.new) }
 {
     let most = line.len();
     if s.len() == 0 || most < s.len() {
@@ -169,21 +168,21 @@ fn decode(s: &[u8], line: &mut [u8]) -> usize
 }
 
 // The slots are filled beforehand, so that what the reader leaves in them shows.
-fn put_answer(s: &[u8]) {
-    let mut line = io::buffer();
+fn put_answer(rt: &impl Print, s: &[u8]) -> io::Result<()> {
+    let mut line = [0; 4096];
     let n = decode(s, &mut line);
     if n == line.len() {
-        put(b" badly written or too long");
-        return;
+        return rt.write_all(b" badly written or too long");
     }
     let mut h = [7; 8];
     let e = lines::read_line(&line[..n], &mut h);
-    put_event(e, &h);
+    put_event(rt, e, &h)
 }
 
 // The place of the first byte b, or the length.
 fn place_of(b: u8, s: &[u8]) -> usize
-    ensures { IsPrefixLen result s.now }
+    ensures bound { result ≤ length s.now }
+    ensures value { result ≡ length (take result s.now) }
 {
     let mut i = 0;
     while i < s.len() {
@@ -195,34 +194,49 @@ fn place_of(b: u8, s: &[u8]) -> usize
     i
 }
 
-fn show(s: &[u8]) {
+fn show(rt: &impl Print, s: &[u8]) -> io::Result<()> {
     if s.len() == 0 || s[0] == COMMENT {
-        return;
+        return Ok(());
     }
     let to = place_of(TAB, s);
-    put(&s[..to]);
-    put(b":");
-    put_answer(&s[to..]);
-    put(b"\n");
+    rt.write_all(&s[..to])?;
+    rt.write_all(b":")?;
+    put_answer(rt, &s[to..])?;
+    rt.write_all(b"\n")
 }
 
-fn show_all(s: &[u8])
+fn show_all(rt: &impl Print, s: &[u8]) -> io::Result<()>
     requires { length s.now < 65536 }
 {
     let mut from = 0;
     while from < s.len() {
         let to = from + place_of(LINE_FEED, &s[from..]);
-        show(&s[from..to]);
+        show(rt, &s[from..to])?;
         from = to + 1;
     }
+    Ok(())
 }
 
-fn main() {
-    let mut cases = io::large_buffer();
-    let n = io::read_full(STDIN_FILENO, &mut cases);
-    if n == cases.len() {
-        put(b"too many cases\n");
-        return;
+// Reads until the buffer is full or the input ends; how many bytes it put at the front.
+fn read_full(mut stdin: Stdin, buf: &mut [u8]) -> io::Result<usize>
+    ensures { IfOk result (λ n. n ≤ length buf.new) }
+{
+    let mut done = 0;
+    while done < buf.len() {
+        let n = stdin.read(&mut buf[done..])?;
+        if n == 0 {
+            break;
+        }
+        done += n;
     }
-    show_all(&cases[..n]);
+    Ok(done)
+}
+
+fn main(rt: HostRuntime) -> io::Result<()> {
+    let mut cases = [0; 65536];
+    let n = read_full(rt.stdin(), &mut cases)?;
+    if n == cases.len() {
+        return rt.write_all(b"too many cases\n");
+    }
+    show_all(&rt, &cases[..n])
 }

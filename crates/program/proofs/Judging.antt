@@ -4,7 +4,7 @@ use mathlib.Core.Path.{◌≡◌, refl, sym, ap, subst, ◌∙◌}
 use mathlib.Core.Bool.{Bool, true, false, false≢true}
 use mathlib.Core.List.{List, [], ◌∷◌, ◌++◌, append_assoc, append-nil}
 use native.Mathlib.Omega.{arith}
-use lib.IntN.{pos}
+use Rattle.std.specs.Prelude.{Some}
 use lib.ListN.{length, take, drop, length-append}
 use lib.Seq.{take_at, drop_at}
 use Rattle.history.specs.Replies.{Reply, accepted, not_accepted}
@@ -19,7 +19,6 @@ use Rattle.demands.specs.Calls.{Ran, ran, go_on_in, run_in, printed}
 use Rattle.demands.specs.Tied.{AllTied}
 use Rattle.run.specs.declared.Passed.{Passed}
 use Rattle.run.specs.declared.Stop.{Stop}
-use Rattle.run.specs.declared.Stop.TheVariants as Stop
 use Rattle.run.specs.Running.{all_shown}
 use Rattle.run.specs.Passing.{from_stop}
 use Rattle.run.proofs.Going.{all_shown_append}
@@ -57,7 +56,7 @@ judged_start leaks e = record { input = []; found = []; read = refl; count = ref
 -- ---- more is read, or there is no more
 
 pub judged_more : {T : Tables} {s : Streams} {n : ℕ} {unread : List ℕ} (more : List ℕ) → s.ended ≡ false → Judged T s n unread
-    → Judged T (with_read s (pos (length more))) n (unread ++ more)
+    → Judged T (with_read s (Some (length more))) n (unread ++ more)
 judged_more {T} {s} {n} {unread} more before_end j =
     record {
       input = j.input ++ more;

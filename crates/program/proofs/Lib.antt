@@ -1,4 +1,3 @@
-pub mod Answered
 pub mod Records
 pub mod Lent
 pub mod Judging

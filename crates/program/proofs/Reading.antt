@@ -4,9 +4,8 @@ use mathlib.Core.Path.{◌≡◌, refl, sym, ap, ◌∙◌}
 use mathlib.Core.Bool.{Bool, true, false, false≢true}
 use mathlib.Core.List.{List}
 use native.Mathlib.Omega.{arith}
-use lib.IntN.{ℤ, pos, negsuc}
 use lib.ListN.{length, take}
-use Rattle.libc.specs.Io.{Moved}
+use Rattle.std.specs.Prelude.{Option, Some, None, IfSome}
 use Rattle.pieces.specs.Shifted.{shifted}
 use Rattle.pieces.proofs.Shifts.{shifted_front}
 use Rattle.run.specs.declared.Passed.{Passed}
@@ -20,9 +19,9 @@ use Rattle.program.specs.Running.{at_failure, not_read, Unread, MoreRead, has_re
 keeps_leaks : {s q : Streams} {room : ℕ} → HasRead s room q → q.leaks ≡ s.leaks
 keeps_leaks {s} {q} h = go h.answer h.after
   where
-    go : (z : ℤ) → q ≡ with_read s z → q.leaks ≡ s.leaks
-    go (pos n) a = ap (λ (x : Streams). x.leaks) a
-    go (negsuc n) a = ap (λ (x : Streams). x.leaks) a
+    go : (z : Option ℕ) → q ≡ with_read s z → q.leaks ≡ s.leaks
+    go (Some n) a = ap (λ (x : Streams). x.leaks) a
+    go None a = ap (λ (x : Streams). x.leaks) a
 
 pub more_failed : {r q : Run} {s : Streams} {room : ℕ} {b : Bool} {buf buf' : List ℕ} → HasRead r.streams room s → q.stop ≡ at_failure → q.streams ≡ s → b ≡ s.unreadable → b ≡ true
     → MoreRead r buf q buf'
@@ -33,14 +32,14 @@ more_failed h stop is e t =
 record Gave (s : Streams) (room : ℕ) (q : Streams) : Type 0 where
   bytes : ℕ
   few : bytes ≤ room
-  after : q ≡ with_read s (pos bytes)
+  after : q ≡ with_read s (Some bytes)
 
 gave : {s q : Streams} {room : ℕ} → HasRead s room q → q.unreadable ≡ false → Gave s room q
 gave {s} {q} {room} h good = go h.answer h.moved h.after
   where
-    go : (z : ℤ) → Moved room z → q ≡ with_read s z → Gave s room q
-    go (pos n) m a = record { bytes = n; few = m; after = a }
-    go (negsuc n) m a = absurd (false≢true (sym good ∙ ap (λ (x : Streams). x.unreadable) a))
+    go : (z : Option ℕ) → IfSome z (λ n. n ≤ room) → q ≡ with_read s z → Gave s room q
+    go (Some n) m a = record { bytes = n; few = m; after = a }
+    go None m a = absurd (false≢true (sym good ∙ ap (λ (x : Streams). x.unreadable) a))
 
 module _ {r : Run} {q : Streams} {b : Bool} {x y : ℕ} (u : Unread r) (h : HasRead r.streams (buffer_size - (r.to - r.from)) q) (e : b ≡ q.unreadable) (good : b ≡ false)
     (ex : x ≡ q.read) (ey : y ≡ r.streams.read) where

@@ -6,7 +6,7 @@ use mathlib.Core.List.{List, [], ◌++◌}
 use native.Mathlib.Nat.{sub-zero}
 use native.Mathlib.Omega.{arith}
 use borrow.Author.Tests.{eq-eqb}
-use lib.IntN.{pos}
+use Rattle.std.specs.Prelude.{Some}
 use lib.ListN.{length, take, drop, length-drop}
 use lib.Seq.{length-take-le, take-add, drop-drop, drop_at}
 use Rattle.lines.specs.Line.{longest}
@@ -189,8 +189,8 @@ module _ {leaks : Bool} {T S : Tables} {r : Run} {buf out' : List ℕ} {p : Pass
         ∙ ap (λ (b : List ℕ). b ++ new) reads.kept
         in
         let long_new : length new ≡ n = length-take-le n (drop rest buf') (omega (arith, length-drop rest buf', same, g.size, reads.within, reads.to)) in
-        let is : q.streams ≡ with_read (with_printed r.streams p.put true) (pos (length new)) =
-        reads.streams ∙ (λ i. with_read (on.streams i) (pos (sym long_new i)))
+        let is : q.streams ≡ with_read (with_printed r.streams p.put true) (Some (length new)) =
+        reads.streams ∙ (λ i. with_read (on.streams i) (Some (sym long_new i)))
         in
         record {
           asked = ap (λ (x : Streams). x.leaks) reads.streams ∙ ap (λ (x : Streams). x.leaks) on.streams ∙ g.asked;

@@ -1,6 +1,5 @@
 -- What is due on standard output: the report of what was read, with the leaks behind it where they are asked for, from where the last write left off. Assumes nothing.
-use Rattle.std.specs.Prelude.{ℕ, ◌+◌, ◌≡◌, Bool, true, false, not, ◌||◌, List, [], ◌++◌, eqb, ℤ, pos, negsuc, length, take, drop}
-use Rattle.libc.specs.Io.{Moved}
+use Rattle.std.specs.Prelude.{ℕ, ◌+◌, ◌≡◌, Bool, true, false, not, ◌||◌, List, [], ◌++◌, eqb, ◌≤◌, Option, Some, None, IfSome, length, take, drop}
 use Rattle.history.specs.Report.{report}
 use Rattle.history.specs.Runs.{program_room}
 use Rattle.demands.specs.Leaks.{report_and_leaks}
@@ -31,12 +30,6 @@ Reported s = s.unreadable ≡ false → s.unwritable ≡ false → Whole s
 
 -- ---- the calls
 
-abbrev pub standard_input : ℤ
-standard_input = pos 0
-
-abbrev pub standard_output : ℤ
-standard_output = pos 1
-
 abbrev pub nothing_yet : Bool → Streams
 nothing_yet leaks = record { leaks = leaks; read = 0; ended = false; unreadable = false; printed = 0; unwritable = false }
 
@@ -44,15 +37,15 @@ nothing_yet leaks = record { leaks = leaks; read = 0; ended = false; unreadable 
 abbrev pub Newest : Streams → ℕ → Type 0
 Newest s moved = moved ≡ s.read + s.printed
 
--- a read that gave nothing is the end of the input, and one that failed is not
-abbrev pub with_read : Streams → ℤ → Streams
-with_read s (pos n) = record { leaks = s.leaks; read = s.read + n; ended = eqb n 0; unreadable = s.unreadable; printed = s.printed; unwritable = s.unwritable }
-with_read s (negsuc n) = record { leaks = s.leaks; read = s.read; ended = s.ended; unreadable = true; printed = s.printed; unwritable = s.unwritable }
+-- after a read that gave so many bytes, or failed. One that gave nothing is the end of the input, and one that failed is not
+abbrev pub with_read : Streams → Option ℕ → Streams
+with_read s (Some n) = record { leaks = s.leaks; read = s.read + n; ended = eqb n 0; unreadable = s.unreadable; printed = s.printed; unwritable = s.unwritable }
+with_read s None = record { leaks = s.leaks; read = s.read; ended = s.ended; unreadable = true; printed = s.printed; unwritable = s.unwritable }
 
 -- after some answer of `read`, which was lent so many bytes
 pub record HasRead (s : Streams) (room : ℕ) (q : Streams) : Type 0 where
-  pub answer : ℤ
-  pub moved : Moved room answer
+  pub answer : Option ℕ
+  pub moved : IfSome answer (λ n. n ≤ room)
   pub after : q ≡ with_read s answer
 
 -- after an answer of `write_all`: whether all of so many bytes were written. A write that failed is not forgotten

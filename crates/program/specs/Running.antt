@@ -1,5 +1,5 @@
 -- A run of the program, from one function to the next. Assumes nothing.
-use Rattle.std.specs.Prelude.{ℕ, ◌+◌, ◌*◌, ◌-◌, ◌≤◌, ◌≡◌, true, false, List, pos, length, take, drop}
+use Rattle.std.specs.Prelude.{ℕ, ◌+◌, ◌*◌, ◌-◌, ◌≤◌, ◌≡◌, true, false, List, Some, length, take, drop}
 use Rattle.lines.specs.Line.{longest}
 use Rattle.history.specs.Replies.{most_lines}
 use Rattle.history.specs.Report.{end_line}
@@ -42,7 +42,7 @@ pub record Reads (r : Run) (buf : List ℕ) (q : Run) (buf' : List ℕ) (n : ℕ
   pub to : q.to ≡ (r.to - r.from) + n
   pub within : q.to ≤ buffer_size
   pub kept : take (r.to - r.from) buf' ≡ unread_in buf r
-  pub streams : q.streams ≡ with_read r.streams (pos n)
+  pub streams : q.streams ≡ with_read r.streams (Some n)
   pub findings : q.findings ≡ r.findings
   pub refusal : q.refusal ≡ r.refusal
   pub stop : q.stop ≡ r.stop

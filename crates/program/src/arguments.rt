@@ -1,6 +1,8 @@
 // The arguments: what the program is asked for.
 ghost use Rattle.std.specs.Prelude.{◌≡◌, true, false};
 
+use std::env::{Env, FillError};
+
 #[derive(Drop)]
 pub(crate) enum Asked {
     Report,
@@ -25,16 +27,18 @@ fn same(a: &[u8], b: &[u8]) -> bool
     true
 }
 
-// The first argument counts behind the program's own name; one that is longer than the buffer is empty there.
-pub(crate) fn asked_for() -> Asked {
-    let count = os::arg_count();
-    if count <= 1 {
-        return Asked::Report;
+// The first argument counts behind the program's own name; one that is longer than the buffer is another.
+pub(crate) fn asked_for(rt: HostRuntime) -> Asked {
+    let mut word = [0; 4096];
+    match rt.arg(1, &mut word) {
+        Err(FillError::NotPresent) => Asked::Report,
+        Err(FillError::TooLong) => Asked::Another,
+        Ok(n) => {
+            let is_last = matches!(rt.arg(2, &mut []), Err(FillError::NotPresent));
+            if is_last && same(&word[..n], b"--leaks") {
+                return Asked::ReportAndLeaks;
+            }
+            Asked::Another
+        }
     }
-    let mut word = io::buffer();
-    let n = os::arg(1, &mut word);
-    if count == 2 && same(&word[..n], b"--leaks") {
-        return Asked::ReportAndLeaks;
-    }
-    Asked::Another
 }

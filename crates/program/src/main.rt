@@ -17,7 +17,6 @@ ghost use Rattle.program.specs.Progress.{buffer_size, most_findings, Few};
 ghost use Rattle.program.specs.Running.{Unread, MoreRead, Fits, Turned, last_line, Finished, Ends, Good, RecordsLeft, LeaksLeft};
 
 use arguments::Asked;
-use libc::{STDERR_FILENO, STDIN_FILENO, STDOUT_FILENO};
 use rows::Number;
 use run::{Passed, Stop};
 use streams::Streams;
@@ -58,7 +57,7 @@ const FAILED: u8 = 2;
 
 // A run so far: which bytes of the input buffer are unread, what has gone through the streams, how many findings there are,
 // the refusal or 0, and why it stops or 0.
-#[derive(Drop)]
+#[derive(Clone, Copy)]
 struct Run {
     from: usize,
     to: usize,
@@ -77,30 +76,36 @@ fn stopped(run: Run, stop: u8) -> Run
 }
 
 // Reads behind the first bytes of a buffer.
-fn read_behind(streams: Streams, moved: &mut usize, buf: &mut [u8], rest: usize) -> Streams
+fn read_behind(
+    rt: HostRuntime,
+    streams: Streams,
+    moved: &mut usize,
+    buf: &mut [u8],
+    rest: usize,
+) -> Streams
     requires { Newest streams moved.old × (length buf.old ≡ buffer_size) × (rest < buffer_size) × Few streams 0 }
     ensures { HasRead streams (buffer_size - rest) result × Newest result moved.new × (take rest buf.new ≡ take rest buf.old) }
 {
-    streams::take_in(streams, moved, STDIN_FILENO, &mut buf[rest..])
+    streams::take_in(streams, moved, rt.stdin(), &mut buf[rest..])
 }
 
 // Prints the first bytes of a buffer.
-fn print(streams: Streams, moved: &mut usize, out: &[u8], n: usize) -> Streams
+fn print(rt: HostRuntime, streams: Streams, moved: &mut usize, out: &[u8], n: usize) -> Streams
     requires { Newest streams moved.old × (n ≤ length out.now) × Due streams (take n out.now) × Few streams n }
     ensures { HasPrinted streams n result × Newest result moved.new }
 {
-    streams::hand_over(streams, moved, STDOUT_FILENO, &out[..n])
+    streams::hand_over(streams, moved, rt.stdout(), &out[..n])
 }
 
 // Moves the unread bytes to the front and reads behind them.
-fn read_more(run: Run, moved: &mut usize, buf: &mut [u8]) -> Run
+fn read_more(rt: HostRuntime, run: Run, moved: &mut usize, buf: &mut [u8]) -> Run
     requires { (length buf.old ≡ buffer_size) × Unread run × Newest run.streams moved.old }
     ensures { MoreRead run buf.old result buf.new × Newest result.streams moved.new }
 {
     let rest = run.to - run.from;
     pieces::shift(buf, run.from, run.to);
     let before = run.streams;
-    let streams = read_behind(before, moved, buf, rest);
+    let streams = read_behind(rt, before, moved, buf, rest);
     let mut next = run;
     next.streams = streams;
     if streams::is_unreadable(streams) {
@@ -112,12 +117,19 @@ fn read_more(run: Run, moved: &mut usize, buf: &mut [u8]) -> Run
 }
 
 // What the loop has passed: its findings are written, so that none waits for the next line, and more is read where it asks for more.
-fn turned(run: Run, passed: Passed, moved: &mut usize, buf: &mut [u8], out: &[u8; BUFFER]) -> Run
+fn turned(
+    rt: HostRuntime,
+    run: Run,
+    passed: Passed,
+    moved: &mut usize,
+    buf: &mut [u8],
+    out: &[u8; BUFFER],
+) -> Run
     requires { (length buf.old ≡ buffer_size) × Fits run passed out.now × Newest run.streams moved.old }
     ensures { Turned run passed buf.old result buf.new × Newest result.streams moved.new }
 {
     let before = run.streams;
-    let streams = print(before, moved, out, passed.put);
+    let streams = print(rt, before, moved, out, passed.put);
     let mut next = run;
     next.from = run.from + passed.taken;
     next.streams = streams;
@@ -132,7 +144,7 @@ fn turned(run: Run, passed: Passed, moved: &mut usize, buf: &mut [u8], out: &[u8
             stopped(next, JUDGED)
         }
         Stop::Full => next,
-        Stop::More => read_more(next, moved, buf),
+        Stop::More => read_more(rt, next, moved, buf),
         Stop::End => stopped(next, JUDGED),
     }
 }
@@ -152,6 +164,7 @@ fn put_last(run: Run, book: &[u64; BOOK_NUMBERS], out: &mut [u8; BUFFER]) -> usi
 
 // Prints the last line. Where a call failed there is none.
 fn finish(
+    rt: HostRuntime,
     run: Run,
     moved: &mut usize,
     book: &[u64; BOOK_NUMBERS],
@@ -165,7 +178,7 @@ fn finish(
         return streams;
     }
     let n = put_last(run, book, out);
-    print(streams, moved, out, n)
+    print(rt, streams, moved, out, n)
 }
 
 // The records that fit the buffer go from `from` up to here.
@@ -181,6 +194,7 @@ fn piece_end(from: usize, count: usize) -> usize
 
 // Prints the first `count` records, a buffer of them after another. Where a call failed none follow.
 fn print_leaks(
+    rt: HostRuntime,
     before: Streams,
     moved: &mut usize,
     records: &[Number; LEAK_NUMBERS],
@@ -198,7 +212,7 @@ fn print_leaks(
         }
         let to = piece_end(done, count);
         let n = listing::put_records(out, records, done, to);
-        streams = print(streams, moved, out, n);
+        streams = print(rt, streams, moved, out, n);
         done = to;
     }
     streams
@@ -206,6 +220,7 @@ fn print_leaks(
 
 // The leaks behind the last line.
 fn add_leaks(
+    rt: HostRuntime,
     streams: Streams,
     moved: &mut usize,
     rows: &[Number; REFERENCE_NUMBERS],
@@ -221,12 +236,13 @@ fn add_leaks(
     let mut records = [0; LEAK_NUMBERS];
     let asked = streams::with_leaks(streams);
     let count = listing::list(asked, rows, marks, pins, pinmarks, book, &mut records);
-    print_leaks(streams, moved, &records, count, out)
+    print_leaks(rt, streams, moved, &records, count, out)
 }
 
 // Judges the input until a line is refused, it is at its end or a call fails, and prints the report, and the leaks behind it where they are asked for. On an input without end it stops too: see
 // specs/Progress.antt.
 fn judge_all(
+    rt: HostRuntime,
     leaks: bool,
     buf: &mut [u8],
     rows: &mut [Number; REFERENCE_NUMBERS],
@@ -265,10 +281,12 @@ fn judge_all(
             classes,
             out,
         );
-        so_far = turned(so_far, passed, &mut moved, buf, out);
+        so_far = turned(rt, so_far, passed, &mut moved, buf, out);
         if so_far.stop != 0 {
-            let finished = finish(so_far, &mut moved, book, out);
-            return add_leaks(finished, &mut moved, rows, marks, pins, pinmarks, book, out);
+            let finished = finish(rt, so_far, &mut moved, book, out);
+            return add_leaks(
+                rt, finished, &mut moved, rows, marks, pins, pinmarks, book, out,
+            );
         }
     }
 }
@@ -286,7 +304,7 @@ fn empty_buffer() -> [u8; BUFFER] {
 }
 
 // Judges standard input, and says on standard error what its report cannot say.
-fn judge_input(leaks: bool) -> Streams
+fn judge_input(rt: HostRuntime, leaks: bool) -> Streams
     ensures { (result.leaks ≡ leaks) × Reported result }
 {
     let mut buf = empty_buffer();
@@ -298,6 +316,7 @@ fn judge_input(leaks: bool) -> Streams
     let mut book = [0; BOOK_NUMBERS];
     let mut classes = [0; CLASS_NUMBERS];
     let ended = judge_all(
+        rt,
         leaks,
         &mut buf,
         &mut rows,
@@ -309,31 +328,27 @@ fn judge_input(leaks: bool) -> Streams
         &mut out,
     );
     if streams::is_unreadable(ended) {
-        io::write_all(STDERR_FILENO, b"judge: the input could not be read\n");
+        let _ = eprintln!(rt; "judge: the input could not be read");
         return ended;
     }
     if leaks & !streams::has_failed(ended) & !is_closed(&book) {
-        io::write_all(
-            STDERR_FILENO,
-            b"judge: the trace has no end (no Z), so no leaks are listed\n",
-        );
+        let _ = eprintln!(rt; "judge: the trace has no end (no Z), so no leaks are listed");
     }
     ended
 }
 
-fn main() {
-    let asked = arguments::asked_for();
+fn main(rt: HostRuntime) {
+    let asked = arguments::asked_for(rt);
     match asked {
         Asked::Report => {
-            judge_input(false);
+            judge_input(rt, false);
         }
         Asked::ReportAndLeaks => {
-            judge_input(true);
+            judge_input(rt, true);
         }
         Asked::Another => {
-            io::write_all(
-                STDERR_FILENO,
-                b"judge: the program takes --leaks or no argument, and a trace on standard input\n",
+            let _ = eprintln!(rt;
+                "judge: the program takes --leaks or no argument, and a trace on standard input"
             );
         }
     }

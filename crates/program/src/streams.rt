@@ -1,12 +1,13 @@
-// Standard input and standard output: how much has gone through them. The numbers of `Streams` are changed here alone, by calls of `read` and `write`; `moved`, a sum of them
+// Standard input and standard output: how much has gone through them. The numbers of `Streams` are changed here alone, by calls of `read` and `write_all`; `moved`, a sum of them
 // that is kept apart, shuts out `Streams` of before the last call.
-ghost use Rattle.std.specs.Prelude.{◌≡◌, ◌||◌, ◌≤◌, ◌<◌, length};
-ghost use Rattle.libc.specs.Io.{Moved};
+ghost use Rattle.std.specs.Prelude.{◌≡◌, ◌||◌, ◌≤◌, ◌<◌, length, IfSome};
 ghost use Rattle.program.specs.Progress.{buffer_size, Few};
-ghost use Rattle.program.specs.Printing.{standard_input, standard_output, nothing_yet, Newest, Due, with_read, HasRead, with_printed, HasPrinted};
+ghost use Rattle.program.specs.Printing.{nothing_yet, Newest, Due, with_read, HasRead, with_printed, HasPrinted};
+
+use std::io::{Read, Stdin, Stdout};
 
 // Whether the leaks are printed behind the report; how many bytes were read, whether the input has ended behind them, whether a read failed, how many bytes were printed and whether a write failed.
-#[derive(Drop)]
+#[derive(Clone, Copy)]
 pub(crate) struct Streams {
     leaks: bool,
     read: usize,
@@ -67,27 +68,32 @@ pub(crate) fn has_failed(streams: Streams) -> bool
 }
 
 // After a read that answered so. The input has ended where it gave nothing.
-fn after_read(streams: Streams, got: isize) -> Streams
-    requires { Moved buffer_size got × Few streams 0 }
+fn after_read(streams: Streams, got: Option<usize>) -> Streams
+    requires { IfSome got (λ n. n ≤ buffer_size) × Few streams 0 }
     ensures { result ≡ with_read streams got }
 {
     let mut next = streams;
-    if got < 0 {
-        next.unreadable = true;
-        return next;
+    match got {
+        Some(given) => {
+            next.read = streams.read + given;
+            next.ended = given == 0;
+        }
+        None => next.unreadable = true,
     }
-    let given = got as usize;
-    next.read = streams.read + given;
-    next.ended = given == 0;
     next
 }
 
 // Takes bytes in, of standard input, where there is room for some.
-pub(crate) fn take_in(streams: Streams, moved: &mut usize, file: i32, bytes: &mut [u8]) -> Streams
-    requires { (file ≡ standard_input) × Newest streams moved.old × (0 < length bytes.old) × (length bytes.old ≤ buffer_size) × Few streams 0 }
+pub(crate) fn take_in(
+    streams: Streams,
+    moved: &mut usize,
+    mut stdin: Stdin,
+    bytes: &mut [u8],
+) -> Streams
+    requires { Newest streams moved.old × (0 < length bytes.old) × (length bytes.old ≤ buffer_size) × Few streams 0 }
     ensures { HasRead streams (length bytes.old) result × Newest result moved.new }
 {
-    let got = libc::read(file, bytes);
+    let got = stdin.read(bytes).ok();
     let next = after_read(streams, got);
     *moved = next.read + next.printed;
     next
@@ -105,11 +111,16 @@ fn after_write(streams: Streams, n: usize, written: bool) -> Streams
 }
 
 // Hands bytes over to standard output: those that come next.
-pub(crate) fn hand_over(streams: Streams, moved: &mut usize, file: i32, bytes: &[u8]) -> Streams
-    requires { (file ≡ standard_output) × Newest streams moved.old × Due streams bytes.now × Few streams (length bytes.now) }
+pub(crate) fn hand_over(
+    streams: Streams,
+    moved: &mut usize,
+    stdout: Stdout,
+    bytes: &[u8],
+) -> Streams
+    requires { Newest streams moved.old × Due streams bytes.now × Few streams (length bytes.now) }
     ensures { HasPrinted streams (length bytes.now) result × Newest result moved.new }
 {
-    let written = io::write_all(file, bytes);
+    let written = stdout.write_all(bytes).is_ok();
     let next = after_write(streams, bytes.len(), written);
     *moved = next.read + next.printed;
     next
