@@ -1,6 +1,6 @@
 -- When the promise of a function leaves nothing open. Assumes nothing.
--- It is said of the contract itself: of a function f the checker makes `contracts.f.ended`, its signature, and from the text of its `requires` and
--- `ensures` `f.Reads.Asked` and `f.Reads.Learnt`, what a caller has to show and what it learns.
+-- It is said of the contract itself: of a function f the checker makes `f.ended`, its signature, and from the text of its `requires` and `ensures`
+-- `f.Reads.Asked` and `f.Reads.Learnt`, what a caller has to show and what it learns.
 use Rattle.std.specs.Prelude.{◌≡◌}
 use contract.Lifetimes.{Lfts}
 use denote.Triple.Entry.{Args, Res}
