@@ -11,6 +11,11 @@ TYPE = re.compile(r'^pub type [^\n]*\n|^(?:pub(?:\(crate\))? )?(?:enum|struct) .
 USE = re.compile(r'^use ([\w:]+)::(?:(\w+)|\{([^}]*)\});$', re.M)
 
 
+def crates():
+    """The libraries and programs of this repository."""
+    return re.findall(r'^(\w+):', (ROOT / 'crates.txt').read_text(), re.M)
+
+
 class Stopped(Exception):
     """What was asked could not be done."""
 
@@ -23,7 +28,7 @@ class Repository:
         self.crates = self.folder / 'crates'
         for name in crates:
             self.copy(name)
-        self.list = [l for l in (ROOT / 'crates.txt').read_text().splitlines() if l.split(':')[0] in crates]
+        self.list = [l for l in (ROOT / 'crates.txt').read_text().splitlines() if l.partition(':')[0] in crates]
         (self.folder / 'crates.txt').write_text('\n'.join(self.list) + '\n')
 
     def copy(self, name):
@@ -38,9 +43,10 @@ class Repository:
             (proofs / (name + '.antt')).write_text(text)
         (proofs / 'Lib.antt').write_text(''.join('mod %s\n' % n for n in files))
 
-    def check(self, crate, *words):
-        """The status of `rt check` on a crate, and what it says."""
-        done = subprocess.run(['rt', 'check', *words], cwd=self.crates / crate, stdout=subprocess.PIPE, stderr=subprocess.STDOUT)
+    def rt(self, *words, crate=None):
+        """The status of `rt`, at the top or in the folder of a crate, and what it says."""
+        folder = self.crates / crate if crate else self.folder
+        done = subprocess.run(['rt', *words], cwd=folder, stdout=subprocess.PIPE, stderr=subprocess.STDOUT)
         return done.returncode, done.stdout.decode(errors='replace')
 
     def remove(self):
