@@ -1,15 +1,19 @@
 """A repository in a temporary folder for the prover to work in: crates of this one, or their definitions alone.
 
-Nothing is written in this repository. What is proved here already (target/) is not proved again there, as long as
-it is left unchanged.
+Nothing is written in this repository. What `rt check` proved here already it takes over there, as long as it is left unchanged.
 """
-import os, pathlib, re, shutil, subprocess, tempfile
+import pathlib, re, shutil, subprocess, tempfile
 
 ROOT = pathlib.Path(__file__).resolve().parent.parent
 HISTORY = ['words', 'facts', 'numbers', 'lines', 'history']
 DEFINITIONS = HISTORY + ['rows', 'classes', 'book', 'tables', 'demands']
 TYPE = re.compile(r'^pub type [^\n]*\n|^(?:pub(?:\(crate\))? )?(?:enum|struct) .*?^}\n', re.M | re.S)
 USE = re.compile(r'^use ([\w:]+)::(?:(\w+)|\{([^}]*)\});$', re.M)
+
+
+def crates():
+    """The libraries and programs of this repository."""
+    return re.findall(r'^(\w+):', (ROOT / 'crates.txt').read_text(), re.M)
 
 
 class Stopped(Exception):
@@ -24,16 +28,11 @@ class Repository:
         self.crates = self.folder / 'crates'
         for name in crates:
             self.copy(name)
-        self.list = [l for l in (ROOT / 'crates.txt').read_text().splitlines() if l.split(':')[0] in crates]
+        self.list = [l for l in (ROOT / 'crates.txt').read_text().splitlines() if l.partition(':')[0] in crates]
         (self.folder / 'crates.txt').write_text('\n'.join(self.list) + '\n')
 
     def copy(self, name):
-        shutil.copytree(ROOT / 'crates' / name, self.crates / name, ignore=shutil.ignore_patterns('must-fail'))
-        stamp, rlib = pathlib.Path('target', 'stamp', name), pathlib.Path('target', 'rlib', name + '.rlib')
-        if (ROOT / stamp).is_file() and (ROOT / rlib).is_dir():
-            (self.folder / stamp).parent.mkdir(parents=True, exist_ok=True)
-            shutil.copy(ROOT / stamp, self.folder / stamp)
-            shutil.copytree(ROOT / rlib, self.folder / rlib)
+        shutil.copytree(ROOT / 'crates' / name, self.crates / name, ignore=shutil.ignore_patterns('must-fail', 'out'))
 
     def write(self, crate, files):
         """The proofs of a crate: these texts by file name, and no others."""
@@ -44,10 +43,10 @@ class Repository:
             (proofs / (name + '.antt')).write_text(text)
         (proofs / 'Lib.antt').write_text(''.join('mod %s\n' % n for n in files))
 
-    def rt(self, *words):
-        """The status of `rt`, and what it says."""
-        env = dict(os.environ, RT_JOBS='1', RT_CUT='0')
-        done = subprocess.run(['rt', *words], cwd=self.folder, env=env, stdout=subprocess.PIPE, stderr=subprocess.STDOUT)
+    def rt(self, *words, crate=None):
+        """The status of `rt`, at the top or in the folder of a crate, and what it says."""
+        folder = self.crates / crate if crate else self.folder
+        done = subprocess.run(['rt', *words], cwd=folder, stdout=subprocess.PIPE, stderr=subprocess.STDOUT)
         return done.returncode, done.stdout.decode(errors='replace')
 
     def remove(self):

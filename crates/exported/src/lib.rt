@@ -34,8 +34,7 @@ const FAR: usize = 3;
 const SHORT_FAR: i32 = -101;
 
 // Clears all rows, marks, book and class table.
-#[unsafe(no_mangle)]
-pub extern "C" fn weir_start(
+pub fn weir_start(
     rows: &mut [Number],
     marks: &mut [u64],
     pins: &mut [Number],
@@ -88,8 +87,7 @@ fn number_told(refusal: u8, count: usize) -> i32
 // One line of the trace, all its bytes with the LF: below zero the number given instead of it, or how many findings it has.
 // They are left at the front of `found`, line, rule, place and thing of each. Where `found` is short for the most that a line
 // has, below 24 numbers, it is -100, and nothing is touched.
-#[unsafe(no_mangle)]
-pub extern "C" fn weir_step(
+pub fn weir_step(
     line: &[u8],
     rows: &mut [Number],
     marks: &mut [u64],
@@ -136,8 +134,7 @@ fn stop_told(stop: Stop) -> i32
 // `far` how many bytes of the piece were taken, how many bytes of findings were put and how many findings these are. Told is why it stopped: 0 more
 // is to be read, 1 `out` may have no room for the findings of one more line, 2 the trace is at its end, or below zero the number given instead of the
 // line that it stopped before. Where `far` holds fewer than 3 numbers it is -101, and nothing is touched.
-#[unsafe(no_mangle)]
-pub extern "C" fn weir_piece(
+pub fn weir_piece(
     piece: &[u8],
     ended: u32,
     rows: &mut [Number],
@@ -183,8 +180,7 @@ fn number_listed(listed: Listed) -> i32
 
 // The leaks after Z, rule, thread, value and making line of each, at the front of `leaks`, ordered by making line, then rule and row: how
 // many there are, or below zero the number given instead, and then nothing is written. The tables are read alone.
-#[unsafe(no_mangle)]
-pub extern "C" fn weir_leaks(
+pub fn weir_leaks(
     rows: &[Number],
     marks: &[u64],
     pins: &[Number],
@@ -211,8 +207,7 @@ fn length_told(reported: Reported) -> usize
 
 // Judges all lines of a trace from a start: how long the report is. It stands at the start of `out` where that is no shorter, else nothing
 // is written there; the tables are left as the run left them. Over a short book or class table it is 0, which no report is long, and nothing is touched.
-#[unsafe(no_mangle)]
-pub extern "C" fn weir_judge(
+pub fn weir_judge(
     trace: &[u8],
     rows: &mut [Number],
     marks: &mut [u64],

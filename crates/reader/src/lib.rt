@@ -12,8 +12,7 @@ use words::Handle;
 
 // Reads a lent line, all its bytes with the LF: its letter, or, below zero, the number given instead. Its numbers are left in the ten slots, 0 past them, with how many there are;
 // where there is no line nothing is written.
-#[unsafe(no_mangle)]
-pub extern "C" fn weir_read(line: &[u8], numbers: &mut [Handle; 10], count: &mut u32) -> i32
+pub fn weir_read(line: &[u8], numbers: &mut [Handle; 10], count: &mut u32) -> i32
     ensures value { result ≡ told (apart_of (read line.now)) }
     ensures numbers_after { numbers.new ≡ numbers_left (read line.now) numbers.old }
     ensures count_after { count.new ≡ counted (apart_of (read line.now)) count.old }

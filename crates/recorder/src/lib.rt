@@ -21,14 +21,7 @@ fn tell(d: &mut [u8], e: Event, handles: &[Handle; 8]) -> i32
 }
 
 // N: Java enters native. The first `count` of the eight slots are its handles, and the others are 0.
-#[unsafe(no_mangle)]
-pub extern "C" fn weir_enter(
-    d: &mut [u8],
-    thread: u32,
-    env: Handle,
-    count: u32,
-    handles: &[Handle; 8],
-) -> i32
+pub fn weir_enter(d: &mut [u8], thread: u32, env: Handle, count: u32, handles: &[Handle; 8]) -> i32
     ensures value { result ≡ told (wrote (meant (Enter thread env count) handles.now) d.old) }
     ensures d_after { d.new ≡ left (meant (Enter thread env count) handles.now) d.old }
 {
@@ -44,8 +37,7 @@ pub extern "C" fn weir_enter(
 }
 
 // X: native returns to Java. The result is 0 where no object is returned.
-#[unsafe(no_mangle)]
-pub extern "C" fn weir_leave(d: &mut [u8], thread: u32, res: Handle) -> i32
+pub fn weir_leave(d: &mut [u8], thread: u32, res: Handle) -> i32
     ensures value { result ≡ told (wrote (meant (Leave thread res) no_handles) d.old) }
     ensures d_after { d.new ≡ left (meant (Leave thread res) no_handles) d.old }
 {
@@ -60,8 +52,7 @@ pub extern "C" fn weir_leave(d: &mut [u8], thread: u32, res: Handle) -> i32
 }
 
 // C: C calls a JNI function. A place that the function does not use is 0, and so is n but for 19 and 26.
-#[unsafe(no_mangle)]
-pub extern "C" fn weir_call(
+pub fn weir_call(
     d: &mut [u8],
     thread: u32,
     env: Handle,
@@ -90,8 +81,7 @@ pub extern "C" fn weir_call(
 }
 
 // R: the function returns. What it gives is its status, or its result where it has no status; the other is 0.
-#[unsafe(no_mangle)]
-pub extern "C" fn weir_return(
+pub fn weir_return(
     d: &mut [u8],
     thread: u32,
     function: u32,
@@ -116,8 +106,7 @@ pub extern "C" fn weir_return(
 }
 
 // A: a thread that starts in C attaches itself.
-#[unsafe(no_mangle)]
-pub extern "C" fn weir_attach(d: &mut [u8], thread: u32, env: Handle) -> i32
+pub fn weir_attach(d: &mut [u8], thread: u32, env: Handle) -> i32
     ensures value { result ≡ told (wrote (meant (Attach thread env) no_handles) d.old) }
     ensures d_after { d.new ≡ left (meant (Attach thread env) no_handles) d.old }
 {
@@ -132,8 +121,7 @@ pub extern "C" fn weir_attach(d: &mut [u8], thread: u32, env: Handle) -> i32
 }
 
 // D: it detaches itself.
-#[unsafe(no_mangle)]
-pub extern "C" fn weir_detach(d: &mut [u8], thread: u32) -> i32
+pub fn weir_detach(d: &mut [u8], thread: u32) -> i32
     ensures value { result ≡ told (wrote (meant (Detach thread) no_handles) d.old) }
     ensures d_after { d.new ≡ left (meant (Detach thread) no_handles) d.old }
 {
@@ -141,8 +129,7 @@ pub extern "C" fn weir_detach(d: &mut [u8], thread: u32) -> i32
 }
 
 // K: declares a class.
-#[unsafe(no_mangle)]
-pub extern "C" fn weir_declare(d: &mut [u8], class: u32, superclass: u32) -> i32
+pub fn weir_declare(d: &mut [u8], class: u32, superclass: u32) -> i32
     ensures value { result ≡ told (wrote (meant (Declare class superclass) no_handles) d.old) }
     ensures d_after { d.new ≡ left (meant (Declare class superclass) no_handles) d.old }
 {
@@ -157,8 +144,7 @@ pub extern "C" fn weir_declare(d: &mut [u8], class: u32, superclass: u32) -> i32
 }
 
 // O: states the class of a handle.
-#[unsafe(no_mangle)]
-pub extern "C" fn weir_state(d: &mut [u8], thread: u32, handle: Handle, class: u32) -> i32
+pub fn weir_state(d: &mut [u8], thread: u32, handle: Handle, class: u32) -> i32
     ensures value { result ≡ told (wrote (meant (State thread handle class) no_handles) d.old) }
     ensures d_after { d.new ≡ left (meant (State thread handle class) no_handles) d.old }
 {
@@ -174,8 +160,7 @@ pub extern "C" fn weir_state(d: &mut [u8], thread: u32, handle: Handle, class: u
 }
 
 // M: states what an identity is.
-#[unsafe(no_mangle)]
-pub extern "C" fn weir_identify(
+pub fn weir_identify(
     d: &mut [u8],
     identity: Handle,
     sort: u32,
@@ -200,8 +185,7 @@ pub extern "C" fn weir_identify(
 }
 
 // Z: the end of the run.
-#[unsafe(no_mangle)]
-pub extern "C" fn weir_end(d: &mut [u8]) -> i32
+pub fn weir_end(d: &mut [u8]) -> i32
     ensures value { result ≡ told (wrote (meant End no_handles) d.old) }
     ensures d_after { d.new ≡ left (meant End no_handles) d.old }
 {
