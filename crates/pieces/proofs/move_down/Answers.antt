@@ -14,9 +14,9 @@ pub loop-i-preserved : goal.loop-i-preserved
 loop-i-preserved c =
     let a = c.args in
     let l = c.loop-i in (
-    omega arith,
-    ap (λ x. set x l.i (get_or x (a.from + l.i) 0)) l.invariant.1 ∙ down a.d.now a.from l.i (omega arith),
-    simp length-set l.invariant.2,
+      omega arith,
+      ap (λ x. set x l.i (get_or x (a.from + l.i) 0)) l.invariant.1 ∙ down a.d.now a.from l.i (omega arith),
+      simp length-set l.invariant.2,
     )
 
 pub returns : goal.returns

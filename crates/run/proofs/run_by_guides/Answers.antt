@@ -12,11 +12,11 @@ use Rattle.run.proofs.run_by_guides.Goals as goal
 pub loop-way-init : goal.loop-way-init
 loop-way-init c =
     record {
-    alike = record { reference_rows = refl; reference_marks = refl; pin_rows = refl; pin_marks = refl; books = refl; class_tables = refl };
-    going = going_start c.start-way.ensures.0 c.start-way.ensures.1 c.start-way.ensures.2 c.start-way.ensures.3;
-    guides = guided _ _ c.fill.ensures;
-    pin_guides = pin_guided _ _ c.fill-2.ensures;
-    fit = fit_unless_8 _ _ c.requires;
+      alike = record { reference_rows = refl; reference_marks = refl; pin_rows = refl; pin_marks = refl; books = refl; class_tables = refl };
+      going = going_start c.start-way.ensures.0 c.start-way.ensures.1 c.start-way.ensures.2 c.start-way.ensures.3;
+      guides = guided _ _ c.fill.ensures;
+      pin_guides = pin_guided _ _ c.fill-2.ensures;
+      fit = fit_unless_8 _ _ c.requires;
     }
 
 pub slice_bounds-step-end : goal.slice_bounds-step-end

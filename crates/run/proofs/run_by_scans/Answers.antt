@@ -28,9 +28,9 @@ loop-way-preserved c =
       pin_marks = c.step-answer.auto.pinmarks;
       books = c.step-answer.auto.book;
       class_tables = c.step-answer.auto.classes;
-    } in
-    (alike_still {S = (tables c.loop-way.rows c.loop-way.marks c.loop-way.pins c.loop-way.pinmarks c.loop-way.book c.loop-way.classes)} as_long c.loop-way.invariant.0,
-    going_on c.loop-way.invariant.1 c.loop-way-test.true {S' = (tables c.step-answer.new.rows c.step-answer.new.marks c.step-answer.new.pins c.step-answer.new.pinmarks c.step-answer.new.book c.step-answer.new.classes)} c.step-answer.ensures c.heard-way.ensures
+    } in (
+      alike_still {S = (tables c.loop-way.rows c.loop-way.marks c.loop-way.pins c.loop-way.pinmarks c.loop-way.book c.loop-way.classes)} as_long c.loop-way.invariant.0,
+      going_on c.loop-way.invariant.1 c.loop-way-test.true {S' = (tables c.step-answer.new.rows c.step-answer.new.marks c.step-answer.new.pins c.step-answer.new.pinmarks c.step-answer.new.book c.step-answer.new.classes)} c.step-answer.ensures c.heard-way.ensures,
     )
 
 pub shape_of-rows : goal.shape_of-rows

@@ -14,9 +14,9 @@ pub loop-i-preserved : goal.loop-i-preserved
 loop-i-preserved c =
     let a = c.args in
     let l = c.loop-i in (
-    omega arith,
-    ap (λ x. set x (a.at + l.i) (get_or a.s.now l.i 0)) l.invariant.1 ∙ rw add-one (paste-suc a.out.now a.at a.s.now l.i 0 (omega arith) (omega arith)),
-    simp length-set l.invariant.2,
+      omega arith,
+      ap (λ x. set x (a.at + l.i) (get_or a.s.now l.i 0)) l.invariant.1 ∙ rw add-one (paste-suc a.out.now a.at a.s.now l.i 0 (omega arith) (omega arith)),
+      simp length-set l.invariant.2,
     )
 
 pub shape_of-out : goal.shape_of-out

@@ -63,11 +63,11 @@ pub returns : goal.returns
 returns c =
     whole_printed _ _ _ (omega (arith, c.if-book-lt-WHOLE.false), ltb-false _ _ (sym c.is_short.ensures ∙ c.if-is_short.false)) c.report_into-w.ensures (omega (arith, c.if-out-w.false))
     (record {
-    reference_rows = c.report_into-w.auto.rows;
-    reference_marks = c.report_into-w.auto.marks;
-    pin_rows = c.report_into-w.auto.pins;
-    pin_marks = c.report_into-w.auto.pinmarks;
-    books = c.report_into-w.auto.book;
-    class_tables = c.report_into-w.auto.classes;
+      reference_rows = c.report_into-w.auto.rows;
+      reference_marks = c.report_into-w.auto.marks;
+      pin_rows = c.report_into-w.auto.pins;
+      pin_marks = c.report_into-w.auto.pinmarks;
+      books = c.report_into-w.auto.book;
+      class_tables = c.report_into-w.auto.classes;
     })
     c.report_into.ensures

@@ -6,12 +6,11 @@ use Rattle.trace.proofs.Reporting.{started, measured}
 use Rattle.trace.proofs.report_into.Goals as goal
 
 pub loop-so_far-init : goal.loop-so_far-init
-loop-so_far-init c =
-    (
-    record { reference_rows = refl; reference_marks = refl; pin_rows = refl; pin_marks = refl; books = refl; class_tables = refl },
-    refl,
-    going_start (started _ c.requires c.start.ensures) refl refl refl refl,
-    )
+loop-so_far-init c = (
+  record { reference_rows = refl; reference_marks = refl; pin_rows = refl; pin_marks = refl; books = refl; class_tables = refl },
+  refl,
+  going_start (started _ c.requires c.start.ensures) refl refl refl refl,
+)
 
 pub slice_bounds-run_lines-count : goal.slice_bounds-run_lines-count
 slice_bounds-run_lines-count c = omega (arith, c.loop-so_far.invariant.2.within)
@@ -34,18 +33,17 @@ loop-so_far-smaller c =
 
 pub loop-so_far-preserved : goal.loop-so_far-preserved
 loop-so_far-preserved c =
-    let inv = c.loop-so_far.invariant in
-    (
-    record {
-    reference_rows = c.run_lines-passed.auto.rows ∙ inv.0.reference_rows;
-    reference_marks = c.run_lines-passed.auto.marks ∙ inv.0.reference_marks;
-    pin_rows = c.run_lines-passed.auto.pins ∙ inv.0.pin_rows;
-    pin_marks = c.run_lines-passed.auto.pinmarks ∙ inv.0.pin_marks;
-    books = c.run_lines-passed.auto.book ∙ inv.0.books;
-    class_tables = c.run_lines-passed.auto.classes ∙ inv.0.class_tables;
-    },
-    c.run_lines-passed.auto.out ∙ inv.1,
-    going_on _ inv.2 c.loop-so_far-test.true inv.1 c.run_lines-passed.auto.out c.run_lines-passed.ensures c.with_passed-so_far.ensures,
+    let inv = c.loop-so_far.invariant in (
+      record {
+        reference_rows = c.run_lines-passed.auto.rows ∙ inv.0.reference_rows;
+        reference_marks = c.run_lines-passed.auto.marks ∙ inv.0.reference_marks;
+        pin_rows = c.run_lines-passed.auto.pins ∙ inv.0.pin_rows;
+        pin_marks = c.run_lines-passed.auto.pinmarks ∙ inv.0.pin_marks;
+        books = c.run_lines-passed.auto.book ∙ inv.0.books;
+        class_tables = c.run_lines-passed.auto.classes ∙ inv.0.class_tables;
+      },
+      c.run_lines-passed.auto.out ∙ inv.1,
+      going_on _ inv.2 c.loop-so_far-test.true inv.1 c.run_lines-passed.auto.out c.run_lines-passed.ensures c.with_passed-so_far.ensures,
     )
 
 pub put_last-requires : goal.put_last-requires
