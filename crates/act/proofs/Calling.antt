@@ -7,7 +7,7 @@ use borrow.Author.Tests.{eqb-true, eq-eqb, ne_eqb}
 use lib.Dec.{eqb}
 use lib.IntN.{ℤ}
 use lib.ListN.{length}
-use Rattle.words.specs.Choice.{if◌then◌else◌}
+use Rattle.words.specs.Choice.{if_true◌then◌else◌}
 use Rattle.facts.specs.Table.{fact_of, family}
 use Rattle.facts.specs.Named.{PopLocalFrame}
 use Rattle.facts.specs.declared.Place.{Place}
@@ -105,7 +105,7 @@ no_delete : (f a : ℕ) → eqb f PopLocalFrame ≡ true → is_delete f a ≡ f
 no_delete f a h = subst (λ (g : ℕ). is_delete g a ≡ false) (sym (eqb-true f PopLocalFrame h)) refl
 
 one_of_two : (del pop top : Bool) (T D : Table) (E : Table → Table) → (pop ≡ true → del ≡ false)
-    → (if pop && top then E (if del then D else T) else if del then D else T) ≡ (if del then D else if pop && top then E T else T)
+    → (if_true pop && top then E (if_true del then D else T) else if_true del then D else T) ≡ (if_true del then D else if_true pop && top then E T else T)
 one_of_two true true top T D E h = absurd (false≢true (sym (h refl)))
 one_of_two true false top T D E h = refl
 one_of_two false pop top T D E h = refl
@@ -115,7 +115,7 @@ pub tables_called : (rs ms ps ns b cs rs' ms' ps' ns' b' : List ℕ) (t f a x : 
 unfolding called
 tables_called rs ms ps ns b cs rs' ms' ps' ns' b' t f a x p y er ep eb i = record { references = er i; pins = ep i; book = eb i; classes = cs }
 
-if_same : {A : Type 0} (d : Bool) (x y z : A) → (d ≡ true → x ≡ y) → (if d then x else z) ≡ (if d then y else z)
+if_same : {A : Type 0} (d : Bool) (x y z : A) → (d ≡ true → x ≡ y) → (if_true d then x else z) ≡ (if_true d then y else z)
 if_same true x y z h = h refl
 if_same false x y z h = refl
 
@@ -123,12 +123,12 @@ called_acts : (T : Tables) (t env f a b c : ℕ) (n : ℤ) (line m x y : ℕ) �
     → (is_buffer_place (fact_of f).b ≡ true → y ≡ found pins (is_buffer (pin_owner f t) (family f) b) T.pins) → called T t f a x (fact_of f).b y ≡ acted line (C t env f a b c n) m T
 unfolding called acted references_after pins_after book_after classes_after called_references deleted top_ended released called_book popped first_ended
 called_acts T t env f a b c n line m x y hx hy =
-    let rows : (if eqb f PopLocalFrame && top_pushed (thread_in T.book t).frames then
-    ended_all references (from_frame t (length (thread_in T.book t).frames)) (if is_delete f a then ended references T.references x else T.references)
-    else if is_delete f a then ended references T.references x
+    let rows : (if_true eqb f PopLocalFrame && top_pushed (thread_in T.book t).frames then
+    ended_all references (from_frame t (length (thread_in T.book t).frames)) (if_true is_delete f a then ended references T.references x else T.references)
+    else if_true is_delete f a then ended references T.references x
     else T.references)
-    ≡ (if is_delete f a then ended references T.references (found references (is_handle (delete_owner f t) a) T.references)
-    else if eqb f PopLocalFrame && top_pushed (thread_in T.book t).frames then
+    ≡ (if_true is_delete f a then ended references T.references (found references (is_handle (delete_owner f t) a) T.references)
+    else if_true eqb f PopLocalFrame && top_pushed (thread_in T.book t).frames then
     ended_all references (from_frame t (length (thread_in T.book t).frames)) T.references
     else T.references) =
     one_of_two
@@ -141,8 +141,8 @@ called_acts T t env f a b c n line m x y hx hy =
     (no_delete f a)
     ∙ if_same (is_delete f a) _ _ _ (λ h. ap (ended references T.references) (hx h))
     in
-    let buffers : (if is_buffer_place (fact_of f).b then ended pins T.pins y else T.pins)
-    ≡ (if is_buffer_place (fact_of f).b then ended pins T.pins (found pins (is_buffer (pin_owner f t) (family f) b) T.pins) else T.pins) =
+    let buffers : (if_true is_buffer_place (fact_of f).b then ended pins T.pins y else T.pins)
+    ≡ (if_true is_buffer_place (fact_of f).b then ended pins T.pins (found pins (is_buffer (pin_owner f t) (family f) b) T.pins) else T.pins) =
     if_same (is_buffer_place (fact_of f).b) _ _ _ (λ h. ap (ended pins T.pins) (hy h))
     in
     λ i. record { references = rows i; pins = buffers i; book = called_book T.book t f; classes = T.classes }

@@ -1,14 +1,14 @@
 -- A choice by a test of which the value is known, and the value of a test.
 use mathlib.Core.Path.{◌≡◌, sym, ap, ◌∙◌}
 use mathlib.Core.Bool.{Bool, true, false, false≢true}
-use Rattle.words.specs.Choice.{if◌then◌else◌}
+use Rattle.words.specs.Choice.{if_true◌then◌else◌}
 
 module _ {A : Type 0} {z : A} where
-  pub chosen : (test : Bool) (x y : A) → test ≡ true → z ≡ x → z ≡ (if test then x else y)
+  pub chosen : (test : Bool) (x y : A) → test ≡ true → z ≡ x → z ≡ (if_true test then x else y)
   chosen true x y h e = e
   chosen false x y h e = absurd (false≢true h)
 
-  pub passed_over : (test : Bool) (x y : A) → test ≡ false → z ≡ y → z ≡ (if test then x else y)
+  pub passed_over : (test : Bool) (x y : A) → test ≡ false → z ≡ y → z ≡ (if_true test then x else y)
   passed_over true x y h e = absurd (false≢true (sym h))
   passed_over false x y h e = e
 

@@ -10,7 +10,7 @@ use lib.ListN.{length}
 use mir.Syntax.{w32}
 use mir.Val.{SFits, to_z, of_z}
 use mir.Facts.{to_z-of_z}
-use Rattle.words.specs.Choice.{if◌then◌else◌}
+use Rattle.words.specs.Choice.{if_true◌then◌else◌}
 use Rattle.facts.specs.Table.{table as fact_table, fact_of, family, is_critical}
 use Rattle.facts.specs.Named.{PushLocalFrame, EnsureLocalCapacity, MonitorEnter, MonitorExit}
 use Rattle.facts.specs.Classes.{class_made}
@@ -62,14 +62,14 @@ module _ (T : Table) (line : ℕ) (k : Result) (t d f h row : ℕ) (y : Bool) (e
 -- ---- a buffer
 
 module _ (P : Table) (line : ℕ) (k : Result) (t f h row : ℕ) (y : Bool) (e : y ≡ is_buffer_result k) where
-  pub buffer_stored : (P' : Table) (j o : ℕ) → (y && not (eqb h 0)) ≡ true → j ≡ family f → o ≡ (if is_critical j then t else 0)
+  pub buffer_stored : (P' : Table) (j o : ℕ) → (y && not (eqb h 0)) ≡ true → j ≡ family f → o ≡ (if_true is_critical j then t else 0)
       → P' ≡ stored pins P row (record { thread = o; family = j; buffer = h; line = line }) → P' ≡ got P line k t f h row
   unfolding got
   buffer_stored P' j o q ej eo es =
       rw (not_null y (is_buffer_result k) h true e q)
       (es
       ∙ ap (λ (s : ℕ). stored pins P row (record { thread = s; family = j; buffer = h; line = line })) eo
-      ∙ ap (λ (i : ℕ). stored pins P row (record { thread = if is_critical i then t else 0; family = i; buffer = h; line = line })) ej)
+      ∙ ap (λ (i : ℕ). stored pins P row (record { thread = if_true is_critical i then t else 0; family = i; buffer = h; line = line })) ej)
 
   pub no_buffer_stored : (y && not (eqb h 0)) ≡ false → P ≡ got P line k t f h row
   unfolding got
@@ -142,20 +142,20 @@ all_returned rs ms ps ns b cs rs' ms' ps' ns' b' line k row t f h p n d s z ed e
 
 module _ (T : Table) (line class row : ℕ) where
   one_made : (null : Bool) (x : Alive) → (not null ≡ true → row ≡ free_row references T)
-      → (if not null then stored references T row (reference_of line class x) else T) ≡ all_taken references T (map (reference_of line class) (if null then [] else x ∷ []))
+      → (if_true not null then stored references T row (reference_of line class x) else T) ≡ all_taken references T (map (reference_of line class) (if_true null then [] else x ∷ []))
   unfolding all_taken taken
   one_made true x e = refl
   one_made false x e = ap (λ (r : ℕ). stored references T r (reference_of line class x)) (e refl)
 
-  none_made : (null : Bool) → T ≡ all_taken references T (map (reference_of line class) (if null then [] else []))
+  none_made : (null : Bool) → T ≡ all_taken references T (map (reference_of line class) (if_true null then [] else []))
   unfolding all_taken
   none_made true = refl
   none_made false = refl
 
   made_result : (k : Result) (t d h : ℕ) (s : ℤ) → ((is_handle_result k && not (eqb h 0)) ≡ true → row ≡ free_row references T)
-      → (if is_handle_result k && not (eqb h 0) then stored references T row (result_row line k t d h class) else T)
+      → (if_true is_handle_result k && not (eqb h 0) then stored references T row (result_row line k t d h class) else T)
       ≡ all_taken references T
-      (map (reference_of line class) (if eqb (above_zero (if is_status k then s else pos h)) 0 then [] else result_made k t d (above_zero (if is_status k then s else pos h))))
+      (map (reference_of line class) (if_true eqb (above_zero (if_true is_status k then s else pos h)) 0 then [] else result_made k t d (above_zero (if_true is_status k then s else pos h))))
   unfolding result_row
   made_result Result.Local t d h s e = one_made (eqb h 0) (local t d h) e
   made_result Result.Global t d h s e = one_made (eqb h 0) (shared h) e
@@ -169,23 +169,23 @@ row_of_pin : (line t f h : ℕ) → record { thread = pin_owner f t; family = fa
 unfolding pin
 row_of_pin line t f h = go (is_critical (family f))
   where
-    go : (o : Bool) → record { thread = if o then t else 0; family = family f; buffer = h; line = line } ≡ pin_row_of line (if o then critical t (family f) h else ordinary (family f) h)
+    go : (o : Bool) → record { thread = if_true o then t else 0; family = family f; buffer = h; line = line } ≡ pin_row_of line (if_true o then critical t (family f) h else ordinary (family f) h)
     go true = refl
     go false = refl
 
 module _ (P : Table) (line row t f h : ℕ) where
   one_got : (null : Bool) → (not null ≡ true → row ≡ free_row pins P)
-      → (if not null then stored pins P row (record { thread = pin_owner f t; family = family f; buffer = h; line = line }) else P)
-      ≡ all_taken pins P (map (pin_row_of line) (if not null then pin t f h ∷ [] else []))
+      → (if_true not null then stored pins P row (record { thread = pin_owner f t; family = family f; buffer = h; line = line }) else P)
+      ≡ all_taken pins P (map (pin_row_of line) (if_true not null then pin t f h ∷ [] else []))
   unfolding all_taken taken
   one_got true e = refl
   one_got false e = ap₂ (stored pins P) (e refl) (row_of_pin line t f h)
 
   got_result : (k : Result) (s : ℤ) → ((is_buffer_result k && not (eqb h 0)) ≡ true → row ≡ free_row pins P)
-      → (if is_buffer_result k && not (eqb h 0) then stored pins P row (record { thread = pin_owner f t; family = family f; buffer = h; line = line }) else P)
+      → (if_true is_buffer_result k && not (eqb h 0) then stored pins P row (record { thread = pin_owner f t; family = family f; buffer = h; line = line }) else P)
       ≡ all_taken pins P
       (map (pin_row_of line)
-      (if is_buffer_result k && not (eqb (above_zero (if is_status k then s else pos h)) 0) then pin t f (above_zero (if is_status k then s else pos h)) ∷ [] else []))
+      (if_true is_buffer_result k && not (eqb (above_zero (if_true is_status k then s else pos h)) 0) then pin t f (above_zero (if_true is_status k then s else pos h)) ∷ [] else []))
   unfolding all_taken
   got_result Result.Buffer s e = one_got (eqb h 0) e
   got_result Result.Local s e = refl
@@ -214,11 +214,11 @@ no_status b t f held n h =
     (not_that f MonitorExit h refl)
 
 same_book : (status : Bool) (h : ℕ) (s : ℤ) (b b' : List ℕ) → (status ≡ false → b ≡ b')
-    → (if is_zero s then b' else b) ≡ (if is_zero (if status then s else pos h) then b' else b)
+    → (if_true is_zero s then b' else b) ≡ (if_true is_zero (if_true status then s else pos h) then b' else b)
 same_book true h s b b' e = refl
 same_book false h s b b' e = both_ways (is_zero s) ∙ sym (both_ways (eqb h 0))
   where
-    both_ways : (o : Bool) → (if o then b' else b) ≡ b
+    both_ways : (o : Bool) → (if_true o then b' else b) ≡ b
     both_ways true = sym (e refl)
     both_ways false = refl
 

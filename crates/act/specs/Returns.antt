@@ -1,6 +1,6 @@
 -- What R leaves in the lent tables, where its result takes a given row. Assumes nothing.
 use Rattle.std.specs.Prelude.{ℕ, not, ◌&&◌, List, eqb, ℤ, length}
-use Rattle.words.specs.Choice.{if◌then◌else◌}
+use Rattle.words.specs.Choice.{if_true◌then◌else◌}
 use Rattle.facts.specs.Table.{family}
 use Rattle.facts.specs.Classes.{class_made}
 use Rattle.facts.specs.Results.{is_handle_result, is_local_result, is_buffer_result}
@@ -21,19 +21,19 @@ use Rattle.tables.specs.Acting.{pin_owner, status_acted}
 -- L in frame d of thread t, G or W in no thread, of class c
 unfoldable pub result_row : ℕ → Result → ℕ → ℕ → ℕ → ℕ → Reference
 result_row line k t d h c =
-    if is_local_result k then record { thread = t; handle = h; frame = d; line = line; class = c }
+    if_true is_local_result k then record { thread = t; handle = h; frame = d; line = line; class = c }
     else record { thread = 0; handle = h; frame = 0; line = line; class = c }
 
 -- the result of function f
 unfoldable pub made : Table → ℕ → Result → ℕ → ℕ → ℕ → ℕ → ℕ → Table
 made T line k t d f h row =
-    if is_handle_result k && not (eqb h 0) then stored references T row (result_row line k t d h (class_made f)) else T
+    if_true is_handle_result k && not (eqb h 0) then stored references T row (result_row line k t d h (class_made f)) else T
 
 -- ---- buffers
 
 unfoldable pub got : Table → ℕ → Result → ℕ → ℕ → ℕ → ℕ → Table
 got P line k t f h row =
-    if is_buffer_result k && not (eqb h 0) then
+    if_true is_buffer_result k && not (eqb h 0) then
     stored pins P row (record { thread = pin_owner f t; family = family f; buffer = h; line = line })
     else P
 
@@ -45,7 +45,7 @@ held T b t = handles_in T (in_frame t (length (thread_in b t).frames))
 
 -- only status zero acts
 unfoldable pub status_taken : Table → List ℕ → ℕ → ℕ → ℤ → ℕ → List ℕ
-status_taken T b t f s n = if is_zero s then status_acted b t f (held T b t) n else b
+status_taken T b t f s n = if_true is_zero s then status_acted b t f (held T b t) n else b
 
 unfoldable pub returned_book : Table → List ℕ → ℕ → ℕ → ℤ → ℕ → ℕ → List ℕ
 returned_book T b t f s p n = line_counted (pending_set (status_taken T b t f s n) t p)

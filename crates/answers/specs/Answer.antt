@@ -1,6 +1,6 @@
 -- The answer to a line as the code has it, and the reply that it is. Assumes nothing.
 use Rattle.std.specs.Prelude.{ℕ, ◌+◌, min, Bool, List, ◌++◌, leb, length, set, take, replicate}
-use Rattle.words.specs.Choice.{if◌then◌else◌}
+use Rattle.words.specs.Choice.{if_true◌then◌else◌}
 use Rattle.history.specs.Replies.{Reply, accepted, not_accepted}
 use Rattle.history.specs.declared.Finding.{Finding}
 use Rattle.answers.specs.declared.Answer.{Answer}
@@ -30,9 +30,9 @@ answered (not_accepted k) = refused_with k
 -- one finding more, where there is a place for it
 unfoldable pub with_found : Answer → Finding → Answer
 with_found x f =
-    if leb most_found x.count then x
+    if_true leb most_found x.count then x
     else record { refusal = x.refusal; count = x.count + 1; found = set x.found x.count f }
 
 unfoldable pub found_if : Answer → Bool → ℕ → ℕ → ℕ → ℕ → Answer
 found_if x is line rule place thing =
-    if is then with_found x (record { line = line; rule = rule; place = place; thing = thing }) else x
+    if_true is then with_found x (record { line = line; rule = rule; place = place; thing = thing }) else x

@@ -1,7 +1,7 @@
 -- The findings of a line from what was judged of it: the same list as Findings has, from the code's numbers. Assumes nothing.
 use Rattle.std.specs.Prelude.{ℕ, Bool, not, ◌&&◌, ◌||◌, List, eqb}
 use Rattle.std.proofs.Math.Option.{Option, none, some}
-use Rattle.words.specs.Choice.{if◌then◌else◌}
+use Rattle.words.specs.Choice.{if_true◌then◌else◌}
 use Rattle.words.specs.Lists.{joined}
 use Rattle.history.specs.Breaches.{when}
 use Rattle.history.specs.Findings.{rules, places, found}
@@ -18,21 +18,21 @@ rule_number (some r) = r
 -- the whole line breaks the rule, with what thing
 abbrev pub whole_of : Judged → ℕ → Option ℕ
 whole_of x rule =
-    if eqb rule 1 then when x.foreign x.env
-    else if eqb rule 2 then when x.pending 0
-    else if eqb rule 3 then when x.critical 0
-    else if eqb rule 9 then when x.unheld 0
-    else if eqb rule 11 then when x.unpushed 0
+    if_true eqb rule 1 then when x.foreign x.env
+    else if_true eqb rule 2 then when x.pending 0
+    else if_true eqb rule 3 then when x.critical 0
+    else if_true eqb rule 9 then when x.unheld 0
+    else if_true eqb rule 11 then when x.unpushed 0
     else none
 
 abbrev pub rule_of : Judged → ℕ → ℕ
-rule_of x p = if eqb p 1 then x.rule1 else if eqb p 2 then x.rule2 else x.rule3
+rule_of x p = if_true eqb p 1 then x.rule1 else if_true eqb p 2 then x.rule2 else x.rule3
 
 abbrev pub value_of : Judged → ℕ → ℕ
-value_of x p = if eqb p 1 then x.a else if eqb p 2 then x.b else x.c
+value_of x p = if_true eqb p 1 then x.a else if_true eqb p 2 then x.b else x.c
 
 abbrev pub breach_of : Judged → ℕ → ℕ → Option ℕ
-breach_of x rule place = if eqb place 0 then whole_of x rule else when (eqb rule (rule_of x place)) (value_of x place)
+breach_of x rule place = if_true eqb place 0 then whole_of x rule else when (eqb rule (rule_of x place)) (value_of x place)
 
 unfoldable pub listed : Judged → List Finding
 listed x = joined rules λ rule. joined places λ place. found x.line rule place (breach_of x rule place)

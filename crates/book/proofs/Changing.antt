@@ -2,7 +2,7 @@
 use Rattle.std.proofs.Common.{◌≡◌, ℕ, suc, pred, ◌+◌, ◌-◌, ◌%◌, ◌<◌, ◌≤◌, min, max, Bool, true, false, ltb, List, [], ◌∷◌, length, sym, refl, ap, ◌∙◌, inl, inr, arith, le-ltb, lt-ltb, ne_eqb}
 use mathlib.Core.List.{tail}
 use native.Mathlib.Decide.{dec_lt, ℕ_discrete}
-use Rattle.words.specs.Choice.{if◌then◌else◌}
+use Rattle.words.specs.Choice.{if_true◌then◌else◌}
 use Rattle.history.specs.Items.{Item, in_native, in_call, attached}
 use Rattle.history.specs.Frames.{without_native, without_pushed}
 use Rattle.history.specs.Acceptance.{deepest}
@@ -118,11 +118,11 @@ frame_popped_changes b t h =
 
 -- a capacity is written to a column of its own
 module _ (c : Row) (d v : ℕ) (l : d ≤ deepest) where
-  pub raise_among : (b : Bool) → Among env_at items_at (if b then into (capacity_at (d - 1)) v ∷ [] else [])
+  pub raise_among : (b : Bool) → Among env_at items_at (if_true b then into (capacity_at (d - 1)) v ∷ [] else [])
   raise_among true = more {j = capacity_at (d - 1)} (omega arith) (omega arith) none
   raise_among false = none
 
-  raise_fits : (b : Bool) → c frames_at ≤ deepest → after c (if b then into (capacity_at (d - 1)) v ∷ [] else []) frames_at ≤ deepest
+  raise_fits : (b : Bool) → c frames_at ≤ deepest → after c (if_true b then into (capacity_at (d - 1)) v ∷ [] else []) frames_at ≤ deepest
   raise_fits true h = rw (ne_eqb frames_at (capacity_at (d - 1)) (λ q. absurd (omega arith))) h
   raise_fits false h = h
 

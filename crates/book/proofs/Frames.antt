@@ -1,6 +1,6 @@
 -- What is written to a row changes the thread that it stands for, its open items apart. Assumes nothing.
 use Rattle.std.proofs.Common.{◌≡◌, ℕ, zero, suc, ◌+◌, ◌-◌, ◌<◌, ◌≤◌, min, max, Bool, true, false, eqb, ltb, List, [], ◌∷◌, length, sym, refl, ap, ◌∙◌, ap₂, inl, arith, lt-ltb, eq-eqb, ne_eqb}
-use Rattle.words.specs.Choice.{if◌then◌else◌, one}
+use Rattle.words.specs.Choice.{if_true◌then◌else◌, one}
 use Rattle.history.specs.Frames.{Frame, without_native, without_pushed}
 use Rattle.history.specs.Acceptance.{deepest}
 use Rattle.book.specs.Layout.{env_at, pending_at, monitors_at, frames_at, capacity_at, pushed_at, items_at, Write, into}
@@ -11,10 +11,10 @@ use Rattle.book.proofs.Rows.{after, Among, none, more, after_apart}
 use Rattle.book.proofs.Stacks.{stack_ext, length_stack, drop_stack, Lowest, native_lowest, pushed_lowest}
 
 -- ---- what a written row holds in a column
-pub hit : (j v x : ℕ) → (if eqb j j then v else x) ≡ v
+pub hit : (j v x : ℕ) → (if_true eqb j j then v else x) ≡ v
 hit j v x = rw (eq-eqb j j refl)
 
-pub miss : (j v k x : ℕ) → (k ≡ j → ⊥) → (if eqb k j then v else x) ≡ x
+pub miss : (j v k x : ℕ) → (k ≡ j → ⊥) → (if_true eqb k j then v else x) ≡ x
 miss j v k x n = rw (ne_eqb k j n)
 
 -- ---- a thread by its parts
@@ -108,13 +108,13 @@ unfolding depth
 pushing_depth c n p d h = omega arith
 
 pushing_pushed : (c : Row) (n : ℕ) (p : Bool) (d i : ℕ) → d < deepest → i ≤ d
-    → after c (pushing n p d) (pushed_at i) ≡ (if eqb (pushed_at i) (pushed_at d) then one p else c (pushed_at i))
+    → after c (pushing n p d) (pushed_at i) ≡ (if_true eqb (pushed_at i) (pushed_at d) then one p else c (pushed_at i))
 pushing_pushed c n p d i k h =
     miss frames_at (d + 1) (pushed_at i) _ (λ q. absurd (omega arith))
-    ∙ ap (λ (x : ℕ). if eqb (pushed_at i) (pushed_at d) then one p else x) (miss (capacity_at d) n (pushed_at i) (c (pushed_at i)) (λ q. absurd (omega arith)))
+    ∙ ap (λ (x : ℕ). if_true eqb (pushed_at i) (pushed_at d) then one p else x) (miss (capacity_at d) n (pushed_at i) (c (pushed_at i)) (λ q. absurd (omega arith)))
 
 pushing_capacity : (c : Row) (n : ℕ) (p : Bool) (d i : ℕ) → d < deepest → i ≤ d
-    → after c (pushing n p d) (capacity_at i) ≡ (if eqb (capacity_at i) (capacity_at d) then n else c (capacity_at i))
+    → after c (pushing n p d) (capacity_at i) ≡ (if_true eqb (capacity_at i) (capacity_at d) then n else c (capacity_at i))
 pushing_capacity c n p d i k h =
     miss frames_at (d + 1) (capacity_at i) _ (λ q. absurd (omega arith)) ∙ miss (pushed_at d) (one p) (capacity_at i) _ (λ q. absurd (omega arith))
 
@@ -183,7 +183,7 @@ unfolding raise_capacity
 thread_raised c k = rw (length_frames c) (go (depth c) refl)
   where
     go : (d : ℕ) → depth c ≡ d
-        → thread_of (after c (if ltb 0 d then into (capacity_at (d - 1)) (max (top_capacity (thread_of c).capacities) k) ∷ [] else [])) ≡ with_raised k (thread_of c)
+        → thread_of (after c (if_true ltb 0 d then into (capacity_at (d - 1)) (max (top_capacity (thread_of c).capacities) k) ∷ [] else [])) ≡ with_raised k (thread_of c)
     go zero e = raised_none c k e
     go (suc d) e = let n : suc d - 1 ≡ d = omega arith in rw (lt-ltb 0 (suc d) (omega arith), n, top_some c d e) (raised_at c k d e)
 

@@ -1,7 +1,7 @@
 -- What is written to a row changes the open items that it stands for, and keeps their counts true. Assumes nothing.
 use Rattle.std.proofs.Common.{◌≡◌, ℕ, zero, suc, ◌+◌, ◌-◌, ◌<◌, ◌≤◌, min, Bool, true, false, eqb, List, [], ◌∷◌, length, sym, refl, ap, ◌∙◌, ap₂, inl, arith, lt-ltb}
 use mathlib.Core.List.{tail}
-use Rattle.words.specs.Choice.{if◌then◌else◌}
+use Rattle.words.specs.Choice.{if_true◌then◌else◌}
 use Rattle.history.specs.Items.{Item}
 use Rattle.history.specs.Acceptance.{deepest}
 use Rattle.rows.specs.Marks.{bit}
@@ -55,17 +55,17 @@ unfolding opened
 opening_opened c f n w d h = omega arith
 
 opening_function : (c : Row) (f n w d i : ℕ) → d < deepest → i ≤ d
-    → after c (opening f n w d) (function_at i) ≡ (if eqb (function_at i) (function_at d) then f else c (function_at i))
+    → after c (opening f n w d) (function_at i) ≡ (if_true eqb (function_at i) (function_at d) then f else c (function_at i))
 opening_function c f n w d i h l =
     miss natives_at w (function_at i) _ (λ q. absurd (omega arith))
     ∙ miss items_at (d + 1) (function_at i) _ (λ q. absurd (omega arith)) ∙ miss (asked_at d) n (function_at i) _ (λ q. absurd (omega arith))
 
 opening_asked : (c : Row) (f n w d i : ℕ) → d < deepest → i ≤ d
-    → after c (opening f n w d) (asked_at i) ≡ (if eqb (asked_at i) (asked_at d) then n else c (asked_at i))
+    → after c (opening f n w d) (asked_at i) ≡ (if_true eqb (asked_at i) (asked_at d) then n else c (asked_at i))
 opening_asked c f n w d i h l =
     miss natives_at w (asked_at i) _ (λ q. absurd (omega arith))
     ∙ miss items_at (d + 1) (asked_at i) _ (λ q. absurd (omega arith))
-    ∙ ap (λ (x : ℕ). if eqb (asked_at i) (asked_at d) then n else x) (miss (function_at d) f (asked_at i) (c (asked_at i)) (λ q. absurd (omega arith)))
+    ∙ ap (λ (x : ℕ). if_true eqb (asked_at i) (asked_at d) then n else x) (miss (function_at d) f (asked_at i) (c (asked_at i)) (λ q. absurd (omega arith)))
 
 mark_own : (w d : ℕ) (p : Bool) → d < deepest → bit (with_mark w d p) d ≡ p
 unfolding with_mark

@@ -2,7 +2,7 @@
 use Rattle.std.proofs.Common.{◌≡◌, ℕ, zero, suc, ◌+◌, ◌-◌, ◌*◌, ◌/◌, ◌%◌, ◌<◌, ◌≤◌, min, Bool, true, false, ◌&&◌, eqb, List, ◌∷◌, sym, refl, ap, ◌∙◌, arith}
 use native.Mathlib.Decide.{ℕ_discrete}
 use lib.Bits.{bit_and, bit_or}
-use Rattle.words.specs.Choice.{if◌then◌else◌, one}
+use Rattle.words.specs.Choice.{if_true◌then◌else◌, one}
 use Rattle.history.specs.Items.{Item, in_native, attached}
 use Rattle.history.specs.Acceptance.{deepest}
 use Rattle.rows.specs.Scan.{how_many}
@@ -20,7 +20,7 @@ native_more : (p : Bool) (f n : ℕ) (is : List Item) → natives (item_is p f n
 unfolding item_is
 native_more true f n is = go (eqb f attached_function)
   where
-    go : (q : Bool) → natives ((if q then attached else in_native) ∷ is) ≡ natives is + 1
+    go : (q : Bool) → natives ((if_true q then attached else in_native) ∷ is) ≡ natives is + 1
     go true = omega arith
     go false = omega arith
 native_more false f n is = omega arith

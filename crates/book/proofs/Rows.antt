@@ -1,14 +1,14 @@
 -- Writing to one row of the book: what each row then holds. Assumes nothing.
 use Rattle.std.proofs.Common.{◌≡◌, ℕ, ◌+◌, ◌*◌, ◌<◌, ◌≤◌, eqb, ◌⊎◌, List, [], ◌∷◌, length, refl, ap, ◌∙◌, ⊎_elim, arith, length-set, get_or-set_other, get_or-set_same, eq-eqb, ne_eqb}
 use native.Mathlib.Decide.{ℕ_discrete}
-use Rattle.words.specs.Choice.{if◌then◌else◌}
+use Rattle.words.specs.Choice.{if_true◌then◌else◌}
 use Rattle.book.specs.Layout.{width, cell, put, Write, into, wrote, Stands}
 use Rattle.book.specs.Threads.{Row}
 
 -- a row, written one after another
 abbrev pub after : Row → List Write → Row
 after c [] = c
-after c (into j v ∷ ws) = after (λ (k : ℕ). if eqb k j then v else c k) ws
+after c (into j v ∷ ws) = after (λ (k : ℕ). if_true eqb k j then v else c k) ws
 
 -- each column that is written is one of those from lo to hi - 1
 pub data Among (lo hi : ℕ) : List Write → Type 0 where
@@ -21,7 +21,7 @@ wider a b (more {j = j} x y m) = more {j = j} (omega arith) (omega arith) (wider
 
 pub after_ext : (ws : List Write) (c d : Row) (n : ℕ) → ((k : ℕ) → k < n → c k ≡ d k) → (k : ℕ) → k < n → after c ws k ≡ after d ws k
 after_ext [] c d n h k l = h k l
-after_ext (into j v ∷ ws) c d n h k l = after_ext ws _ _ n (λ i m. ap (λ (x : ℕ). if eqb i j then v else x) (h i m)) k l
+after_ext (into j v ∷ ws) c d n h k l = after_ext ws _ _ n (λ i m. ap (λ (x : ℕ). if_true eqb i j then v else x) (h i m)) k l
 
 -- a column that is not among them
 pub after_apart : {lo hi : ℕ} {ws : List Write} (c : Row) (k : ℕ) → Among lo hi ws → (k < lo) ⊎ (hi ≤ k) → after c ws k ≡ c k
@@ -38,10 +38,10 @@ cell_put_other : (b : List ℕ) (t j v s k : ℕ) → (s * width + k ≡ t * wid
 unfolding cell put
 cell_put_other b t j v s k n = get_or-set_other b (t * width + j) (s * width + k) v 0 n
 
-cell_put : (b : List ℕ) (t j v k : ℕ) → Stands b t → j < width → cell (put b t j v) t k ≡ (if eqb k j then v else cell b t k)
+cell_put : (b : List ℕ) (t j v k : ℕ) → Stands b t → j < width → cell (put b t j v) t k ≡ (if_true eqb k j then v else cell b t k)
 cell_put b t j v k h a = go (ℕ_discrete k j)
   where
-    go : Dec (k ≡ j) → cell (put b t j v) t k ≡ (if eqb k j then v else cell b t k)
+    go : Dec (k ≡ j) → cell (put b t j v) t k ≡ (if_true eqb k j then v else cell b t k)
     go (yes e) = rw (e, eq-eqb j j refl) (cell_put_same b t j v (omega arith))
     go (no n) = rw (ne_eqb k j n) (cell_put_other b t j v t k (λ e. n (omega arith)))
 

@@ -1,7 +1,7 @@
 -- The book after each move: what is written to one row. Assumes nothing.
 use Rattle.std.specs.Prelude.{ℕ, pred, ◌+◌, ◌-◌, ◌^◌, min, max, Bool, ltb, List, [], ◌∷◌, length, replicate, bit_and, bit_or, nat_lt}
 use mathlib.Core.List.{tail}
-use Rattle.words.specs.Choice.{if◌then◌else◌, one}
+use Rattle.words.specs.Choice.{if_true◌then◌else◌, one}
 use Rattle.history.specs.Items.{Item}
 use Rattle.history.specs.Frames.{without_native, without_pushed}
 use Rattle.history.specs.Acceptance.{deepest}
@@ -15,7 +15,7 @@ use Rattle.book.specs.Threads.{Thread, thread_in, top_capacity, marked_function,
 -- a frame more, if there is room
 unfoldable pub push_frame : Thread → ℕ → Bool → List Write
 push_frame x n p =
-    if ltb (length x.frames) deepest then
+    if_true ltb (length x.frames) deepest then
     into (capacity_at (length x.frames)) n
     ∷ into (pushed_at (length x.frames)) (one p) ∷ into frames_at (length x.frames + 1) ∷ []
     else []
@@ -44,7 +44,7 @@ frame_popped b t = wrote b t (pop_frame (thread_in b t))
 -- R of 26: the top frame's capacity is k at least
 unfoldable pub raise_capacity : Thread → ℕ → List Write
 raise_capacity x k =
-    if nat_lt 0 (length x.frames) then into (capacity_at (length x.frames - 1)) (max (top_capacity x.capacities) k) ∷ []
+    if_true nat_lt 0 (length x.frames) then into (capacity_at (length x.frames - 1)) (max (top_capacity x.capacities) k) ∷ []
     else []
 
 unfoldable pub capacity_raised : List ℕ → ℕ → ℕ → List ℕ
@@ -54,12 +54,12 @@ capacity_raised b t k = wrote b t (raise_capacity (thread_in b t) k)
 
 -- the marks with item i's set, or cleared
 unfoldable pub with_mark : ℕ → ℕ → Bool → ℕ
-with_mark w i native = if native then bit_or w (2 ^ i) else bit_and w (2 ^ word - 1 - 2 ^ i)
+with_mark w i native = if_true native then bit_or w (2 ^ i) else bit_and w (2 ^ word - 1 - 2 ^ i)
 
 -- an item more, if there is room
 unfoldable pub push_item : List Item → ℕ → ℕ → ℕ → List Write
 push_item is w f n =
-    if ltb (length is) deepest then
+    if_true ltb (length is) deepest then
     into (function_at (length is)) f
     ∷ into (asked_at (length is)) n ∷ into items_at (length is + 1) ∷ into natives_at (with_mark w (length is) (marked_function f)) ∷ []
     else []

@@ -1,7 +1,7 @@
 -- What the book stands for: each thread and its open items, and the trace's own numbers. Assumes nothing.
 use Rattle.std.specs.Prelude.{ℕ, zero, suc, ◌%◌, min, Bool, true, false, not, ◌&&◌, ◌||◌, eqb, List, [], ◌∷◌, ◌==◌}
 use Rattle.std.proofs.Math.Option.{Option, none, some}
-use Rattle.words.specs.Choice.{if◌then◌else◌}
+use Rattle.words.specs.Choice.{if_true◌then◌else◌}
 use Rattle.words.specs.Lists.{any, count, sum}
 use Rattle.history.specs.Items.{Item, in_native, in_call, attached, native_or_attached}
 use Rattle.history.specs.Frames.{Frame, entered, pushed}
@@ -85,7 +85,7 @@ item_bound = 4294967296
 -- of the items that are marked that of function 1 is attached, any other a native
 unfoldable pub item_is : Bool → ℕ → ℕ → Item
 item_is marked f n =
-    if marked then (if eqb f attached_function then attached else in_native)
+    if_true marked then (if_true eqb f attached_function then attached else in_native)
     else in_call (f % item_bound) (n % item_bound)
 
 unfoldable pub items_of : Row → List Item

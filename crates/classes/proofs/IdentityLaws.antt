@@ -9,7 +9,7 @@ use native.Mathlib.Omega.{arith}
 use borrow.Author.Tests.{lt-ltb, le-ltb, ltb-true, not-false, eqb-true, eqb-false, eq-eqb, ne_eqb}
 use lib.Dec.{eqb, ltb}
 use lib.ListN.{get_or, replicate, length-replicate, get_or-replicate, get_or-eq_default}
-use Rattle.words.specs.Choice.{if◌then◌else◌}
+use Rattle.words.specs.Choice.{if_true◌then◌else◌}
 use Rattle.lines.specs.Line.{classes}
 use Rattle.lines.proofs.Tests.{both, neither, or_true, and_false}
 use Rattle.rows.specs.Scan.{how_many}
@@ -24,7 +24,7 @@ use Rattle.classes.proofs.Places.{around_le, around_passes, around_fails, around
 own_fits : (room x : ℕ) → own_place room x ≤ room
 own_fits room x = go (eqb room 0) refl
   where
-    go : (b : Bool) → eqb room 0 ≡ b → (if b then 0 else (x / 4) % room) ≤ room
+    go : (b : Bool) → eqb room 0 ≡ b → (if_true b then 0 else (x / 4) % room) ≤ room
     go true e = omega arith
     go false e = own_within (x / 4) room (eqb-false room 0 e)
 

@@ -5,7 +5,7 @@ use mathlib.Core.Bool.{Bool, true, false, false≢true}
 use native.Mathlib.Decide.{dec_lt}
 use native.Mathlib.Omega.{arith}
 use borrow.Author.Tests.{lt-ltb, le-ltb}
-use Rattle.words.specs.Choice.{if◌then◌else◌}
+use Rattle.words.specs.Choice.{if_true◌then◌else◌}
 use Rattle.classes.specs.Identities.{first_from, first_around}
 
 module _ (test : ℕ → Bool) where
@@ -40,8 +40,8 @@ module _ (test : ℕ → Bool) where
     where
       go : (first_from test (suc i) n < suc i + n → test (first_from test (suc i) n) ≡ true)
           → (b : Bool) → test i ≡ b
-          → (if b then i else first_from test (suc i) n) < i + suc n
-          → test (if b then i else first_from test (suc i) n) ≡ true
+          → (if_true b then i else first_from test (suc i) n) < i + suc n
+          → test (if_true b then i else first_from test (suc i) n) ≡ true
       go ih true e l = e
       go ih false e l = ih (omega arith)
 
@@ -52,7 +52,7 @@ module _ (test : ℕ → Bool) where
     where
       go : (suc i ≤ k → k < first_from test (suc i) n → test k ≡ false)
           → (b : Bool) → test i ≡ b → Dec (i < k)
-          → k < (if b then i else first_from test (suc i) n)
+          → k < (if_true b then i else first_from test (suc i) n)
           → test k ≡ false
       go ih true e d l = absurd (omega arith)
       go ih false e (yes m) l = ih m l
@@ -137,8 +137,8 @@ module _ (p q : ℕ → Bool) (fewer : (k : ℕ) → q k ≡ true → p k ≡ tr
     where
       go : ((first_from p (suc i) n < suc i + n → q (first_from p (suc i) n) ≡ true) → first_from p (suc i) n ≡ first_from q (suc i) n)
           → (b : Bool) → p i ≡ b
-          → ((if b then i else first_from p (suc i) n) < i + suc n → q (if b then i else first_from p (suc i) n) ≡ true)
-          → (if b then i else first_from p (suc i) n) ≡ (if q i then i else first_from q (suc i) n)
+          → ((if_true b then i else first_from p (suc i) n) < i + suc n → q (if_true b then i else first_from p (suc i) n) ≡ true)
+          → (if_true b then i else first_from p (suc i) n) ≡ (if_true q i then i else first_from q (suc i) n)
       go ih true e h = rw (h (omega arith)) refl
       go ih false e h = rw (fails_too i e) (ih (λ l. h (omega arith)))
 

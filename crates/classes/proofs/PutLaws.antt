@@ -10,7 +10,7 @@ use native.Mathlib.Omega.{arith}
 use borrow.Author.Tests.{lt-ltb, eqb-true, eqb-false, ne_eqb}
 use lib.Dec.{eqb, ltb}
 use lib.ListN.{length, get_or}
-use Rattle.words.specs.Choice.{if◌then◌else◌, one}
+use Rattle.words.specs.Choice.{if_true◌then◌else◌, one}
 use Rattle.lines.specs.Line.{classes}
 use Rattle.rows.specs.Scan.{how_many}
 use Rattle.classes.specs.Identities.{identity_room, identity_from, identity_number, is_for, place_of, is_used, identity_at, identity_in, with_identity, used_places}
@@ -27,7 +27,7 @@ module _ (cs : List ℕ) (i x sort static final : ℕ) where
   unfolding with_identity
   put_length = go (ltb i (identity_room cs))
     where
-      go : (b : Bool) → length (if b then fours cs (identity_from i) x sort static final else cs) ≡ length cs
+      go : (b : Bool) → length (if_true b then fours cs (identity_from i) x sort static final else cs) ≡ length cs
       go true = fours_length cs (identity_from i) x sort static final
       go false = refl
 
@@ -40,7 +40,7 @@ module _ (cs : List ℕ) (i x sort static final : ℕ) where
   unfolding with_identity
   put_apart j apart = go (ltb i (identity_room cs))
     where
-      go : (b : Bool) → get_or (if b then fours cs (identity_from i) x sort static final else cs) j 0 ≡ get_or cs j 0
+      go : (b : Bool) → get_or (if_true b then fours cs (identity_from i) x sort static final else cs) j 0 ≡ get_or cs j 0
       go true = fours_apart cs (identity_from i) x sort static final j apart
       go false = refl
 
@@ -219,12 +219,12 @@ module _ (cs : List ℕ) (x sort static final : ℕ) (n : x ≡ 0 → ⊥) (l : 
 
     pub put_each : (y : ℕ)
         → identity_in (with_identity cs (place_of cs x) x sort static final) y
-        ≡ (if eqb y x then record { sort = sort; isstatic = static; isfinal = final } else identity_in cs y)
+        ≡ (if_true eqb y x then record { sort = sort; isstatic = static; isfinal = final } else identity_in cs y)
     put_each y = go (eqb y x) refl
       where
         go : (b : Bool) → eqb y x ≡ b
             → identity_in (with_identity cs (place_of cs x) x sort static final) y
-            ≡ (if b then record { sort = sort; isstatic = static; isfinal = final } else identity_in cs y)
+            ≡ (if_true b then record { sort = sort; isstatic = static; isfinal = final } else identity_in cs y)
         go true e = ap (identity_in (with_identity cs (place_of cs x) x sort static final)) (eqb-true y x e) ∙ put_stated
         go false e = put_others y (eqb-false y x e)
 

@@ -8,7 +8,7 @@ use borrow.Author.Tests.{le-leb, eqb-true, eqb-false}
 use lib.Dec.{eqb, leb}
 use lib.ListN.{length, get_or, set, replicate, length-set}
 use lib.Seq.{get_or-set_same, get_or-set_other}
-use Rattle.words.specs.Choice.{if◌then◌else◌}
+use Rattle.words.specs.Choice.{if_true◌then◌else◌}
 use Rattle.lines.specs.Line.{classes, is_class}
 use Rattle.classes.specs.Supers.{super_in, with_super}
 use Rattle.classes.specs.Identities.{identity_room, identity_from, identity_number, place_of, identity_in, with_identity, used_places}
@@ -24,7 +24,7 @@ module _ (cs : List ℕ) (c s : ℕ) where
   unfolding with_super
   declared_length = go (is_class c && leb c (length cs))
     where
-      go : (b : Bool) → length (if b then set cs (c - 1) s else cs) ≡ length cs
+      go : (b : Bool) → length (if_true b then set cs (c - 1) s else cs) ≡ length cs
       go true = length-set cs (c - 1) s
       go false = refl
 
@@ -37,7 +37,7 @@ module _ (cs : List ℕ) (c s : ℕ) where
     unfolding with_super
     declared_number i k = go (is_class c && leb c (length cs))
       where
-        go : (b : Bool) → get_or (if b then set cs (c - 1) s else cs) (identity_from i + k) 0 ≡ get_or cs (identity_from i + k) 0
+        go : (b : Bool) → get_or (if_true b then set cs (c - 1) s else cs) (identity_from i + k) 0 ≡ get_or cs (identity_from i + k) 0
         go true = get_or-set_other cs (c - 1) (identity_from i + k) s 0 (λ e. omega (arith, index_within classes c y))
         go false = refl
 
@@ -56,7 +56,7 @@ module _ (cs : List ℕ) (c s : ℕ) where
     pub declared_placed : Placed cs → Placed (with_super cs c s)
     declared_placed = placed_same cs (with_super cs c s) declared_room declared_number
 
-    pub declared_super : c ≤ length cs → (d : ℕ) → super_in (with_super cs c s) d ≡ (if eqb d c then s else super_in cs d)
+    pub declared_super : c ≤ length cs → (d : ℕ) → super_in (with_super cs c s) d ≡ (if_true eqb d c then s else super_in cs d)
     unfolding super_in
     declared_super l d = rw (← super_set cs c s there) (go (eqb d c) refl (is_class d) refl)
       where
@@ -64,7 +64,7 @@ module _ (cs : List ℕ) (c s : ℕ) where
         there = rw (y, le-leb c (length cs) l) refl
 
         go : (a : Bool) → eqb d c ≡ a → (b : Bool) → is_class d ≡ b
-            → (if b then get_or (set cs (c - 1) s) (d - 1) 0 else 0) ≡ (if a then s else if b then get_or cs (d - 1) 0 else 0)
+            → (if_true b then get_or (set cs (c - 1) s) (d - 1) 0 else 0) ≡ (if_true a then s else if_true b then get_or cs (d - 1) 0 else 0)
         go true e true z = rw (eqb-true d c e) (get_or-set_same cs (c - 1) s 0 (omega (arith, from_one classes c y)))
         go true e false z = absurd (false≢true (sym z ∙ ap is_class (eqb-true d c e) ∙ y))
         go false e true z = get_or-set_other cs (c - 1) (d - 1) s 0 (λ f. eqb-false d c e (omega (arith, from_one classes c y, from_one classes d z)))
@@ -76,7 +76,7 @@ pub put_super : (cs : List ℕ) (i x sort static final c : ℕ) → super_in (wi
 unfolding super_in
 put_super cs i x sort static final c = go (is_class c) refl
   where
-    go : (b : Bool) → is_class c ≡ b → (if b then get_or (with_identity cs i x sort static final) (c - 1) 0 else 0) ≡ (if b then get_or cs (c - 1) 0 else 0)
+    go : (b : Bool) → is_class c ≡ b → (if_true b then get_or (with_identity cs i x sort static final) (c - 1) 0 else 0) ≡ (if_true b then get_or cs (c - 1) 0 else 0)
     go true y = put_apart cs i x sort static final (c - 1) (λ k l e. omega (arith, index_within classes c y))
     go false y = refl
 
@@ -84,6 +84,6 @@ pub cleared_super : (n c : ℕ) → super_in (replicate n 0) c ≡ 0
 unfolding super_in
 cleared_super n c = go (is_class c)
   where
-    go : (b : Bool) → ◌≡◌ {A = ℕ} (if b then get_or (replicate n 0) (c - 1) 0 else 0) 0
+    go : (b : Bool) → ◌≡◌ {A = ℕ} (if_true b then get_or (replicate n 0) (c - 1) 0 else 0) 0
     go true = zero_at n (c - 1)
     go false = refl

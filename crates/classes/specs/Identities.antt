@@ -1,6 +1,6 @@
 -- The identities in the lent class table, behind its classes: four numbers to a place, identity (0 where the place is free), sort, static, final. Assumes nothing.
 use Rattle.std.specs.Prelude.{ℕ, zero, suc, ◌+◌, ◌-◌, ◌*◌, ◌/◌, ◌%◌, Bool, not, ◌&&◌, ◌||◌, List, eqb, ltb, length, get_or, set}
-use Rattle.words.specs.Choice.{if◌then◌else◌}
+use Rattle.words.specs.Choice.{if_true◌then◌else◌}
 use Rattle.lines.specs.Line.{classes}
 use Rattle.rows.specs.Scan.{how_many}
 use Rattle.history.specs.Identities.{not_stated}
@@ -26,18 +26,18 @@ identity_number cs i k = get_or cs (identity_from i + k) 0
 -- the first of n places from i on that passes the test, or the one behind them
 unfoldable pub first_from : (ℕ → Bool) → ℕ → ℕ → ℕ
 first_from test i zero = i
-first_from test i (suc n) = if test i then i else first_from test (suc i) n
+first_from test i (suc n) = if_true test i then i else first_from test (suc i) n
 
 -- from its own place to the last, then from the first to its own; the room where none passes
 unfoldable pub first_around : (ℕ → Bool) → ℕ → ℕ → ℕ
 first_around test room own =
-    if ltb (first_from test own (room - own)) room then first_from test own (room - own)
-    else if ltb (first_from test 0 own) own then first_from test 0 own
+    if_true ltb (first_from test own (room - own)) room then first_from test own (room - own)
+    else if_true ltb (first_from test 0 own) own then first_from test 0 own
     else room
 
 -- an identity's own place; all identities have remainder 0 by 4
 abbrev pub own_place : ℕ → ℕ → ℕ
-own_place room x = if eqb room 0 then 0 else (x / 4) % room
+own_place room x = if_true eqb room 0 then 0 else (x / 4) % room
 
 -- the place is free, or the identity's
 abbrev pub is_for : List ℕ → ℕ → ℕ → Bool
@@ -54,7 +54,7 @@ is_used cs i = not (eqb (identity_number cs i 0) 0)
 
 abbrev pub identity_at : List ℕ → ℕ → Identity
 identity_at cs i =
-    if ltb i (identity_room cs) && is_used cs i then
+    if_true ltb i (identity_room cs) && is_used cs i then
     record { sort = identity_number cs i 1; isstatic = identity_number cs i 2; isfinal = identity_number cs i 3 }
     else not_stated
 
@@ -64,7 +64,7 @@ identity_in cs x = identity_at cs (place_of cs x)
 -- identity x stated so at place i, where the table has it
 unfoldable pub with_identity : List ℕ → ℕ → ℕ → ℕ → ℕ → ℕ → List ℕ
 with_identity cs i x sort static final =
-    if ltb i (identity_room cs) then
+    if_true ltb i (identity_room cs) then
     set (set (set (set cs (identity_from i) x) (identity_from i + 1) sort) (identity_from i + 2) static) (identity_from i + 3) final
     else cs
 

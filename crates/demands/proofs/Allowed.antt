@@ -8,7 +8,7 @@ use native.Mathlib.Omega.{arith}
 use lib.Dec.{eqb, leb}
 use lib.IntN.{ℤ, pos, negsuc}
 use borrow.Author.Tests.{eqb-true, ne_eqb, leb-true}
-use Rattle.words.specs.Choice.{if◌then◌else◌}
+use Rattle.words.specs.Choice.{if_true◌then◌else◌}
 use Rattle.numbers.specs.Signed.{is_i32, largest_i32}
 use Rattle.facts.specs.Table.{fact_of, family, is_critical, is_function, first_function, last_function}
 use Rattle.facts.specs.Named.{PushLocalFrame, EnsureLocalCapacity}
@@ -71,11 +71,11 @@ gets_owned (R t f r p) h x m = go (is_buffer_result (fact_of f).result && not (e
     its_own : unowned (pin t f (above_zero r)) ≡ false
     its_own = unfold pin in of_family (is_critical (family f))
       where
-        of_family : (q : Bool) → unowned (if q then critical t (family f) (above_zero r) else ordinary (family f) (above_zero r)) ≡ false
+        of_family : (q : Bool) → unowned (if_true q then critical t (family f) (above_zero r) else ordinary (family f) (above_zero r)) ≡ false
         of_family true = not_thread_zero t (thread_of_R t f r p h)
         of_family false = refl
 
-    go : (q : Bool) → Memᴰ x (if q then pin t f (above_zero r) ∷ [] else []) → unowned x ≡ false
+    go : (q : Bool) → Memᴰ x (if_true q then pin t f (above_zero r) ∷ [] else []) → unowned x ≡ false
     go true m = ap unowned (Memᴰ.eq_of_singleton m) ∙ its_own
     go false m = absurd (Memᴰ.not-nil m)
 gets_owned (A t env) h x m = absurd (Memᴰ.not-nil m)
@@ -110,6 +110,6 @@ asks t env f a b c n h =
       size_to = go (eqb f PushLocalFrame || eqb f EnsureLocalCapacity) (and_right places (capacity_allows f n) h);
     }
   where
-    go : (q : Bool) → (if q then is_i32 n else is_zero n) ≡ true → above_zero n ≤ largest_i32
+    go : (q : Bool) → (if_true q then is_i32 n else is_zero n) ≡ true → above_zero n ≤ largest_i32
     go true k = i32_size n k
     go false k = zero_size n k

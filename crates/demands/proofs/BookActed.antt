@@ -8,7 +8,7 @@ use lib.Dec.{eqb}
 use lib.IntN.{ℤ}
 use lib.ListN.{length}
 use borrow.Author.Tests.{eqb-true}
-use Rattle.words.specs.Choice.{if◌then◌else◌}
+use Rattle.words.specs.Choice.{if_true◌then◌else◌}
 use Rattle.facts.specs.Named.{PushLocalFrame, PopLocalFrame, EnsureLocalCapacity, MonitorEnter, MonitorExit}
 use Rattle.lines.specs.Line.{Line, N, X, C, R, A, D, is_zero}
 use Rattle.history.specs.Past.{History, is_of}
@@ -109,12 +109,12 @@ module _ {b : List ℕ} {t : ℕ} where
 module _ (b : List ℕ) (t : ℕ) (stands : Stands b t) (held n : ℕ) where
   -- ---- N
 
-  env_keeps : (d : List ℕ) → Stands d t → (env : ℕ) (q : Bool) → Changes d (if q then env_set d t env else d) t (λ x. if q then with_env env x else x) stay
+  env_keeps : (d : List ℕ) → Stands d t → (env : ℕ) (q : Bool) → Changes d (if_true q then env_set d t env else d) t (λ x. if_true q then with_env env x else x) stay
   env_keeps d h env true = env_set_changes d t env h
   env_keeps d h env false = unchanged
 
   entered_thread : (env : ℕ) (hs : List ℕ) (x : Thread) (q : Bool) → eqb x.env 0 ≡ q
-      → with_pending 0 (if q then with_env env (with_frame (native_capacity hs) entered x) else with_frame (native_capacity hs) entered x) ≡ thread_after (N t env hs) held n x
+      → with_pending 0 (if_true q then with_env env (with_frame (native_capacity hs) entered x) else with_frame (native_capacity hs) entered x) ≡ thread_after (N t env hs) held n x
   unfolding with_pending with_env with_frame thread_after
   entered_thread env hs x true is = rw is
   entered_thread env hs x false is = rw is
@@ -158,17 +158,17 @@ module _ (b : List ℕ) (t : ℕ) (stands : Stands b t) (held n : ℕ) where
   -- ---- C
 
   called_thread : (env f a c d : ℕ) (m : ℤ) (x : Thread) (q : Bool) → eqb f PopLocalFrame ≡ q
-      → (if q then cut_to (without_pushed x.frames) x else x) ≡ thread_after (C t env f a c d m) held n x
+      → (if_true q then cut_to (without_pushed x.frames) x else x) ≡ thread_after (C t env f a c d m) held n x
   unfolding cut_to thread_after
   called_thread env f a c d m x true is = rw is
   called_thread env f a c d m x false is =
       let none : length x.frames - length x.frames ≡ 0 = omega arith in
       rw (is, none)
 
-  pub call_changes : (env f a c d : ℕ) (m : ℤ) → Changes b (if eqb f PopLocalFrame then frame_popped b t else b) t (thread_after (C t env f a c d m) held n) stay
+  pub call_changes : (env f a c d : ℕ) (m : ℤ) → Changes b (if_true eqb f PopLocalFrame then frame_popped b t else b) t (thread_after (C t env f a c d m) held n) stay
   call_changes env f a c d m = go (eqb f PopLocalFrame) refl
     where
-      go : (q : Bool) → eqb f PopLocalFrame ≡ q → Changes b (if q then frame_popped b t else b) t (thread_after (C t env f a c d m) held n) stay
+      go : (q : Bool) → eqb f PopLocalFrame ≡ q → Changes b (if_true q then frame_popped b t else b) t (thread_after (C t env f a c d m) held n) stay
       go true is = becomes (thread_after (C t env f a c d m) held n) (frame_popped_changes b t stands) (called_thread env f a c d m (thread_in b t) true is)
       go false is = becomes (thread_after (C t env f a c d m) held n) unchanged (called_thread env f a c d m (thread_in b t) false is)
 
@@ -176,18 +176,18 @@ module _ (b : List ℕ) (t : ℕ) (stands : Stands b t) (held n : ℕ) where
 
   abbrev status_thread : (push raise add take : Bool) → Thread → Thread
   status_thread push raise add take x =
-      if push then with_frame n pushed x
-      else if raise then with_raised (held + n) x
-      else if add then with_monitors (suc x.monitors) x
-      else if take then with_monitors (pred x.monitors) x
+      if_true push then with_frame n pushed x
+      else if_true raise then with_raised (held + n) x
+      else if_true add then with_monitors (suc x.monitors) x
+      else if_true take then with_monitors (pred x.monitors) x
       else x
 
   status_changes : (push raise add take : Bool) → (push ≡ true → length (thread_in b t).frames < deepest) → (thread_in b t).monitors ≤ most_lines
       → Changes b
-      (if push then frame_pushed b t n true
-      else if raise then capacity_raised b t (held + n)
-      else if add then monitor_added b t
-      else if take then monitor_taken b t
+      (if_true push then frame_pushed b t n true
+      else if_true raise then capacity_raised b t (held + n)
+      else if_true add then monitor_added b t
+      else if_true take then monitor_taken b t
       else b)
       t
       (status_thread push raise add take)
@@ -205,7 +205,7 @@ module _ (b : List ℕ) (t : ℕ) (stands : Stands b t) (held n : ℕ) where
 
   returned_thread : (f p : ℕ) (r : ℤ) (x : Thread) (acts push raise add take : Bool) → is_zero r ≡ acts → eqb f PushLocalFrame ≡ push → eqb f EnsureLocalCapacity ≡ raise
       → eqb f MonitorEnter ≡ add → eqb f MonitorExit ≡ take → Apart push raise add take
-      → with_pending p (if acts then status_thread push raise add take x else x) ≡ thread_after (R t f r p) held n x
+      → with_pending p (if_true acts then status_thread push raise add take x else x) ≡ thread_after (R t f r p) held n x
   unfolding with_pending with_frame with_raised with_monitors thread_after
   returned_thread f p r x false true raise add take z a b c d apart = rw (z, a)
   returned_thread f p r x false false raise add take z a b c d apart = rw (z, a)
@@ -223,21 +223,21 @@ module _ (b : List ℕ) (t : ℕ) (stands : Stands b t) (held n : ℕ) where
       }
 
   pub return_changes : (f p : ℕ) (r : ℤ) → ((eqb f PushLocalFrame && is_zero r) ≡ true → length (thread_in b t).frames < deepest) → (thread_in b t).monitors ≤ most_lines
-      → Changes b (pending_set (if is_zero r then status_acted b t f held n else b) t p) t (thread_after (R t f r p) held n) stay
+      → Changes b (pending_set (if_true is_zero r then status_acted b t f held n else b) t p) t (thread_after (R t f r p) held n) stay
   return_changes f p r few fits = go (is_zero r) refl few
     where
       all : Bool → Thread → Thread
-      all acts = λ x. if acts then status_thread (eqb f PushLocalFrame) (eqb f EnsureLocalCapacity) (eqb f MonitorEnter) (eqb f MonitorExit) x else x
+      all acts = λ x. if_true acts then status_thread (eqb f PushLocalFrame) (eqb f EnsureLocalCapacity) (eqb f MonitorEnter) (eqb f MonitorExit) x else x
 
       status : (acts : Bool) → ((eqb f PushLocalFrame && acts) ≡ true → length (thread_in b t).frames < deepest)
-          → Changes b (if acts then status_acted b t f held n else b) t (all acts) stay
+          → Changes b (if_true acts then status_acted b t f held n else b) t (all acts) stay
       status true few = status_changes (eqb f PushLocalFrame) (eqb f EnsureLocalCapacity) (eqb f MonitorEnter) (eqb f MonitorExit) (λ k. few (ap (λ (q : Bool). q && true) k)) fits
       status false few = unchanged
 
       go : (acts : Bool) → is_zero r ≡ acts → ((eqb f PushLocalFrame && acts) ≡ true → length (thread_in b t).frames < deepest)
-          → Changes b (pending_set (if acts then status_acted b t f held n else b) t p) t (thread_after (R t f r p) held n) stay
+          → Changes b (pending_set (if_true acts then status_acted b t f held n else b) t p) t (thread_after (R t f r p) held n) stay
       go acts is few =
-          let d = if acts then status_acted b t f held n else b in
+          let d = if_true acts then status_acted b t f held n else b in
           let first = status acts few in
           becomes (thread_after (R t f r p) held n) (and_then first (pending_set_changes d t p (omega (arith, first.as_long))))
           (returned_thread f p r (thread_in b t) acts (eqb f PushLocalFrame) (eqb f EnsureLocalCapacity) (eqb f MonitorEnter) (eqb f MonitorExit) is refl refl refl refl (functions_apart f))

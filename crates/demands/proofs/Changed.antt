@@ -8,7 +8,7 @@ use lib.Dec.{eqb, leb, ltb}
 use lib.IntN.{ℤ}
 use lib.ListN.{length}
 use borrow.Author.Tests.{eqb-true, le-ltb, ltb-false}
-use Rattle.words.specs.Choice.{if◌then◌else◌}
+use Rattle.words.specs.Choice.{if_true◌then◌else◌}
 use Rattle.words.specs.Lists.{count, but_first}
 use Rattle.facts.specs.Named.{PushLocalFrame, PopLocalFrame, DeleteGlobalRef, DeleteLocalRef, DeleteWeakGlobalRef}
 use Rattle.lines.specs.Line.{Line, N, C, R, kind, is_zero}
@@ -34,7 +34,7 @@ pub but_first_less : {A : Type 0} (f g : A → Bool) (l : List A) → count f (b
 but_first_less f g [] = omega arith
 but_first_less f g (x ∷ l) = go (g x) (but_first_less f g l)
   where
-    go : (b : Bool) → count f (but_first g l) ≤ count f l → count f (if b then l else x ∷ but_first g l) ≤ count f (x ∷ l)
+    go : (b : Bool) → count f (but_first g l) ≤ count f l → count f (if_true b then l else x ∷ but_first g l) ≤ count f (x ∷ l)
     go true ih = omega (arith, count_cons f x l)
     go false ih = omega (arith, ih, count_cons f x l, count_cons f x (but_first g l))
 
@@ -47,25 +47,25 @@ frames_grow_N t env hs fs = omega arith
 pub frames_grow_R : (t f : ℕ) (r : ℤ) (p : ℕ) (fs : List Frame) → length fs ≤ length (frames_after (R t f r p) fs)
 frames_grow_R t f r p fs = go (eqb f PushLocalFrame && is_zero r)
   where
-    go : (b : Bool) → length fs ≤ length (if b then pushed ∷ fs else fs)
+    go : (b : Bool) → length fs ≤ length (if_true b then pushed ∷ fs else fs)
     go true = omega arith
     go false = omega arith
 
 -- a C that pops nothing
-pub unpopped : (f : ℕ) (fs : List Frame) → (eqb f PopLocalFrame && top_pushed fs) ≡ false → (if eqb f PopLocalFrame then without_pushed fs else fs) ≡ fs
+pub unpopped : (f : ℕ) (fs : List Frame) → (eqb f PopLocalFrame && top_pushed fs) ≡ false → (if_true eqb f PopLocalFrame then without_pushed fs else fs) ≡ fs
 unpopped f fs = go (eqb f PopLocalFrame) fs
   where
-    go : (q : Bool) (fs : List Frame) → (q && top_pushed fs) ≡ false → (if q then without_pushed fs else fs) ≡ fs
+    go : (q : Bool) (fs : List Frame) → (q && top_pushed fs) ≡ false → (if_true q then without_pushed fs else fs) ≡ fs
     go true [] h = refl
     go true (entered ∷ fs) h = refl
     go true (pushed ∷ fs) h = absurd (false≢true (sym h))
     go false fs h = refl
 
 -- and one that pops
-pub popped : (f : ℕ) (fs : List Frame) → (eqb f PopLocalFrame && top_pushed fs) ≡ true → suc (length (if eqb f PopLocalFrame then without_pushed fs else fs)) ≡ length fs
+pub popped : (f : ℕ) (fs : List Frame) → (eqb f PopLocalFrame && top_pushed fs) ≡ true → suc (length (if_true eqb f PopLocalFrame then without_pushed fs else fs)) ≡ length fs
 popped f fs = go (eqb f PopLocalFrame) fs
   where
-    go : (q : Bool) (fs : List Frame) → (q && top_pushed fs) ≡ true → suc (length (if q then without_pushed fs else fs)) ≡ length fs
+    go : (q : Bool) (fs : List Frame) → (q && top_pushed fs) ≡ true → suc (length (if_true q then without_pushed fs else fs)) ≡ length fs
     go true [] h = absurd (false≢true h)
     go true (entered ∷ fs) h = absurd (false≢true h)
     go true (pushed ∷ fs) h = refl

@@ -8,7 +8,7 @@ use native.Mathlib.Omega.{arith}
 use lib.Dec.{eqb, leb}
 use lib.ListN.{length, replicate}
 use borrow.Author.Tests.{eqb-true, eqb-false, eq-eqb, ne_eqb}
-use Rattle.words.specs.Choice.{if◌then◌else◌}
+use Rattle.words.specs.Choice.{if_true◌then◌else◌}
 use Rattle.words.specs.Lists.{count, of_first}
 use Rattle.facts.specs.Table.{family, is_critical}
 use Rattle.rows.specs.Slots.{held, put, put_all, wipe, wipe_first, change_first}
@@ -32,7 +32,7 @@ encoded_same f g p same [] none_held = refl
 encoded_same {A} f g p same (none ∷ s) none_held = ap (λ (r : List (Option A)). none ∷ r) (encoded_same f g p same s none_held)
 encoded_same {A} {B} f g p same (some x ∷ s) none_held = go (p x) refl none_held (λ h. encoded_same f g p same s h)
   where
-    go : (b : Bool) → p x ≡ b → (if b then suc (count p (held s)) else count p (held s)) ≡ 0 → (count p (held s) ≡ 0 → encoded f s ≡ encoded g s)
+    go : (b : Bool) → p x ≡ b → (if_true b then suc (count p (held s)) else count p (held s)) ≡ 0 → (count p (held s) ≡ 0 → encoded f s ≡ encoded g s)
         → encoded f (some x ∷ s) ≡ encoded g (some x ∷ s)
     go true e none_held ih = absurd (omega (arith, none_held))
     go false e none_held ih = ap₂ (λ (y : A) (r : List (Option A)). some y ∷ r) (same x e) (ih none_held)
@@ -51,12 +51,12 @@ module _ {A B : Type 0} (f : B → A) where
   count_encoded : (p : A → Bool) (s : List (Option B)) → count p (held (encoded f s)) ≡ count (λ x. p (f x)) (held s)
   count_encoded p [] = refl
   count_encoded p (none ∷ s) = count_encoded p s
-  count_encoded p (some x ∷ s) = ap (λ (n : ℕ). if p (f x) then suc n else n) (count_encoded p s)
+  count_encoded p (some x ∷ s) = ap (λ (n : ℕ). if_true p (f x) then suc n else n) (count_encoded p s)
 
   of_first_encoded : (q : A → Bool) (say : A → ℕ) (s : List (Option B)) → of_first q say (held (encoded f s)) ≡ of_first (λ x. q (f x)) (λ x. say (f x)) (held s)
   of_first_encoded q say [] = refl
   of_first_encoded q say (none ∷ s) = of_first_encoded q say s
-  of_first_encoded q say (some x ∷ s) = ap (λ (n : ℕ). if q (f x) then say (f x) else n) (of_first_encoded q say s)
+  of_first_encoded q say (some x ∷ s) = ap (λ (n : ℕ). if_true q (f x) then say (f x) else n) (of_first_encoded q say s)
 
   put_encoded : (x : B) (s : List (Option B)) → put (f x) (encoded f s) ≡ encoded f (put x s)
   put_encoded x [] = refl
@@ -69,7 +69,7 @@ module _ {A B : Type 0} (f : B → A) where
   wipe_encoded p (some x ∷ s) = go (p (f x)) (wipe_encoded p s)
     where
       go : (b : Bool) → wipe p (encoded f s) ≡ encoded f (wipe (λ x. p (f x)) s)
-          → (if b then none else some (f x)) ∷ wipe p (encoded f s) ≡ encoded f ((if b then none else some x) ∷ wipe (λ x. p (f x)) s)
+          → (if_true b then none else some (f x)) ∷ wipe p (encoded f s) ≡ encoded f ((if_true b then none else some x) ∷ wipe (λ x. p (f x)) s)
       go true ih = ap (λ (r : List (Option A)). none ∷ r) ih
       go false ih = ap (λ (r : List (Option A)). some (f x) ∷ r) ih
 
@@ -79,7 +79,7 @@ module _ {A B : Type 0} (f : B → A) where
   wipe_first_encoded p (some x ∷ s) = go (p (f x)) (wipe_first_encoded p s)
     where
       go : (b : Bool) → wipe_first p (encoded f s) ≡ encoded f (wipe_first (λ x. p (f x)) s)
-          → (if b then none ∷ encoded f s else some (f x) ∷ wipe_first p (encoded f s)) ≡ encoded f (if b then none ∷ s else some x ∷ wipe_first (λ x. p (f x)) s)
+          → (if_true b then none ∷ encoded f s else some (f x) ∷ wipe_first p (encoded f s)) ≡ encoded f (if_true b then none ∷ s else some x ∷ wipe_first (λ x. p (f x)) s)
       go true ih = refl
       go false ih = ap (λ (r : List (Option A)). some (f x) ∷ r) ih
 
@@ -90,12 +90,12 @@ module _ {A B : Type 0} (f : B → A) where
   change_first_encoded g bad p q change same this other (none ∷ s) fine few = ap (λ (r : List (Option A)). none ∷ r) (change_first_encoded g bad p q change same this other s fine few)
   change_first_encoded g bad p q change same this other (some x ∷ s) fine few = good (bad x) refl fine (λ k h. change_first_encoded g bad p q change same this other s k h)
     where
-      go : (b : Bool) → p x ≡ b → (if b then suc (count p (held s)) else count p (held s)) ≤ 1 → (count p (held s) ≤ 1 → change_first q change (encoded f s) ≡ encoded g s)
-          → (if b then some (change (f x)) ∷ encoded f s else some (f x) ∷ change_first q change (encoded f s)) ≡ encoded g (some x ∷ s)
+      go : (b : Bool) → p x ≡ b → (if_true b then suc (count p (held s)) else count p (held s)) ≤ 1 → (count p (held s) ≤ 1 → change_first q change (encoded f s) ≡ encoded g s)
+          → (if_true b then some (change (f x)) ∷ encoded f s else some (f x) ∷ change_first q change (encoded f s)) ≡ encoded g (some x ∷ s)
       go true e few ih = ap₂ (λ (y : A) (r : List (Option A)). some y ∷ r) (this x e) (encoded_same f g p other s (omega (arith, few)))
       go false e few ih = ap₂ (λ (y : A) (r : List (Option A)). some y ∷ r) (other x e) (ih few)
 
-      good : (b : Bool) → bad x ≡ b → (if b then suc (count bad (held s)) else count bad (held s)) ≡ 0
+      good : (b : Bool) → bad x ≡ b → (if_true b then suc (count bad (held s)) else count bad (held s)) ≡ 0
           → (count bad (held s) ≡ 0 → count p (held s) ≤ 1 → change_first q change (encoded f s) ≡ encoded g s) → change_first q change (encoded f (some x ∷ s)) ≡ encoded g (some x ∷ s)
       good true e k ih = absurd (omega (arith, k))
       good false e k ih = rw (same x e) (go (p x) refl few (ih k))
@@ -209,7 +209,7 @@ buffer_is t f b n line x k = go (is_critical (family f)) x k
     turned j a = rw (eqb_sym (family f) j, eqb_sym b a) (and_comm (eqb a b) (eqb j (family f)))
 
     go : (c : Bool) (x : Pin) → unowned x ≡ false
-        → is_buffer (if c then t else 0) (family f) b (pin_row_of line x) ≡ same_pin (if c then critical t (family f) b else ordinary (family f) b) x
+        → is_buffer (if_true c then t else 0) (family f) b (pin_row_of line x) ≡ same_pin (if_true c then critical t (family f) b else ordinary (family f) b) x
     go true (ordinary j a) k = rw (no_thread t n, and-false (eqb a b && eqb j (family f)))
     go true (critical s j a) k =
         and_comm (eqb a b && eqb j (family f)) (eqb s t)

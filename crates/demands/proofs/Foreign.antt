@@ -9,7 +9,7 @@ use native.Mathlib.Omega.{arith}
 use lib.Dec.{eqb, leb}
 use lib.ListN.{length}
 use borrow.Author.Tests.{eqb-false}
-use Rattle.words.specs.Choice.{if◌then◌else◌}
+use Rattle.words.specs.Choice.{if_true◌then◌else◌}
 use Rattle.lines.specs.Line.{Line}
 use Rattle.lines.specs.Reading.{Read, says, refused, read}
 use Rattle.lines.proofs.Refusals.{refused_by_number}
@@ -50,7 +50,7 @@ untouched_sound k T z l = record { keeps = λ j h. refl; number = λ j h. subst 
 stepped_sound : (fs : List Finding) (S T : Tables) → Sound T (stepped (accepted fs) S)
 stepped_sound fs S T = record { keeps = λ j h. absurd (accepted_not fs j h); number = λ j h. absurd (accepted_not fs j h) }
 
-if_sound : (T : Tables) (b : Bool) (s u : Stepped) → Sound T s → Sound T u → Sound T (if b then s else u)
+if_sound : (T : Tables) (b : Bool) (s u : Stepped) → Sound T s → Sound T u → Sound T (if_true b then s else u)
 if_sound T true s u x y = x
 if_sound T false s u x y = y
 
@@ -76,7 +76,7 @@ line_sound T e is = go (eqb (refusal_in e (top_of is) (length is) T) 0) refl
     fs = of_line (next_line T) e (seen_in T)
 
     go : (q : Bool) → eqb (refusal_in e (top_of is) (length is) T) 0 ≡ q
-        → Sound T (follow (next_line T) e (asked (top_of is)) (if q then accepted fs else not_accepted (refusal_in e (top_of is) (length is) T)) T)
+        → Sound T (follow (next_line T) e (asked (top_of is)) (if_true q then accepted fs else not_accepted (refusal_in e (top_of is) (length is) T)) T)
     go true h = stepped_sound fs _ T
     go false h =
         let z = eqb-false (refusal_in e (top_of is) (length is) T) 0 h in
@@ -88,7 +88,7 @@ read_sound T bs (says e) is = line_sound T e (items_in T.book (thread_of e))
 
 -- past the test of the book
 abbrev fit_step : Tables → List ℕ → Stepped
-fit_step T bs = if leb most_lines (lines_in T.book) then untouched 1 T else on_read (read bs) T
+fit_step T bs = if_true leb most_lines (lines_in T.book) then untouched 1 T else on_read (read bs) T
 
 fit_sound : (T : Tables) (bs : List ℕ) → Sound T (fit_step T bs)
 fit_sound T bs =
@@ -98,7 +98,7 @@ pub refusal_keeps : (T : Tables) (bs : List ℕ) (k : ℕ) → (step_of T bs).re
 unfolding step_of
 refusal_keeps T bs k = go (unfit_tables T)
   where
-    go : (q : Bool) → (if q then untouched 8 T else fit_step T bs).reply ≡ not_accepted k → (if q then untouched 8 T else fit_step T bs).left ≡ T
+    go : (q : Bool) → (if_true q then untouched 8 T else fit_step T bs).reply ≡ not_accepted k → (if_true q then untouched 8 T else fit_step T bs).left ≡ T
     go true h = refl
     go false h = (fit_sound T bs).keeps k h
 
@@ -106,7 +106,7 @@ pub eight_is : (T : Tables) (bs : List ℕ) → ((step_of T bs).reply ≡ not_ac
 unfolding step_of
 eight_is T bs = (go (unfit_tables T), λ u. rw u)
   where
-    go : (q : Bool) → (if q then untouched 8 T else fit_step T bs).reply ≡ not_accepted 8 → q ≡ true
+    go : (q : Bool) → (if_true q then untouched 8 T else fit_step T bs).reply ≡ not_accepted 8 → q ≡ true
     go true h = refl
     go false h = absurd (((fit_sound T bs).number 8 h).1.1 refl)
 
@@ -114,7 +114,7 @@ pub numbered : (T : Tables) (bs : List ℕ) (k : ℕ) → (step_of T bs).reply �
 unfolding step_of
 numbered T bs k = go (unfit_tables T)
   where
-    go : (q : Bool) → (if q then untouched 8 T else fit_step T bs).reply ≡ not_accepted k → (1 ≤ k) × (k ≤ 10)
+    go : (q : Bool) → (if_true q then untouched 8 T else fit_step T bs).reply ≡ not_accepted k → (1 ≤ k) × (k ≤ 10)
     go true h = let e = same_number 8 k h in (omega arith, omega arith)
     go false h = let (n, m) = (fit_sound T bs).number k h in (n, m.0)
 

@@ -9,7 +9,7 @@ use native.Mathlib.Omega.{arith}
 use lib.Dec.{eqb, ltb}
 use lib.ListN.{length, drop, length-append}
 use borrow.Author.Tests.{eqb-true, ltb-true, lt-ltb, le-ltb, not-true}
-use Rattle.words.specs.Choice.{if◌then◌else◌}
+use Rattle.words.specs.Choice.{if_true◌then◌else◌}
 use Rattle.words.specs.Lists.{keep, count}
 use Rattle.facts.specs.Table.{fact_of}
 use Rattle.facts.specs.Results.{is_buffer_result}
@@ -221,7 +221,7 @@ one_made (C t env f a b c n) d = omega arith
 one_made (R t f r p) d = go (fact_of f).result (eqb (above_zero r) 0)
   where
     go : (k : Result) (null : Bool)
-        → count everything (if is_buffer_result k && not null then pin t f (above_zero r) ∷ [] else []) + count global_or_weak (if null then [] else result_made k t d (above_zero r)) ≤ 1
+        → count everything (if_true is_buffer_result k && not null then pin t f (above_zero r) ∷ [] else []) + count global_or_weak (if_true null then [] else result_made k t d (above_zero r)) ≤ 1
     go Result.Local true = omega arith
     go Result.Local false = omega arith
     go Result.Global true = omega arith

@@ -9,7 +9,7 @@ use native.Mathlib.Omega.{arith}
 use lib.Dec.{ltb}
 use lib.ListN.{length, drop, length-append}
 use borrow.Author.Tests.{ltb-true, lt-ltb, le-ltb}
-use Rattle.words.specs.Choice.{if◌then◌else◌, one}
+use Rattle.words.specs.Choice.{if_true◌then◌else◌, one}
 use Rattle.words.specs.Lists.{count, joined}
 use Rattle.lines.specs.Line.{Z}
 use Rattle.rows.specs.Slots.{held}
@@ -130,9 +130,9 @@ module _ (xs : List Leak) (ns : List ℕ) where
   into_keeps k = go (ltb (length ns / leak_numbers) (length xs)) refl
     where
       go : (q : Bool) → ltb (length ns / leak_numbers) (length xs) ≡ q
-          → (if q then lists (not_written 7) ns else lists (written (length xs)) (joined xs numbers_of ++ drop (length (joined xs numbers_of)) ns)).reply ≡ not_written k
+          → (if_true q then lists (not_written 7) ns else lists (written (length xs)) (joined xs numbers_of ++ drop (length (joined xs numbers_of)) ns)).reply ≡ not_written k
           → (k ≡ 7)
-          × ((if q then lists (not_written 7) ns else lists (written (length xs)) (joined xs numbers_of ++ drop (length (joined xs numbers_of)) ns)).left ≡ ns)
+          × ((if_true q then lists (not_written 7) ns else lists (written (length xs)) (joined xs numbers_of ++ drop (length (joined xs numbers_of)) ns)).left ≡ ns)
           × (length ns / leak_numbers < length xs)
       go true e h = (sym (not_written_so 7 k h), refl, ltb-true (length ns / leak_numbers) (length xs) e)
       go false e h = absurd (written_not (length xs) k h)
@@ -158,8 +158,8 @@ after_listed past ns m room = rw ((closed_is past).1 m) (into_listed (leaks past
 
 module _ (T : Tables) (ns : List ℕ) where
   -- whatever the tables hold
-  list_kept : (k : ℕ) (p q : Bool) → (if p then lists (not_written 8) ns else if q then lists (not_written 4) ns else list_into (leaks_in T) ns).reply ≡ not_written k
-      → ((if p then lists (not_written 8) ns else if q then lists (not_written 4) ns else list_into (leaks_in T) ns).left ≡ ns)
+  list_kept : (k : ℕ) (p q : Bool) → (if_true p then lists (not_written 8) ns else if_true q then lists (not_written 4) ns else list_into (leaks_in T) ns).reply ≡ not_written k
+      → ((if_true p then lists (not_written 8) ns else if_true q then lists (not_written 4) ns else list_into (leaks_in T) ns).left ≡ ns)
       × ((k ≡ 8) ⊎ (k ≡ 4) ⊎ (k ≡ 7)) × (k ≡ 8 → p ≡ true)
   list_kept k true q h = (refl, inl (sym (not_written_so 8 k h)), λ e. refl)
   list_kept k false true h = (refl, inr (inl (sym (not_written_so 4 k h))), λ e. absurd (omega (arith, e, not_written_so 4 k h)))
@@ -183,7 +183,7 @@ module _ (past : History) (ns : List ℕ) where
   unfolding list_after
   four_is = (go (closed past) refl, λ before_Z. rw (never_true (closed past) (λ c. before_Z ((closed_is past).0 c))))
     where
-      go : (q : Bool) → closed past ≡ q → (if not q then lists (not_written 4) ns else list_into (leaks past) ns).reply ≡ not_written 4 → ¬ Memᴰ Z past
+      go : (q : Bool) → closed past ≡ q → (if_true not q then lists (not_written 4) ns else list_into (leaks past) ns).reply ≡ not_written 4 → ¬ Memᴰ Z past
       go true e h m = omega (arith, (into_keeps (leaks past) ns 4 h).0)
       go false e h m = true_not_false (closed past) ((closed_is past).1 m) e
 
@@ -191,7 +191,7 @@ module _ (past : History) (ns : List ℕ) where
   unfolding list_after
   seven_is_listed = (go (closed past) refl, λ (m, short). rw ((closed_is past).1 m) (into_short (leaks past) ns short))
     where
-      go : (q : Bool) → closed past ≡ q → (if not q then lists (not_written 4) ns else list_into (leaks past) ns).reply ≡ not_written 7
+      go : (q : Bool) → closed past ≡ q → (if_true not q then lists (not_written 4) ns else list_into (leaks past) ns).reply ≡ not_written 7
           → Memᴰ Z past × (length ns / leak_numbers < length (leaks past))
       go true e h = ((closed_is past).0 e, (into_keeps (leaks past) ns 7 h).2)
       go false e h = absurd (omega (arith, not_written_so 4 7 h))

@@ -8,7 +8,7 @@ use native.Mathlib.Omega.{arith}
 use lib.Dec.{eqb, leb, ltb}
 use lib.ListN.{length}
 use borrow.Author.Tests.{ne_eqb, ltb-true}
-use Rattle.words.specs.Choice.{if◌then◌else◌}
+use Rattle.words.specs.Choice.{if_true◌then◌else◌}
 use Rattle.words.specs.Lists.{count}
 use Rattle.facts.specs.Named.{PushLocalFrame}
 use Rattle.lines.specs.Line.{Line, N, X, C, R, A, D, Z, states, K, O, M, is_allowed, is_zero, threads, classes, above_zero}
@@ -132,10 +132,10 @@ module _ (room : Room) (T : Tables) (past : History) (tied : Tied room T past) (
       (λ k. pushes k (frames_left e fits))
       (omega (arith, own_monitors_tied t, monitors_in_lines past t)))
     where
-      pushes : (eqb f PushLocalFrame && is_zero r) ≡ true → length (if eqb f PushLocalFrame && is_zero r then pushed ∷ frames t past else frames t past) ≤ deepest
+      pushes : (eqb f PushLocalFrame && is_zero r) ≡ true → length (if_true eqb f PushLocalFrame && is_zero r then pushed ∷ frames t past else frames t past) ≤ deepest
           → length (thread_in T.book t).frames < deepest
       pushes k l =
-          omega (arith, l, ap (λ (q : Bool). length (if q then pushed ∷ frames t past else frames t past)) k, ap length (own_frames_tied room T past tied so_far t))
+          omega (arith, l, ap (λ (q : Bool). length (if_true q then pushed ∷ frames t past else frames t past)) k, ap length (own_frames_tied room T past tied so_far t))
   book_acted (A t env) fine fits =
       let e = A t env in
       booked e t _ (in_book e t (eqb_self t) fine) (λ s. refl) refl

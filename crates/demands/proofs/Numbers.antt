@@ -5,7 +5,7 @@ use mathlib.Core.Bool.{Bool, true, false, ◌&&◌}
 use mathlib.Core.List.{List, [], ◌∷◌, map}
 use lib.Dec.{eqb, leb}
 use lib.ListN.{length}
-use Rattle.words.specs.Choice.{if◌then◌else◌}
+use Rattle.words.specs.Choice.{if_true◌then◌else◌}
 use Rattle.facts.specs.Table.{fact_of, family}
 use Rattle.facts.specs.Classes.{no_class, class_made}
 use Rattle.facts.specs.Named.{PopLocalFrame}
@@ -57,8 +57,8 @@ module _ (T : Tables) (k : CleanTables T) where
   clean_references line (C t env f a b c n) = go (is_delete f a) (eqb f PopLocalFrame && top_pushed (thread_in T.book t).frames)
     where
       go : (d q : Bool) → Clean references
-          (if d then first_ended references (is_handle (delete_owner f t) a) T.references
-          else if q then ended_all references (from_frame t (length (thread_in T.book t).frames)) T.references
+          (if_true d then first_ended references (is_handle (delete_owner f t) a) T.references
+          else if_true q then ended_all references (from_frame t (length (thread_in T.book t).frames)) T.references
           else T.references)
       go true q = clean_first_ended references (is_handle (delete_owner f t) a) T.references k.reference_table
       go false true = clean_ended_all references (from_frame t (length (thread_in T.book t).frames)) T.references k.reference_table
@@ -80,7 +80,7 @@ module _ (T : Tables) (k : CleanTables T) where
   clean_pins line (X t r) = got_clean line (X t r)
   clean_pins line (C t env f a b c n) = go (is_buffer_place (fact_of f).b)
     where
-      go : (q : Bool) → Clean pins (if q then first_ended pins (is_buffer (pin_owner f t) (family f) b) T.pins else T.pins)
+      go : (q : Bool) → Clean pins (if_true q then first_ended pins (is_buffer (pin_owner f t) (family f) b) T.pins else T.pins)
       go true = clean_first_ended pins (is_buffer (pin_owner f t) (family f) b) T.pins k.pin_table
       go false = k.pin_table
   clean_pins line (R t f r p) = got_clean line (R t f r p)
@@ -105,7 +105,7 @@ module _ (T : Tables) (k : CleanTables T) where
   unfolding step_of
   clean_step bs = go (unfit_tables T) (leb most_lines (lines_in T.book))
     where
-      go : (p q : Bool) → CleanTables (if p then untouched 8 T else if q then untouched 1 T else on_read (read bs) T).left
+      go : (p q : Bool) → CleanTables (if_true p then untouched 8 T else if_true q then untouched 1 T else on_read (read bs) T).left
       go true q = k
       go false true = k
       go false false = clean_read (read bs)

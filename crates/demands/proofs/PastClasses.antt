@@ -9,7 +9,7 @@ use native.Mathlib.Omega.{arith}
 use lib.Dec.{eqb, leb, ltb}
 use lib.ListN.{length, length-replicate}
 use borrow.Author.Tests.{leb-true, le-leb, lt-leb, lt-ltb, le-ltb, ltb-true, eqb-true, eqb-false}
-use Rattle.words.specs.Choice.{if◌then◌else◌, one, within}
+use Rattle.words.specs.Choice.{if_true◌then◌else◌, one, within}
 use Rattle.words.specs.Lists.{any}
 use Rattle.lines.specs.Line.{Line, N, X, C, R, A, D, Z, states, K, O, M, classes, largest, kind, is_class, is_identity, is_sort, is_allowed}
 use Rattle.history.specs.Past.{History}
@@ -73,7 +73,7 @@ at_first n =
 
 -- M of an identity that is known already, or of a new one
 known_or_new : (x sort c static final : ℕ) (past : History) (b : Bool) → any (eqb x) (identities past) ≡ b
-    → identities (states (M x sort c static final) ∷ past) ≡ (if b then identities past else x ∷ identities past)
+    → identities (states (M x sort c static final) ∷ past) ≡ (if_true b then identities past else x ∷ identities past)
 unfolding identities
 known_or_new x sort c static final past b e = rw e
 
@@ -124,7 +124,7 @@ module _ (room : Room) (n : ℕ) (long : classes ≤ n) (fits : (n - classes) / 
           as_long = declared_length table c s ∙ h.as_long;
           supers = λ d.
               declared_super table c s y (omega (arith, h.as_long, leb-true c classes (and_right (leb 1 c) (leb c classes) y))) d
-              ∙ ap (λ (u : ℕ). if eqb d c then s else u) (h.supers d);
+              ∙ ap (λ (u : ℕ). if_true eqb d c then s else u) (h.supers d);
           placed = declared_placed table c s y h.placed;
           stated = λ x. declared_identity table c s y x ∙ h.stated x;
           known = λ x. declared_stands table c s y x ∙ h.known x;
@@ -138,7 +138,7 @@ module _ (room : Room) (n : ℕ) (long : classes ≤ n) (fits : (n - classes) / 
           as_long = put_length table (place_of table x) x sort static final ∙ h.as_long;
           supers = λ d. put_super table (place_of table x) x sort static final d ∙ h.supers d;
           placed = put_placed table x sort static final some l h.placed;
-          stated = λ y. put_each table x sort static final some l h.placed y ∙ ap (λ i. if eqb y x then identity sort static final else i) (h.stated y);
+          stated = λ y. put_each table x sort static final some l h.placed y ∙ ap (λ i. if_true eqb y x then identity sort static final else i) (h.stated y);
           known = λ y. put_stands table x sort static final some l h.placed y ∙ ap (λ (b : Bool). eqb y x || b) (h.known y) ∙ now_known y;
           used = put_used table x sort static final some l ∙ ap₂ (λ (u : ℕ) (b : Bool). u + one (not b)) h.used (h.known x) ∙ counted (any (eqb x) (identities past)) refl;
         }

@@ -10,7 +10,7 @@ use lib.Dec.{eqb}
 use lib.IntN.{ℤ}
 use lib.ListN.{length}
 use borrow.Author.Tests.{ne_eqb}
-use Rattle.words.specs.Choice.{if◌then◌else◌}
+use Rattle.words.specs.Choice.{if_true◌then◌else◌}
 use Rattle.words.specs.Lists.{count}
 use Rattle.facts.specs.Table.{fact_of, family}
 use Rattle.facts.specs.Named.{PopLocalFrame}
@@ -69,7 +69,7 @@ names_once : (room : Room) (past : History) → Accepted room past → (t h : �
 unfolding names
 names_once room past so_far t h = go (eqb (kind h) 0) (eqb (kind h) 1)
   where
-    go : (a b : Bool) → count (λ (x : Alive). if a then false else if b then is_local t h x else is_shared h x) (living past) ≤ 1
+    go : (a b : Bool) → count (λ (x : Alive). if_true a then false else if_true b then is_local t h x else is_shared h x) (living past) ≤ 1
     go true b = omega (arith, count_none (living past))
     go false true = alive_once room past so_far (local t 0 h)
     go false false = alive_once room past so_far (shared h)
@@ -154,7 +154,7 @@ module _ (room : Room) (T : Tables) (past : History) (tied : Tied room T past) (
     unfolding past_references makes
     deleted d =
         let e = C t env f a b c n in
-        let grows : length (frames t past) ≤ length (if eqb f PopLocalFrame then without_pushed (frames t past) else frames t past) =
+        let grows : length (frames t past) ≤ length (if_true eqb f PopLocalFrame then without_pushed (frames t past) else frames t past) =
         rw (delete_unpopped t env f a b c n d) (omega arith) in
         rw (rows_deleted room past so_far e grows)
         (encoded_first_ended references (reference_row (e ∷ past)) T.references slots now (is_handle (delete_owner f t) a)
@@ -184,8 +184,8 @@ module _ (room : Room) (T : Tables) (past : History) (tied : Tied room T past) (
     called = rw (own_frames_tied room T past tied so_far t) (go (is_delete f a) refl (eqb f PopLocalFrame && top_pushed (frames t past)) refl)
       where
         go : (d : Bool) → is_delete f a ≡ d → (q : Bool) → (eqb f PopLocalFrame && top_pushed (frames t past)) ≡ q
-            → ReferencesAre (if d then first_ended references (is_handle (delete_owner f t) a) T.references
-            else if q then ended_all references (from_frame t (length (frames t past))) T.references
+            → ReferencesAre (if_true d then first_ended references (is_handle (delete_owner f t) a) T.references
+            else if_true q then ended_all references (from_frame t (length (frames t past))) T.references
             else T.references) (C t env f a b c n)
         go true d q p = deleted d
         go false d true p = pop d p
@@ -204,11 +204,11 @@ module _ (room : Room) (T : Tables) (past : History) (tied : Tied room T past) (
     names_row x placed = go (eqb (kind h) 1) refl
       where
         go : (q : Bool) → eqb (kind h) 1 ≡ q
-            → is_handle (if q then t else 0) h (reference_row past x) ≡ (if eqb (kind h) 0 then false else if q then is_local t h x.what else is_shared h x.what)
+            → is_handle (if_true q then t else 0) h (reference_row past x) ≡ (if_true eqb (kind h) 0 then false else if_true q then is_local t h x.what else is_shared h x.what)
         go true e = rw (ne_eqb (kind h) 0 is_a_handle) (handle_is_local t h some_thread x.line (class_stated past x.what) x.what)
         go false e = rw (ne_eqb (kind h) 0 is_a_handle) (handle_is_shared h x.line (class_stated past x.what) x.what placed)
 
-    class_after : (x : Alive) → class_stated (states (O t h c) ∷ past) x ≡ (if names t h x then c else class_stated past x)
+    class_after : (x : Alive) → class_stated (states (O t h c) ∷ past) x ≡ (if_true names t h x then c else class_stated past x)
     class_after x = class_next (states (O t h c)) past x ∙ rw (nothing_by_O t h c past x)
 
     stated_row : (x : Made Alive) → names t h x.what ≡ true → with_class c (reference_row past x) ≡ reference_row (states (O t h c) ∷ past) x
@@ -302,7 +302,7 @@ module _ (room : Room) (T : Tables) (past : History) (tied : Tied room T past) (
   pins_acted (C t env f a b c n) fine = go (is_buffer_place (fact_of f).b) refl
     where
       go : (q : Bool) → is_buffer_place (fact_of f).b ≡ q
-          → PinsAre (if q then first_ended pins (is_buffer (pin_owner f t) (family f) b) T.pins else T.pins) (C t env f a b c n)
+          → PinsAre (if_true q then first_ended pins (is_buffer (pin_owner f t) (family f) b) T.pins else T.pins) (C t env f a b c n)
       go true q = released t env f a b c n (not_thread_zero t (is_a_thread (C t env f a b c n) t (eqb_self t) fine)) q
       go false q = kept t env f a b c n q
   pins_acted (R t f r p) fine = got (R t f r p) (λ x. refl)

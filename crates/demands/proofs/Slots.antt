@@ -8,7 +8,7 @@ use mathlib.Core.List.{List, [], ◌∷◌, Memᴰ}
 use mathlib.Core.Option.{Option, none, some}
 use native.Mathlib.Omega.{arith}
 use lib.ListN.{length}
-use Rattle.words.specs.Choice.{if◌then◌else◌, one}
+use Rattle.words.specs.Choice.{if_true◌then◌else◌, one}
 use Rattle.words.specs.Lists.{keep, count, but_first}
 use Rattle.rows.specs.Slots.{held, put, put_all, wipe, wipe_first}
 use Rattle.history.proofs.Tests.{either}
@@ -45,7 +45,7 @@ module _ {A : Type 0} where
   held_wipe g (some x ∷ s) = go (g x) (held_wipe g s)
     where
       go : (b : Bool) → held (wipe g s) ≡ keep (λ x. not (g x)) (held s)
-          → held ((if b then none else some x) ∷ wipe g s) ≡ (if not b then x ∷ keep (λ x. not (g x)) (held s) else keep (λ x. not (g x)) (held s))
+          → held ((if_true b then none else some x) ∷ wipe g s) ≡ (if_true not b then x ∷ keep (λ x. not (g x)) (held s) else keep (λ x. not (g x)) (held s))
       go true ih = ih
       go false ih = ap (λ (m : List A). x ∷ m) ih
 
@@ -55,7 +55,7 @@ module _ {A : Type 0} where
   held_wipe_first g (some x ∷ s) = go (g x) (held_wipe_first g s)
     where
       go : (b : Bool) → held (wipe_first g s) ≡ but_first g (held s)
-          → held (if b then none ∷ s else some x ∷ wipe_first g s) ≡ (if b then held s else x ∷ but_first g (held s))
+          → held (if_true b then none ∷ s else some x ∷ wipe_first g s) ≡ (if_true b then held s else x ∷ but_first g (held s))
       go true ih = refl
       go false ih = ap (λ (m : List A). x ∷ m) ih
 
@@ -81,8 +81,8 @@ module _ {A : Type 0} where
           → wipe p (some x ∷ s) ≡ wipe q (some x ∷ s)
       go true k e ih = absurd (omega (arith, e, z))
       go false k e ih =
-          ap (λ (b : Bool). (if b then none else some x) ∷ wipe p s) (k refl)
-          ∙ ap (λ (r : List (Option A)). (if q x then none else some x) ∷ r) (ih (omega (arith, e, z)))
+          ap (λ (b : Bool). (if_true b then none else some x) ∷ wipe p s) (k refl)
+          ∙ ap (λ (r : List (Option A)). (if_true q x then none else some x) ∷ r) (ih (omega (arith, e, z)))
 
   pub wipe_first_same : (g p q : A → Bool) → ((x : A) → g x ≡ false → p x ≡ q x) → (s : List (Option A)) → count g (held s) ≡ 0 → wipe_first p s ≡ wipe_first q s
   wipe_first_same g p q h [] z = refl
@@ -93,8 +93,8 @@ module _ {A : Type 0} where
           → wipe_first p (some x ∷ s) ≡ wipe_first q (some x ∷ s)
       go true k e ih = absurd (omega (arith, e, z))
       go false k e ih =
-          ap (λ (b : Bool). if b then none ∷ s else some x ∷ wipe_first p s) (k refl)
-          ∙ ap (λ (r : List (Option A)). if q x then none ∷ s else some x ∷ r) (ih (omega (arith, e, z)))
+          ap (λ (b : Bool). if_true b then none ∷ s else some x ∷ wipe_first p s) (k refl)
+          ∙ ap (λ (r : List (Option A)). if_true q x then none ∷ s else some x ∷ r) (ih (omega (arith, e, z)))
 
   pub count_same : (g p q : A → Bool) → ((x : A) → g x ≡ false → p x ≡ q x) → (l : List A) → count g l ≡ 0 → count p l ≡ count q l
   count_same g p q h [] z = refl
@@ -125,7 +125,7 @@ module _ {A : Type 0} where
   wipe_padded zero g s = refl
   wipe_padded (suc n) g [] = ap (λ (r : List (Option A)). none ∷ r) (wipe_padded n g [])
   wipe_padded (suc n) g (none ∷ s) = ap (λ (r : List (Option A)). none ∷ r) (wipe_padded n g s)
-  wipe_padded (suc n) g (some x ∷ s) = ap (λ (r : List (Option A)). (if g x then none else some x) ∷ r) (wipe_padded n g s)
+  wipe_padded (suc n) g (some x ∷ s) = ap (λ (r : List (Option A)). (if_true g x then none else some x) ∷ r) (wipe_padded n g s)
 
   pub wipe_first_padded : (n : ℕ) (g : A → Bool) (s : List (Option A)) → wipe_first g (padded n s) ≡ padded n (wipe_first g s)
   wipe_first_padded zero g s = refl
@@ -134,7 +134,7 @@ module _ {A : Type 0} where
   wipe_first_padded (suc n) g (some x ∷ s) = go (g x) (wipe_first_padded n g s)
     where
       go : (b : Bool) → wipe_first g (padded n s) ≡ padded n (wipe_first g s)
-          → (if b then none ∷ padded n s else some x ∷ wipe_first g (padded n s)) ≡ padded (suc n) (if b then none ∷ s else some x ∷ wipe_first g s)
+          → (if_true b then none ∷ padded n s else some x ∷ wipe_first g (padded n s)) ≡ padded (suc n) (if_true b then none ∷ s else some x ∷ wipe_first g s)
       go true ih = refl
       go false ih = ap (λ (r : List (Option A)). some x ∷ r) ih
 
@@ -173,6 +173,6 @@ module _ {A : Type 0} where
   length_wipe_first g (none ∷ s) = ap suc (length_wipe_first g s)
   length_wipe_first g (some x ∷ s) = go (g x) (length_wipe_first g s)
     where
-      go : (b : Bool) → length (wipe_first g s) ≡ length s → length (if b then none ∷ s else some x ∷ wipe_first g s) ≡ suc (length s)
+      go : (b : Bool) → length (wipe_first g s) ≡ length s → length (if_true b then none ∷ s else some x ∷ wipe_first g s) ≡ suc (length s)
       go true ih = refl
       go false ih = ap suc ih

@@ -5,7 +5,7 @@ use mathlib.Core.Bool.{Bool, true, false}
 use mathlib.Core.List.{List, [], ◌∷◌}
 use lib.Dec.{eqb, leb}
 use lib.ListN.{length}
-use Rattle.words.specs.Choice.{if◌then◌else◌}
+use Rattle.words.specs.Choice.{if_true◌then◌else◌}
 use Rattle.lines.specs.Line.{Line}
 use Rattle.lines.specs.Reading.{Read, says, refused, read}
 use Rattle.lines.proofs.RoundTrip.{read_allowed}
@@ -66,8 +66,8 @@ module _ (room : Room) (T : Tables) (past : History) (k : AllTied room T past) (
       rw (k.tables.lines, k.opened.open_items (thread_of e), weighed_tied room T past k.tables so_far e (suc (length past)))
       (go (eqb (refusal room e past) 0))
     where
-      go : (q : Bool) → follow (suc (length past)) e (asked (top_of (items (thread_of e) past))) (if q then accepted (of_line (suc (length past)) e (seen past)) else not_accepted (refusal room e past)) T
-          ≡ answered past (if q then says e else refused (refusal room e past)) T
+      go : (q : Bool) → follow (suc (length past)) e (asked (top_of (items (thread_of e) past))) (if_true q then accepted (of_line (suc (length past)) e (seen past)) else not_accepted (refusal room e past)) T
+          ≡ answered past (if_true q then says e else refused (refusal room e past)) T
       go true = refl
       go false = refl
 
@@ -80,7 +80,7 @@ module _ (room : Room) (T : Tables) (past : History) (k : AllTied room T past) (
   unfolding step_of verdict
   step_is bs = rw (fit room T past k.tables k.opened so_far, k.tables.lines) (go (leb most_lines (length past)))
     where
-      go : (q : Bool) → (if q then untouched 1 T else on_read (read bs) T) ≡ answered past (if q then refused 1 else weighed room past (read bs)) T
+      go : (q : Bool) → (if_true q then untouched 1 T else on_read (read bs) T) ≡ answered past (if_true q then refused 1 else weighed room past (read bs)) T
       go true = refl
       go false = on_read_is (read bs)
 

@@ -7,7 +7,7 @@ use native.Mathlib.Omega.{arith}
 use lib.Dec.{eqb, leb, ltb}
 use lib.ListN.{length}
 use borrow.Author.Tests.{le-leb}
-use Rattle.words.specs.Choice.{if◌then◌else◌}
+use Rattle.words.specs.Choice.{if_true◌then◌else◌}
 use Rattle.words.specs.Lists.{count, sum, of_first}
 use Rattle.lines.specs.Line.{Line, N, X, C, R, A, D, Z, states, K, O, M}
 use Rattle.rows.specs.Slots.{held}
@@ -65,7 +65,7 @@ of_first_same : {A : Type 0} (bad p q : A → Bool) (f g : A → ℕ) → ((x : 
 of_first_same bad p q f g same says [] fine = refl
 of_first_same bad p q f g same says (x ∷ l) fine = go (bad x) refl fine (λ k. of_first_same bad p q f g same says l k)
   where
-    go : (b : Bool) → bad x ≡ b → (if b then suc (count bad l) else count bad l) ≡ 0 → (count bad l ≡ 0 → of_first p f l ≡ of_first q g l)
+    go : (b : Bool) → bad x ≡ b → (if_true b then suc (count bad l) else count bad l) ≡ 0 → (count bad l ≡ 0 → of_first p f l ≡ of_first q g l)
         → of_first p f (x ∷ l) ≡ of_first q g (x ∷ l)
     go true e k ih = absurd (omega (arith, k))
     go false e k ih = rw (same x e, says x, ih k)
@@ -240,7 +240,7 @@ module _ (room : Room) (T : Tables) (past : History) (tied : Tied room T past) (
 
     -- the same reply
     pub weighed_tied : (line : ℕ) → weighed_in line e (top_of (items (thread_of e) past)) (length (items (thread_of e) past)) T
-        ≡ (if eqb (refusal room e past) 0 then accepted (of_line line e (seen past)) else not_accepted (refusal room e past))
+        ≡ (if_true eqb (refusal room e past) 0 then accepted (of_line line e (seen past)) else not_accepted (refusal room e past))
     unfolding weighed_in
     weighed_tied line =
-        ap₂ (λ (k : ℕ) (v : Seen). if eqb k 0 then accepted (of_line line e v) else not_accepted k) refusal_tied seen_tied
+        ap₂ (λ (k : ℕ) (v : Seen). if_true eqb k 0 then accepted (of_line line e v) else not_accepted k) refusal_tied seen_tied

@@ -1,6 +1,6 @@
 -- The leaks after a history, and what is listed and printed of them. Assumes nothing.
 use Rattle.std.specs.Prelude.{ℕ, not, List, [], ◌++◌}
-use Rattle.words.specs.Choice.{if◌then◌else◌}
+use Rattle.words.specs.Choice.{if_true◌then◌else◌}
 use Rattle.words.specs.Lists.{joined}
 use Rattle.rows.specs.Slots.{held}
 use Rattle.history.specs.Past.{History, closed}
@@ -17,13 +17,13 @@ leaks past = leaks_of (held (pin_rows past)) (held (reference_rows past))
 
 -- the list call: 4 before Z, then 7
 unfoldable pub list_after : History → List ℕ → Listing
-list_after past ns = if not (closed past) then lists (not_written 4) ns else list_into (leaks past) ns
+list_after past ns = if_true not (closed past) then lists (not_written 4) ns else list_into (leaks past) ns
 
 -- ---- what is printed
 
 -- without Z nothing is listed
 unfoldable pub shown_leaks : History → List ℕ
-shown_leaks past = if closed past then joined (leaks past) shown_leak else []
+shown_leaks past = if_true closed past then joined (leaks past) shown_leak else []
 
 -- the report as ever, then the leaks of the accepted lines
 unfoldable pub report_and_leaks : Room → List ℕ → List ℕ

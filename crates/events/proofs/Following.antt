@@ -7,7 +7,7 @@ use mathlib.Core.Option.{Option}
 use native.Mathlib.Omega.{arith}
 use borrow.Author.Tests.{not-true, not-false}
 use lib.IntN.{ℤ}
-use Rattle.words.specs.Choice.{if◌then◌else◌}
+use Rattle.words.specs.Choice.{if_true◌then◌else◌}
 use Rattle.facts.specs.declared.Result.{Result}
 use Rattle.lines.specs.Line.{Statement, N, X, C, R, A, D, Z, K, O, M, states, is_zero}
 use Rattle.lines.specs.Events.{result_in_line}
@@ -60,10 +60,10 @@ use Rattle.events.specs.Outcome.{leaves, line_outcome}
 use Rattle.events.proofs.Outcomes.{stays, goes}
 
 -- a line that is not in turn is given 4, another what its sight says
-in_turn : (turn : Bool) (k n : ℕ) → turn ≡ true → k ≡ n → k ≡ (if turn then n else 4)
+in_turn : (turn : Bool) (k n : ℕ) → turn ≡ true → k ≡ n → k ≡ (if_true turn then n else 4)
 in_turn turn k n y e = rw y e
 
-out_of_turn : (turn : Bool) (n : ℕ) → turn ≡ false → 4 ≡ (if turn then n else 4)
+out_of_turn : (turn : Bool) (n : ℕ) → turn ≡ false → 4 ≡ (if_true turn then n else 4)
 out_of_turn turn n y = rw y refl
 
 -- ---- N
@@ -206,12 +206,12 @@ module _ (T : Tables) (top : Option Item) (many t f h p : ℕ) (s : ℤ) (line :
 module _ (T : Tables) (line : ℕ) (closed : Bool) (ec : closed ≡ closed_in T.book) (top : Option Item) (many : ℕ) (y : Answer) where
   pub end_stays : closed ≡ true → y ≡ refused_with 4 → leaves y T ≡ line_outcome line Z top many T
   end_stays q ey =
-      stays line Z top many T y 4 (ap (λ (o : Bool). if o then 4 else 0) (sym q ∙ ec) ∙ sym (end_told T top many)) (λ z. omega (arith, z)) ey
+      stays line Z top many T y 4 (ap (λ (o : Bool). if_true o then 4 else 0) (sym q ∙ ec) ∙ sym (end_told T top many)) (λ z. omega (arith, z)) ey
 
   pub end_goes : (v : EndSight) (S : Tables) → closed ≡ false → v ≡ end_sight T → ((i : ℕ) → S ≡ acted line Z i T) → y ≡ answer_of (found_end line v)
       → leaves y S ≡ line_outcome line Z top many T
   end_goes v S q ev es ey =
-      goes line Z top many T y _ S (end_told T top many ∙ ap (λ (o : Bool). if o then 4 else 0) (sym ec ∙ q)) ey (ap (found_end line) ev ∙ end_found T line) (es (asked top))
+      goes line Z top many T y _ S (end_told T top many ∙ ap (λ (o : Bool). if_true o then 4 else 0) (sym ec ∙ q)) ey (ap (found_end line) ev ∙ end_found T line) (es (asked top))
 
 -- ---- K, O and M
 
@@ -238,7 +238,7 @@ names_one : (closed : Bool) (v : StateSight) → state_refusal closed v ≡ 0 �
 unfolding state_refusal
 names_one closed v = go closed v.known v.alive
   where
-    go : (closed known alive : Bool) → ◌≡◌ {A = ℕ} (if closed then 4 else if not known then 9 else if not alive then 10 else 0) 0 → alive ≡ true
+    go : (closed known alive : Bool) → ◌≡◌ {A = ℕ} (if_true closed then 4 else if_true not known then 9 else if_true not alive then 10 else 0) 0 → alive ≡ true
     go true known alive h = absurd (omega (arith, h))
     go false false alive h = absurd (omega (arith, h))
     go false true false h = absurd (omega (arith, h))

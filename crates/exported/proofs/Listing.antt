@@ -12,7 +12,7 @@ use mir.Val.{SFits, to_z, of_z}
 use mir.ValLaws.{to_z_pos, to_z-of_z}
 use borrow.Author.Rules.{sfits_of}
 use Rattle.numbers.proofs.Minus.{minus_is, minus_fits}
-use Rattle.words.specs.Choice.{if◌then◌else◌}
+use Rattle.words.specs.Choice.{if_true◌then◌else◌}
 use Rattle.words.specs.Lists.{joined}
 use Rattle.rows.specs.Table.{most}
 use Rattle.book.specs.Threads.{closed_in}
@@ -50,9 +50,9 @@ unfolding list_of list_into
 written_few T ns n = go (unfit T.book) (not (closed_in T.book)) (ltb (length ns / leak_numbers) (length (leaks_in T)))
   where
     go : (p q s : Bool)
-        → (if p then lists (not_written 8) ns
-        else if q then lists (not_written 4) ns
-        else if s then lists (not_written 7) ns
+        → (if_true p then lists (not_written 8) ns
+        else if_true q then lists (not_written 4) ns
+        else if_true s then lists (not_written 7) ns
         else lists (written (length (leaks_in T))) (joined (leaks_in T) numbers_of ++ drop (length (joined (leaks_in T) numbers_of)) ns)).reply
         ≡ written n
         → n ≤ most + most

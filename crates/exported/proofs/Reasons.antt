@@ -8,7 +8,7 @@ use native.Mathlib.Omega.{arith}
 use lib.Dec.{ltb}
 use lib.ListN.{length}
 use borrow.Author.Tests.{le-ltb}
-use Rattle.words.specs.Choice.{if◌then◌else◌}
+use Rattle.words.specs.Choice.{if_true◌then◌else◌}
 use Rattle.history.specs.Replies.{Reply, accepted, not_accepted}
 use Rattle.history.specs.declared.Finding.{Finding}
 use Rattle.report.specs.Shown.{most_shown}
@@ -43,10 +43,10 @@ not_short s h e = let refused : s ≡ Stop.Refused 101 = sym (stop_back s h) ∙
 -- ---- that of a run
 
 numbered_next : (room : ℕ) (T : Tables) (line : List ℕ) (rest : List Finding → Run) → ((fs : List Finding) → Numbered (rest fs).stop)
-    → Numbered (if ltb room most_shown then stops T Stop.Full else go_on T (step_of T line).reply rest).stop
+    → Numbered (if_true ltb room most_shown then stops T Stop.Full else go_on T (step_of T line).reply rest).stop
 numbered_next room T line rest others = go (ltb room most_shown) (step_of T line).reply refl
   where
-    go : (full : Bool) (r : Reply) → (step_of T line).reply ≡ r → Numbered (if full then stops T Stop.Full else go_on T r rest).stop
+    go : (full : Bool) (r : Reply) → (step_of T line).reply ≡ r → Numbered (if_true full then stops T Stop.Full else go_on T r rest).stop
     go true r h = tt
     go false (not_accepted k) h = numbered T line k h
     go false (accepted fs) h = others fs

@@ -1,6 +1,6 @@
 -- What C and Rust are told of a piece of a trace: a number, the tables left, the bytes left, and the numbers of how far it came. Assumes nothing.
 use Rattle.std.specs.Prelude.{ℕ, zero, suc, Bool, not, List, [], ◌∷◌, eqb, ltb, ℤ, pos, negsuc, neg_ℤ, length}
-use Rattle.words.specs.Choice.{if◌then◌else◌}
+use Rattle.words.specs.Choice.{if_true◌then◌else◌}
 use Rattle.tables.specs.Tables.{Tables}
 use Rattle.run.specs.declared.Passed.{Passed}
 use Rattle.run.specs.declared.Stop.{Stop}
@@ -48,7 +48,7 @@ pieced o ns = tells_piece (stop_told o.reply.stop) o.left o.out (far_put o.reply
 
 -- of a piece over these tables; where there is no room for the three numbers, nothing is touched
 unfoldable pub piece_told : ℕ → Tables → List ℕ → List ℕ → List ℕ → ToldPiece
-piece_told ended T piece out ns = if ltb (length ns) far_numbers then tells_piece short_far T out ns else pieced (piece_outcome (is_ended ended) T piece out) ns
+piece_told ended T piece out ns = if_true ltb (length ns) far_numbers then tells_piece short_far T out ns else pieced (piece_outcome (is_ended ended) T piece out) ns
 
 -- why it stopped, from the number told where there is room for them
 unfoldable pub stop_of : ℤ → Stop

@@ -1,7 +1,7 @@
 -- What C and Rust are told of a step: a number, the tables left, and the findings left as numbers. Assumes nothing.
 use Rattle.std.specs.Prelude.{ℕ, ◌*◌, List, [], ◌∷◌, ◌++◌, eqb, ltb, ℤ, pos, neg_ℤ, length, take, drop}
 use Rattle.std.proofs.lemmas.List.Edits.{sets}
-use Rattle.words.specs.Choice.{if◌then◌else◌}
+use Rattle.words.specs.Choice.{if_true◌then◌else◌}
 use Rattle.words.specs.Lists.{joined}
 use Rattle.history.specs.declared.Finding.{Finding}
 use Rattle.answers.specs.Answer.{most_found}
@@ -19,7 +19,7 @@ tells n T ns = record { number = n; left = T; found = ns }
 
 -- below zero the number given instead of the line, or how many findings it has
 abbrev pub number_told : ℕ → ℕ → ℤ
-number_told refusal count = if eqb refusal 0 then pos count else neg_ℤ (pos refusal)
+number_told refusal count = if_true eqb refusal 0 then pos count else neg_ℤ (pos refusal)
 
 -- a finding is four numbers
 abbrev pub numbers : ℕ
@@ -53,7 +53,7 @@ told o ns =
 
 -- of a line over these tables; where there is no room for the most findings, nothing is touched
 unfoldable pub step_told : Tables → List ℕ → List ℕ → Told
-step_told T line ns = if ltb (length ns) most_numbers then tells short_found T ns else told (step_outcome T line) ns
+step_told T line ns = if_true ltb (length ns) most_numbers then tells short_found T ns else told (step_outcome T line) ns
 
 -- one finding more behind `at` others
 unfoldable pub put_at : List ℕ → ℕ → Finding → List ℕ

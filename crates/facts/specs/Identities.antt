@@ -1,6 +1,6 @@
 -- What document 02 wants of an identity, by the function that it is handed to, as it prints them. Assumes nothing.
 use Rattle.std.specs.Prelude.{ℕ, Bool, false, ◌&&◌, [], ◌∷◌, eqb}
-use Rattle.words.specs.Choice.{if◌then◌else◌}
+use Rattle.words.specs.Choice.{if_true◌then◌else◌}
 use Rattle.facts.specs.Table.{only, ◌to◌, lists}
 use Rattle.facts.specs.declared.identities.Wanted.{Wanted}
 
@@ -15,12 +15,12 @@ field = 2
 -- 12 any field
 unfoldable pub wanted_of : ℕ → Wanted
 wanted_of f =
-    if lists (28 to 30 ∷ 34 to 93 ∷ []) f then Wanted.ObjectMethod
-    else if lists (114 to 143 ∷ []) f then Wanted.StaticMethod
-    else if lists (95 to 112 ∷ []) f then Wanted.ObjectField
-    else if lists (145 to 162 ∷ []) f then Wanted.StaticField
-    else if lists (only 9 ∷ []) f then Wanted.AnyMethod
-    else if lists (only 12 ∷ []) f then Wanted.AnyField
+    if_true lists (28 to 30 ∷ 34 to 93 ∷ []) f then Wanted.ObjectMethod
+    else if_true lists (114 to 143 ∷ []) f then Wanted.StaticMethod
+    else if_true lists (95 to 112 ∷ []) f then Wanted.ObjectField
+    else if_true lists (145 to 162 ∷ []) f then Wanted.StaticField
+    else if_true lists (only 9 ∷ []) f then Wanted.AnyMethod
+    else if_true lists (only 12 ∷ []) f then Wanted.AnyField
     else Wanted.Nothing
 
 -- an identity of this sort, static (1) or not (0), is what is wanted

@@ -2,7 +2,7 @@
 use Rattle.std.specs.Prelude.{ℕ, Bool, ◌||◌, List, [], ◌∷◌, eqb, get_or}
 use Prim.Native.String.{String}
 use Prim.Native.Char.{code}
-use Rattle.words.specs.Choice.{if◌then◌else◌, within}
+use Rattle.words.specs.Choice.{if_true◌then◌else◌, within}
 use Rattle.words.specs.Lists.{any, place_of}
 use Rattle.words.specs.Text.{bytes}
 use Rattle.facts.specs.declared.Place.{Place}
@@ -37,24 +37,24 @@ is_function f = within first_function last_function f
 -- `r` handle, `o` handle or null, `l` `g` `w` handle of that kind or null, `i` identity, `b` buffer, `-` unused
 abbrev pub place : ℕ → Place
 place x =
-    if eqb x (code "r") then Place.Handle
-    else if eqb x (code "o") then Place.HandleOrNull
-    else if eqb x (code "l") then Place.LocalOrNull
-    else if eqb x (code "g") then Place.GlobalOrNull
-    else if eqb x (code "w") then Place.WeakOrNull
-    else if eqb x (code "i") then Place.Identity
-    else if eqb x (code "b") then Place.Buffer
+    if_true eqb x (code "r") then Place.Handle
+    else if_true eqb x (code "o") then Place.HandleOrNull
+    else if_true eqb x (code "l") then Place.LocalOrNull
+    else if_true eqb x (code "g") then Place.GlobalOrNull
+    else if_true eqb x (code "w") then Place.WeakOrNull
+    else if_true eqb x (code "i") then Place.Identity
+    else if_true eqb x (code "b") then Place.Buffer
     else Place.Unused
 
 -- L G W (handle of that kind or 0), I (remainder 0), B, S status, `-` written 0
 abbrev pub result_in : ℕ → Result
 result_in x =
-    if eqb x (code "L") then Result.Local
-    else if eqb x (code "G") then Result.Global
-    else if eqb x (code "W") then Result.Weak
-    else if eqb x (code "I") then Result.Identity
-    else if eqb x (code "B") then Result.Buffer
-    else if eqb x (code "S") then Result.Status
+    if_true eqb x (code "L") then Result.Local
+    else if_true eqb x (code "G") then Result.Global
+    else if_true eqb x (code "W") then Result.Weak
+    else if_true eqb x (code "I") then Result.Identity
+    else if_true eqb x (code "B") then Result.Buffer
+    else if_true eqb x (code "S") then Result.Status
     else Result.Nothing
 
 pub record Fact : Type 0 where
@@ -116,7 +116,7 @@ no_fact = fact_in (bytes "--- -")
 
 abbrev pub find : ℕ → List Row → Fact
 find f [] = no_fact
-find f (x ∷ xs) = if lists x.numbers f then x.fact else find f xs
+find f (x ∷ xs) = if_true lists x.numbers f then x.fact else find f xs
 
 -- what the table says of function f
 unfoldable pub fact_of : ℕ → Fact

@@ -7,7 +7,7 @@ use Prim.Native.Nat.{ℕ, ◌+◌, ◌*◌, ◌≤◌, ◌<◌}
 use native.Mathlib.Omega.{arith}
 use lib.Dec.{leb}
 use borrow.Author.Tests.{le-leb, leb-true}
-use Rattle.words.specs.Choice.{if◌then◌else◌}
+use Rattle.words.specs.Choice.{if_true◌then◌else◌}
 use Rattle.rows.specs.Table.{Table, room}
 use Rattle.rows.specs.View.{slot}
 use Rattle.rows.specs.declared.references.Reference.{Reference}
@@ -31,7 +31,7 @@ pub cell_outside : (t f : ℕ) → (t ≤ 16 → f ≤ 64 → ⊥) → cell_of t
 unfolding cell_of
 cell_outside t f n = go (leb t 16) refl (leb f 64) refl
   where
-    go : (x : Bool) → leb t 16 ≡ x → (y : Bool) → leb f 64 ≡ y → (if x && y then t * 65 + f else others) ≡ others
+    go : (x : Bool) → leb t 16 ≡ x → (y : Bool) → leb f 64 ≡ y → (if_true x && y then t * 65 + f else others) ≡ others
     go true a true b = absurd (n (leb-true t 16 a) (leb-true f 64 b))
     go true a false b = refl
     go false a y b = refl
@@ -40,7 +40,7 @@ pub cell_is_low : (t f : ℕ) → cell_of t f < cells
 unfolding cell_of
 cell_is_low t f = go (leb t 16) refl (leb f 64) refl
   where
-    go : (x : Bool) → leb t 16 ≡ x → (y : Bool) → leb f 64 ≡ y → (if x && y then t * 65 + f else others) < cells
+    go : (x : Bool) → leb t 16 ≡ x → (y : Bool) → leb f 64 ≡ y → (if_true x && y then t * 65 + f else others) < cells
     go true a true b = let p = leb-true t 16 a in let q = leb-true f 64 b in omega (arith, p, q)
     go true a false b = omega arith
     go false a y b = omega arith

@@ -8,7 +8,7 @@ use native.Mathlib.Omega.{arith}
 use lib.Dec.{eqb}
 use lib.ListN.{length, get_or, length-set}
 use lib.Seq.{get_or-set_other}
-use Rattle.words.specs.Choice.{if◌then◌else◌}
+use Rattle.words.specs.Choice.{if_true◌then◌else◌}
 use Rattle.rows.specs.Slots.{holding}
 use Rattle.rows.specs.Table.{Layout, Table}
 use Rattle.guide.specs.Words.{full_word, named}
@@ -46,7 +46,7 @@ module _ {A : Type 0} (L : Layout A) (first second cell : A → ℕ) (places end
   unfolding with_listed
   listed_length T G a b r = go (named (with_row L first second T a (word_at G a) r) r)
     where
-      go : (c : Bool) → length (if c then put_row_at L first second T G a r else put_row_at L first second T (put_row_at L first second T G a r) b r) ≡ length G
+      go : (c : Bool) → length (if_true c then put_row_at L first second T G a r else put_row_at L first second T (put_row_at L first second T G a r) b r) ≡ length G
       go true = length-set G a _
       go false = length-set (put_row_at L first second T G a r) b _ ∙ length-set G a _
 
@@ -54,7 +54,7 @@ module _ {A : Type 0} (L : Layout A) (first second cell : A → ℕ) (places end
   unfolding with_listed
   listed_elsewhere T G a b r j d na nb = go (named (with_row L first second T a (word_at G a) r) r)
     where
-      go : (c : Bool) → get_or (if c then put_row_at L first second T G a r else put_row_at L first second T (put_row_at L first second T G a r) b r) j d ≡ get_or G j d
+      go : (c : Bool) → get_or (if_true c then put_row_at L first second T G a r else put_row_at L first second T (put_row_at L first second T G a r) b r) j d ≡ get_or G j d
       go true = get_or-set_other G a j _ d na
       go false = get_or-set_other (put_row_at L first second T G a r) b j _ d nb ∙ get_or-set_other G a j _ d na
 

@@ -6,7 +6,7 @@ use native.Mathlib.Decide.{ℕ_discrete, dec_lt}
 use native.Mathlib.Omega.{arith}
 use lib.Dec.{eqb}
 use borrow.Author.Tests.{eq-eqb, ne_eqb}
-use Rattle.words.specs.Choice.{if◌then◌else◌}
+use Rattle.words.specs.Choice.{if_true◌then◌else◌}
 use Rattle.rows.specs.Scan.{lowest}
 use Rattle.rows.proofs.ScanLaws.{lowest_is, lowest_le, lowest_below, lowest_at}
 
@@ -42,10 +42,10 @@ and_true : (a b : Bool) → a ≡ true → b ≡ true → (a && b) ≡ true
 and_true a b e f = rw (e, f) refl
 
 -- `b` tells whether r passes and is below n
-pub lowest_one : (p : ℕ → Bool) (n r : ℕ) (b : Bool) → (r < n → b ≡ p r) → (n ≤ r → b ≡ false) → lowest (λ k. p k && eqb r k) n ≡ (if b then r else n)
+pub lowest_one : (p : ℕ → Bool) (n r : ℕ) (b : Bool) → (r < n → b ≡ p r) → (n ≤ r → b ≡ false) → lowest (λ k. p k && eqb r k) n ≡ (if_true b then r else n)
 lowest_one p n r b h g = go b refl (dec_lt r n)
   where
-    go : (c : Bool) → b ≡ c → Dec (r < n) → lowest (λ k. p k && eqb r k) n ≡ (if c then r else n)
+    go : (c : Bool) → b ≡ c → Dec (r < n) → lowest (λ k. p k && eqb r k) n ≡ (if_true c then r else n)
     go true e (yes l) =
         lowest_is (λ k. p k && eqb r k) n r (omega arith) (λ k m. and_false (p k) (eqb r k) (ne_eqb r k (omega arith)))
         (λ m. and_true (p r) (eqb r r) (sym (h l) ∙ e) (eq-eqb r r refl))

@@ -8,7 +8,7 @@ use native.Mathlib.Omega.{arith}
 use lib.Dec.{eqb}
 use lib.ListN.{length, get_or, get_or-eq_default}
 use borrow.Author.Tests.{not-true, not-false}
-use Rattle.words.specs.Choice.{if◌then◌else◌}
+use Rattle.words.specs.Choice.{if_true◌then◌else◌}
 use Rattle.rows.specs.Scan.{lowest}
 use Rattle.rows.specs.Slots.{holding}
 use Rattle.rows.specs.Table.{Layout, Table, room, found}
@@ -22,13 +22,13 @@ use Rattle.guide.proofs.Lowest.{lowest_or, lowest_one}
 -- ---- one row, from what stands in its slot
 
 module _ {A : Type 0} (q : A → Bool) (o : Option A) (x : A) (r n : ℕ) (e : o ≡ some x) where
-  pub row_that : q x ≡ true → r ≡ (if holding q o then r else n)
+  pub row_that : q x ≡ true → r ≡ (if_true holding q o then r else n)
   row_that h = rw (e, h)
 
-  pub row_other : q x ≡ false → n ≡ (if holding q o then r else n)
+  pub row_other : q x ≡ false → n ≡ (if_true holding q o then r else n)
   row_other h = rw (e, h)
 
-pub row_none : {A : Type 0} (q : A → Bool) (o : Option A) (r n : ℕ) → o ≡ none → n ≡ (if holding q o then r else n)
+pub row_none : {A : Type 0} (q : A → Bool) (o : Option A) (r n : ℕ) → o ≡ none → n ≡ (if_true holding q o then r else n)
 row_none q o r n e = rw e
 
 each_of : (h a b c : Bool) → (h && ((a || b) || c)) ≡ (((h && a) || (h && b)) || (h && c))
@@ -49,7 +49,7 @@ module _ {A : Type 0} (L : Layout A) (q : A → Bool) (T : Table) where
 
   -- ---- three looks
 
-  one_row : (r : ℕ) → (if holding q (get_or (view L T) r none) then r else room L T) ≡ one r
+  one_row : (r : ℕ) → (if_true holding q (get_or (view L T) r none) then r else room L T) ≡ one r
   one_row r =
       sym
       (lowest_one test (room L T) r (holding q (get_or (view L T) r none)) (λ l. ap (holding q) (view_at L T r l)) (λ l. ap (holding q) (view_past L T r l)))
@@ -61,13 +61,13 @@ module _ {A : Type 0} (L : Layout A) (q : A → Bool) (T : Table) where
       ∙ sym (lowest_or (λ k. (test k && eqb (name_a w) k) || (test k && eqb (name_b w) k)) (λ k. test k && eqb (name_c w) k) (room L T))
       ∙ lowest_ext _ _ (room L T) (λ k l. sym (each_of (test k) (eqb (name_a w) k) (eqb (name_b w) k) (eqb (name_c w) k)))
 
-  look : (n a x r : ℕ) → n ≡ room L T → a ≡ r → x ≡ (if holding q (get_or (view L T) a none) then a else n) → x ≡ one r
+  look : (n a x r : ℕ) → n ≡ room L T → a ≡ r → x ≡ (if_true holding q (get_or (view L T) a none) then a else n) → x ≡ one r
   look n a x r en ea ex = ex ∙ rw (en, ea) (one_row r)
 
   pub named_row_is : (w n a x b y c z m r : ℕ) → n ≡ room L T
-      → a ≡ name_a w → x ≡ (if holding q (get_or (view L T) a none) then a else n)
-      → b ≡ name_b w → y ≡ (if holding q (get_or (view L T) b none) then b else n)
-      → c ≡ name_c w → z ≡ (if holding q (get_or (view L T) c none) then c else n)
+      → a ≡ name_a w → x ≡ (if_true holding q (get_or (view L T) a none) then a else n)
+      → b ≡ name_b w → y ≡ (if_true holding q (get_or (view L T) b none) then b else n)
+      → c ≡ name_c w → z ≡ (if_true holding q (get_or (view L T) c none) then c else n)
       → m ≡ min x y → r ≡ min m z → r ≡ low w
   named_row_is w n a x b y c z m r en ea ex eb ey ec ez em er =
       er ∙ ap (λ (i : ℕ). min i z) em

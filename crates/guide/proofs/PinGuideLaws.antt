@@ -9,7 +9,7 @@ use native.Mathlib.Omega.{arith}
 use lib.Dec.{eqb, leb}
 use lib.ListN.{length, get_or, replicate, get_or-replicate, length-replicate}
 use borrow.Author.Tests.{eqb-true, ne_eqb, le-leb, leb-true}
-use Rattle.words.specs.Choice.{if◌then◌else◌}
+use Rattle.words.specs.Choice.{if_true◌then◌else◌}
 use Rattle.rows.specs.Scan.{how_many}
 use Rattle.rows.specs.Slots.{holding}
 use Rattle.rows.specs.Table.{Table, room, found, counted, stored, ended}
@@ -40,7 +40,7 @@ pub cell_is_low : (t : ℕ) → cell_of t < 18
 unfolding cell_of
 cell_is_low t = go (leb t 16) refl
   where
-    go : (x : Bool) → leb t 16 ≡ x → (if x then t else 17) < 18
+    go : (x : Bool) → leb t 16 ≡ x → (if_true x then t else 17) < 18
     go true a = let p = leb-true t 16 a in omega (arith, p)
     go false a = omega arith
 
@@ -88,7 +88,7 @@ cell_is_thread : (t : ℕ) (x : Pin) → t ≤ 16 → eqb (cell x) (cell_of t) �
 unfolding cell_of
 cell_is_thread t x a = rw (le-leb t 16 a) (go (leb x.thread 16) refl)
   where
-    go : (y : Bool) → leb x.thread 16 ≡ y → eqb (if y then x.thread else 17) t ≡ eqb x.thread t
+    go : (y : Bool) → leb x.thread 16 ≡ y → eqb (if_true y then x.thread else 17) t ≡ eqb x.thread t
     go true e = refl
     go false e = ne_eqb 17 t (λ q. absurd (omega (arith, q))) ∙ sym (ne_eqb x.thread t (λ q. false≢true (sym e ∙ le-leb x.thread 16 (omega (arith, q)))))
 

@@ -10,7 +10,7 @@ use lib.Dec.{eqb, ltb}
 use lib.ListN.{length, get_or, set}
 use lib.Seq.{get_or-set_same, get_or-set_other}
 use borrow.Author.Tests.{eq-eqb, ne_eqb, lt-ltb}
-use Rattle.words.specs.Choice.{if◌then◌else◌, one}
+use Rattle.words.specs.Choice.{if_true◌then◌else◌, one}
 use Rattle.rows.specs.Scan.{how_many}
 use Rattle.rows.specs.Slots.{holding}
 use Rattle.rows.specs.Table.{most}
@@ -75,18 +75,18 @@ module _ {A : Type 0} (cell : A → ℕ) where
         self : one (eqb (cell x) (cell x)) ≡ 1
         self = ap one (eq-eqb (cell x) (cell x) refl)
 
-        now : (if ltb v most then suc v else v) ≡ suc v
+        now : (if_true ltb v most then suc v else v) ≡ suc v
         now = rw (lt-ltb v most (omega (arith, c (cell x) inside, tally_le S' n' (cell x), few, grows (cell x), self))) refl
 
-        go : Dec (k ≡ cell x) → get_or (set G (from + cell x) (if ltb v most then suc v else v)) (from + k) 0 ≡ tally cell S' n' k
+        go : Dec (k ≡ cell x) → get_or (set G (from + cell x) (if_true ltb v most then suc v else v)) (from + k) 0 ≡ tally cell S' n' k
         go (yes e) =
-            ap (λ (i : ℕ). get_or (set G (from + cell x) (if ltb v most then suc v else v)) (from + i) 0) e
-            ∙ get_or-set_same G (from + cell x) (if ltb v most then suc v else v) 0 (omega arith)
+            ap (λ (i : ℕ). get_or (set G (from + cell x) (if_true ltb v most then suc v else v)) (from + i) 0) e
+            ∙ get_or-set_same G (from + cell x) (if_true ltb v most then suc v else v) 0 (omega arith)
             ∙ now
             ∙ omega (arith, grows (cell x), self, c (cell x) inside)
             ∙ ap (tally cell S' n') (sym e)
         go (no d) =
-            get_or-set_other G (from + cell x) (from + k) (if ltb v most then suc v else v) 0 (omega (arith, d))
+            get_or-set_other G (from + cell x) (from + k) (if_true ltb v most then suc v else v) 0 (omega (arith, d))
             ∙ (let g = grows k in let o : one (eqb (cell x) k) ≡ 0 = ap one (ne_eqb (cell x) k (λ q. d (sym q))) in omega (arith, g, o, c k h))
 
     -- and one less

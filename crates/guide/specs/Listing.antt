@@ -1,7 +1,7 @@
 -- Each row that is used is listed at one of two places of a guide, or both are full. Assumes nothing.
 use Rattle.std.specs.Prelude.{◌≡◌, Bool, true, not, ◌&&◌, ◌||◌, List, ℕ, ◌<◌, eqb, get_or, set}
 use Rattle.std.proofs.Math.Option.{Option, none, some}
-use Rattle.words.specs.Choice.{if◌then◌else◌}
+use Rattle.words.specs.Choice.{if_true◌then◌else◌}
 use Rattle.rows.specs.Scan.{lowest}
 use Rattle.rows.specs.Slots.{holding}
 use Rattle.rows.specs.Table.{Layout, Table, room}
@@ -29,9 +29,9 @@ module _ {A : Type 0} (L : Layout A) where
     -- word w of place s with row r instead of one that does not want it; where all three do, w is full
     unfoldable pub with_row : Table → ℕ → ℕ → ℕ → ℕ
     with_row T s w r =
-        if not (wants T s (name_a w)) then word_of r (name_b w) (name_c w) (above w)
-        else if not (wants T s (name_b w)) then word_of (name_a w) r (name_c w) (above w)
-        else if not (wants T s (name_c w)) then word_of (name_a w) (name_b w) r (above w)
+        if_true not (wants T s (name_a w)) then word_of r (name_b w) (name_c w) (above w)
+        else if_true not (wants T s (name_b w)) then word_of (name_a w) r (name_c w) (above w)
+        else if_true not (wants T s (name_c w)) then word_of (name_a w) (name_b w) r (above w)
         else word_of (name_a w) (name_b w) (name_c w) 1
 
     abbrev pub put_row_at : Table → List ℕ → ℕ → ℕ → List ℕ
@@ -40,7 +40,7 @@ module _ {A : Type 0} (L : Layout A) where
     -- row r listed at place a, or at b where a is full
     unfoldable pub with_listed : Table → List ℕ → ℕ → ℕ → ℕ → List ℕ
     with_listed T G a b r =
-        if named (with_row T a (word_at G a) r) r then put_row_at T G a r
+        if_true named (with_row T a (word_at G a) r) r then put_row_at T G a r
         else put_row_at T (put_row_at T G a r) b r
 
     -- what the guide is for: of the first n rows, each that is used is listed

@@ -1,7 +1,7 @@
 -- The guide of pin rows: where a buffer is listed, and how many buffers each thread has. Assumes nothing.
 use Rattle.std.specs.Prelude.{◌≡◌, List, ℕ, zero, suc, ◌+◌, ◌*◌, ◌/◌, ◌%◌, leb, length, get_or}
 use Rattle.std.proofs.Math.Option.{Option, none, some}
-use Rattle.words.specs.Choice.{if◌then◌else◌}
+use Rattle.words.specs.Choice.{if_true◌then◌else◌}
 use Rattle.rows.specs.declared.pins.Pin.{Pin}
 use Rattle.rows.specs.Table.{Table, room}
 use Rattle.rows.specs.View.{slot, view}
@@ -31,7 +31,7 @@ second x = second_of x.thread x.family x.buffer
 
 -- threads 0 to 16, and one cell for all others
 unfoldable pub cell_of : ℕ → ℕ
-cell_of t = if leb t 16 then t else 17
+cell_of t = if_true leb t 16 then t else 17
 
 abbrev pub cell : Pin → ℕ
 cell x = cell_of x.thread

@@ -2,7 +2,7 @@
 use Rattle.std.specs.Prelude.{◌≡◌, ◌&&◌, List, ℕ, zero, suc, ◌+◌, ◌-◌, ◌*◌, ◌/◌, ◌%◌, leb, length, get_or}
 use Rattle.std.proofs.Math.Option.{Option, none, some}
 use Rattle.std.specs.Int.Bits.{bit_or}
-use Rattle.words.specs.Choice.{if◌then◌else◌}
+use Rattle.words.specs.Choice.{if_true◌then◌else◌}
 use Rattle.rows.specs.declared.references.Reference.{Reference}
 use Rattle.rows.specs.Table.{Table, room}
 use Rattle.rows.specs.View.{slot, view}
@@ -55,7 +55,7 @@ abbrev pub second : Reference → ℕ
 second x = second_of x.thread x.handle
 
 unfoldable pub cell_of : ℕ → ℕ → ℕ
-cell_of t f = if leb t 16 && leb f 64 then t * 65 + f else others
+cell_of t f = if_true leb t 16 && leb f 64 then t * 65 + f else others
 
 abbrev pub cell : Reference → ℕ
 cell x = cell_of x.thread x.frame

@@ -1,14 +1,14 @@
 -- How many used rows fall to each cell: numbers behind one another in a guide. Assumes nothing.
 use Rattle.std.specs.Prelude.{◌≡◌, List, ℕ, suc, ◌+◌, ◌-◌, ◌<◌, eqb, ltb, get_or, set}
 use Rattle.std.proofs.Math.Option.{Option}
-use Rattle.words.specs.Choice.{if◌then◌else◌}
+use Rattle.words.specs.Choice.{if_true◌then◌else◌}
 use Rattle.rows.specs.Scan.{how_many}
 use Rattle.rows.specs.Slots.{holding}
 use Rattle.rows.specs.Table.{most}
 
 -- one more, never above the most rows of a room; and one less
 unfoldable pub more_at : List ℕ → ℕ → List ℕ
-more_at G k = set G k (if ltb (get_or G k 0) most then suc (get_or G k 0) else get_or G k 0)
+more_at G k = set G k (if_true ltb (get_or G k 0) most then suc (get_or G k 0) else get_or G k 0)
 
 unfoldable pub less_at : List ℕ → ℕ → List ℕ
 less_at G k = set G k (get_or G k 0 - 1)

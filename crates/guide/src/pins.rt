@@ -1,7 +1,7 @@
 // The guide of pin rows: where a buffer is listed, and how many buffers each thread has.
 ghost use Rattle.std.specs.Prelude.{◌≡◌, ◌&&◌, ◌+◌, ◌<◌, get_or};
 ghost use Rattle.std.proofs.Math.Option.{none};
-ghost use Rattle.words.specs.Choice.{if◌then◌else◌};
+ghost use Rattle.words.specs.Choice.{if_true◌then◌else◌};
 ghost use Rattle.rows.specs.Scan.{lowest};
 ghost use Rattle.rows.specs.Slots.{holding};
 ghost use Rattle.rows.specs.Table.{table, room};
@@ -51,7 +51,7 @@ fn row_or(
     f: Number,
     b: Number,
 ) -> usize
-    ensures { result ≡ (if holding (is_buffer t f b) (get_or (view pins (table rows.now marks.now)) r none) then r else n) }
+    ensures { result ≡ (if_true holding (is_buffer t f b) (get_or (view pins (table rows.now marks.now)) r none) then r else n) }
 {
     let held = rows::pins::slot(rows, marks, r);
     match held {

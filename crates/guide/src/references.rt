@@ -1,7 +1,7 @@
 // The guide of reference rows: where the handle of a thread is listed, how many locals each frame has and where they stand, and where the lowest free row may stand.
 ghost use Rattle.std.specs.Prelude.{◌≡◌, ◌&&◌, ◌+◌, ◌-◌, ◌<◌, ◌≤◌, min, length, get_or};
 ghost use Rattle.std.proofs.Math.Option.{none};
-ghost use Rattle.words.specs.Choice.{if◌then◌else◌};
+ghost use Rattle.words.specs.Choice.{if_true◌then◌else◌};
 ghost use Rattle.rows.specs.Scan.{lowest};
 ghost use Rattle.rows.specs.Slots.{holding};
 ghost use Rattle.rows.specs.Marks.{word};
@@ -59,7 +59,7 @@ fn second_of(t: Number, h: Number) -> usize
 
 // Row r where it is that of handle h in thread t, else n.
 fn row_or(rows: &[Number], marks: &[u64], r: usize, n: usize, t: Number, h: Number) -> usize
-    ensures { result ≡ (if holding (is_handle t h) (get_or (view references (table rows.now marks.now)) r none) then r else n) }
+    ensures { result ≡ (if_true holding (is_handle t h) (get_or (view references (table rows.now marks.now)) r none) then r else n) }
 {
     let held = rows::references::slot(rows, marks, r);
     match held {

@@ -6,7 +6,7 @@ use mathlib.Core.List.{List, ◌∷◌, tail}
 use lib.Dec.{eqb}
 use lib.IntN.{ℤ, pos}
 use lib.ListN.{length, drop}
-use Rattle.words.specs.Choice.{if◌then◌else◌}
+use Rattle.words.specs.Choice.{if_true◌then◌else◌}
 use Rattle.facts.specs.Named.{PushLocalFrame, PopLocalFrame, EnsureLocalCapacity, MonitorEnter, MonitorExit}
 use Rattle.lines.specs.Line.{N, X, C, R, is_zero, above_zero}
 use Rattle.history.specs.Past.{History}
@@ -98,8 +98,8 @@ module _ (t f p : ℕ) (r : ℤ) (past : History) where
   pub other_status_frames : is_zero r ≡ false → frames t (R t f r p ∷ past) ≡ frames t past
   other_status_frames z =
       own_frames t (R t f r p) past (eqb_self t)
-      ∙ ap (λ (q : Bool). if eqb f PushLocalFrame && q then pushed ∷ frames t past else frames t past) z
-      ∙ ap (λ (q : Bool). if q then pushed ∷ frames t past else frames t past) (and-false (eqb f PushLocalFrame))
+      ∙ ap (λ (q : Bool). if_true eqb f PushLocalFrame && q then pushed ∷ frames t past else frames t past) z
+      ∙ ap (λ (q : Bool). if_true q then pushed ∷ frames t past else frames t past) (and-false (eqb f PushLocalFrame))
 
   -- and raises no capacity
   pub other_status_capacities : is_zero r ≡ false → capacities t (R t f r p ∷ past) ≡ capacities t past

@@ -9,7 +9,7 @@ use lib.Dec.{eqb, leb, ltb}
 use lib.IntN.{ℤ, pos, negsuc}
 use lib.ListN.{length}
 use borrow.Author.Tests.{eqb-true, eqb-false, ne_eqb, lt-ltb, ltb-true, lt-leb, leb-false, not-true}
-use Rattle.words.specs.Choice.{if◌then◌else◌}
+use Rattle.words.specs.Choice.{if_true◌then◌else◌}
 use Rattle.words.specs.Lists.{count, sum}
 use Rattle.facts.specs.Table.{fact_of, is_allowed_pending, is_allowed_critical}
 use Rattle.facts.specs.Named.{PopLocalFrame, MonitorExit}
@@ -80,10 +80,10 @@ module _ (room : Room) (past : History) (so_far : Accepted room past) where
   when_right e rule place true x h = h refl
   when_right e rule place false x h = tt
 
-  if_right : (e : Line) (rule k : ℕ) (a b : Option ℕ) → (rule ≡ k → Right e rule 0 a) → Right e rule 0 b → Right e rule 0 (if eqb rule k then a else b)
+  if_right : (e : Line) (rule k : ℕ) (a b : Option ℕ) → (rule ≡ k → Right e rule 0 a) → Right e rule 0 b → Right e rule 0 (if_true eqb rule k then a else b)
   if_right e rule k a b x y = go (eqb rule k) refl
     where
-      go : (q : Bool) → eqb rule k ≡ q → Right e rule 0 (if q then a else b)
+      go : (q : Bool) → eqb rule k ≡ q → Right e rule 0 (if_true q then a else b)
       go true e = x (eqb-true _ _ e)
       go false e = y
 
@@ -195,14 +195,14 @@ module _ (room : Room) (past : History) (so_far : Accepted room past) where
   place_right (N t env hs) rule place h = absurd (none-ne-some rule h)
   place_right (X t r) rule place h = go (eqb place 1) refl h
     where
-      go : (q : Bool) → eqb place 1 ≡ q → rule_here no_class (if q then Place.HandleOrNull else Place.Unused) t 0 r (seen past) ≡ some rule → Broken past (X t r) rule place r
+      go : (q : Bool) → eqb place 1 ≡ q → rule_here no_class (if_true q then Place.HandleOrNull else Place.Unused) t 0 r (seen past) ≡ some rule → Broken past (X t r) rule place r
       go true e k = rw (eqb-true place 1 e) (at_result t r rule ((place_is room past so_far t 0 no_class Place.HandleOrNull r rule).0 k))
       go false e k = absurd (none-ne-some rule k)
   place_right (C t env f a b c n) rule place h = go (eqb place 1) refl (eqb place 2) refl (eqb place 3) refl h
     where
       go : (x : Bool) → eqb place 1 ≡ x → (y : Bool) → eqb place 2 ≡ y → (z : Bool) → eqb place 3 ≡ z
-          → rule_here (if x then class_a f else if y then class_b f else no_class) (if x then (fact_of f).a else if y then (fact_of f).b else if z then (fact_of f).c else Place.Unused) t f (if x then a else if y then b else c) (seen past) ≡ some rule
-          → Broken past (C t env f a b c n) rule place (if x then a else if y then b else c)
+          → rule_here (if_true x then class_a f else if_true y then class_b f else no_class) (if_true x then (fact_of f).a else if_true y then (fact_of f).b else if_true z then (fact_of f).c else Place.Unused) t f (if_true x then a else if_true y then b else c) (seen past) ≡ some rule
+          → Broken past (C t env f a b c n) rule place (if_true x then a else if_true y then b else c)
       go true e y ey z ez k = rw (eqb-true place 1 e) (at_a t env f a b c rule n ((place_is room past so_far t f (class_a f) (fact_of f).a a rule).0 k))
       go false e true ey z ez k = rw (eqb-true place 2 ey) (at_b t env f a b c rule n ((place_is room past so_far t f (class_b f) (fact_of f).b b rule).0 k))
       go false e false ey true ez k = rw (eqb-true place 3 ez) (at_c t env f a b c rule n ((place_is room past so_far t f no_class (fact_of f).c c rule).0 k))
@@ -217,7 +217,7 @@ module _ (room : Room) (past : History) (so_far : Accepted room past) where
   unfolding breach
   breach_right e rule place = go (eqb place 0) refl
     where
-      go : (q : Bool) → eqb place 0 ≡ q → Right e rule place (if q then line_rule e (seen past) rule else when (is_rule rule (rule_at e (seen past) place)) (value_at e place))
+      go : (q : Bool) → eqb place 0 ≡ q → Right e rule place (if_true q then line_rule e (seen past) rule else when (is_rule rule (rule_at e (seen past) place)) (value_at e place))
       go true z = rw (eqb-true place 0 z) (line_right e rule)
       go false z = when_right e rule place (is_rule rule (rule_at e (seen past) place)) (value_at e place) (λ h. place_right e rule place (that_rule rule (rule_at e (seen past) place) h))
 

@@ -9,7 +9,7 @@ use native.Mathlib.Omega.{arith}
 use lib.Dec.{eqb, ltb}
 use lib.IntN.{pos, negsuc}
 use borrow.Author.Tests.{eqb-true, eqb-false, ne_eqb, lt-ltb, ltb-true}
-use Rattle.words.specs.Choice.{if◌then◌else◌, one}
+use Rattle.words.specs.Choice.{if_true◌then◌else◌, one}
 use Rattle.words.specs.Lists.{count, but_first}
 use Rattle.facts.specs.Table.{fact_of}
 use Rattle.facts.specs.declared.Place.{Place}
@@ -77,13 +77,13 @@ getting (X t r) x m = absurd (Memᴰ.not-nil m)
 getting (C t env f a b c n) x m = absurd (Memᴰ.not-nil m)
 getting (R t f (pos b) p) x m = go (is_buffer_result (fact_of f).result) refl (eqb b 0) refl m
   where
-    go : (q : Bool) → is_buffer_result (fact_of f).result ≡ q → (z : Bool) → eqb b 0 ≡ z → Memᴰ x (if q && not z then pin t f b ∷ [] else []) → Gets (R t f (pos b) p) x
+    go : (q : Bool) → is_buffer_result (fact_of f).result ≡ q → (z : Bool) → eqb b 0 ≡ z → Memᴰ x (if_true q && not z then pin t f b ∷ [] else []) → Gets (R t f (pos b) p) x
     go true eq false ez m = rw (Memᴰ.eq_of_singleton m) (at_return t f b p (buffer_result (fact_of f).result eq) (eqb-false _ _ ez))
     go true eq true ez m = absurd (Memᴰ.not-nil m)
     go false eq z ez m = absurd (Memᴰ.not-nil m)
 getting (R t f (negsuc b) p) x m = go (is_buffer_result (fact_of f).result) m
   where
-    go : (q : Bool) → Memᴰ x (if q && false then pin t f 0 ∷ [] else []) → Gets (R t f (negsuc b) p) x
+    go : (q : Bool) → Memᴰ x (if_true q && false then pin t f 0 ∷ [] else []) → Gets (R t f (negsuc b) p) x
     go true m = absurd (Memᴰ.not-nil m)
     go false m = absurd (Memᴰ.not-nil m)
 getting (A t env) x m = absurd (Memᴰ.not-nil m)

@@ -8,7 +8,7 @@ use lib.Dec.{eqb}
 use lib.IntN.{ℤ, pos}
 use lib.ListN.{length}
 use borrow.Author.Tests.{ltb-false}
-use Rattle.words.specs.Choice.{if◌then◌else◌}
+use Rattle.words.specs.Choice.{if_true◌then◌else◌}
 use Rattle.facts.specs.Named.{PushLocalFrame, PopLocalFrame, EnsureLocalCapacity}
 use Rattle.lines.specs.Line.{Line, N, X, C, R, is_zero, above_zero}
 use Rattle.history.specs.Past.{History}
@@ -65,13 +65,13 @@ matching_ensure t env a b c p n inside past w old lower is =
 
 -- ---- frames
 
-left_popped : (b : Bool) (fs : List Frame) → without_native (if b then without_pushed fs else fs) ≡ without_native fs
+left_popped : (b : Bool) (fs : List Frame) → without_native (if_true b then without_pushed fs else fs) ≡ without_native fs
 left_popped true [] = refl
 left_popped true (entered ∷ fs) = refl
 left_popped true (pushed ∷ fs) = refl
 left_popped false fs = refl
 
-left_pushed : (b : Bool) (fs : List Frame) → without_native (if b then pushed ∷ fs else fs) ≡ without_native fs
+left_pushed : (b : Bool) (fs : List Frame) → without_native (if_true b then pushed ∷ fs else fs) ≡ without_native fs
 left_pushed true fs = refl
 left_pushed false fs = refl
 

@@ -7,7 +7,7 @@ use native.Mathlib.Nat.{sub_self}
 use native.Mathlib.Omega.{arith}
 use lib.Dec.{eqb}
 use lib.ListN.{length, drop, length-drop}
-use Rattle.words.specs.Choice.{if◌then◌else◌}
+use Rattle.words.specs.Choice.{if_true◌then◌else◌}
 use Rattle.facts.specs.Named.{PushLocalFrame, PopLocalFrame, EnsureLocalCapacity}
 use Rattle.lines.specs.Line.{Line, N, X, C, R, A, D, Z, states, is_zero}
 use Rattle.history.specs.Past.{History, is_of, through}
@@ -54,12 +54,12 @@ fit_line (N s env hs) held n fs cs h = ap suc h
 fit_line (X s r) held n fs cs h = dropped (length fs) (length (without_native fs)) cs h (native_less fs)
 fit_line (C s env f a b c m) held n fs cs h = go (eqb f PopLocalFrame)
   where
-    go : (q : Bool) → length (drop (length fs - length (if q then without_pushed fs else fs)) cs) ≡ length (if q then without_pushed fs else fs)
+    go : (q : Bool) → length (drop (length fs - length (if_true q then without_pushed fs else fs)) cs) ≡ length (if_true q then without_pushed fs else fs)
     go true = dropped (length fs) (length (without_pushed fs)) cs h (pushed_less fs)
     go false = dropped (length fs) (length fs) cs h (omega arith)
 fit_line (R s f r p) held n fs cs h = go (is_zero r) (eqb f PushLocalFrame) (eqb f EnsureLocalCapacity)
   where
-    go : (z q u : Bool) → length (if not z then cs else if q then n ∷ cs else if u then raised (held + n) cs else cs) ≡ length (if q && z then pushed ∷ fs else fs)
+    go : (z q u : Bool) → length (if_true not z then cs else if_true q then n ∷ cs else if_true u then raised (held + n) cs else cs) ≡ length (if_true q && z then pushed ∷ fs else fs)
     go false true u = h
     go false false u = h
     go true true u = ap suc h

@@ -9,7 +9,7 @@ use native.Mathlib.Omega.{arith}
 use lib.Dec.{eqb, leb}
 use lib.ListN.{length}
 use borrow.Author.Tests.{eqb-true, eqb-false, ne_eqb, eq-eqb, leb-true, leb-false, le-leb, not-true}
-use Rattle.words.specs.Choice.{if◌then◌else◌, one}
+use Rattle.words.specs.Choice.{if_true◌then◌else◌, one}
 use Rattle.words.specs.Lists.{count}
 use Rattle.facts.specs.Classes.{object, class, string, throwable, is_reserved, no_class}
 use Rattle.lines.specs.Line.{Line, N, X, C, R, A, D, Z, states, K, O, M, if_K◌then◌else◌, classes, is_class, is_allowed}
@@ -193,8 +193,8 @@ module _ (room : Room) where
       let (is, some) = super_is past so_far c s sp in
       go (eqb c k) (rw (ne_eqb c no_class some, is) (chain_leads past so_far n s k ch))
     where
-      go : (q : Bool) → (if eqb c no_class then false else leads (super_of past) (suc n) (super (super_of past) c) k) ≡ true
-          → (if q then true else if eqb c no_class then false else leads (super_of past) (suc n) (super (super_of past) c) k) ≡ true
+      go : (q : Bool) → (if_true eqb c no_class then false else leads (super_of past) (suc n) (super (super_of past) c) k) ≡ true
+          → (if_true q then true else if_true eqb c no_class then false else leads (super_of past) (suc n) (super (super_of past) c) k) ≡ true
       go true h = refl
       go false h = h
 
@@ -370,7 +370,7 @@ module _ (room : Room) where
   leads_more of (suc n) (suc m) c k l h = go (eqb c k) (eqb c no_class) (leads_more of n m (super of c) k (omega arith)) h
     where
       go : (p q : Bool) → (leads of n (super of c) k ≡ true → leads of m (super of c) k ≡ true)
-          → (if p then true else if q then false else leads of n (super of c) k) ≡ true → (if p then true else if q then false else leads of m (super of c) k) ≡ true
+          → (if_true p then true else if_true q then false else leads of n (super of c) k) ≡ true → (if_true p then true else if_true q then false else leads of m (super of c) k) ≡ true
       go true q ih h = refl
       go false true ih h = h
       go false false ih h = ih h
@@ -394,8 +394,8 @@ module _ (room : Room) where
   unfolding super
   super_so past c nz = go (is_reserved c) refl (eqb c object) refl nz
     where
-      go : (p : Bool) → is_reserved c ≡ p → (q : Bool) → eqb c object ≡ q → (if p then (if q then no_class else object) else super_of past c) ≢ no_class
-          → Super past c (if p then (if q then no_class else object) else super_of past c)
+      go : (p : Bool) → is_reserved c ≡ p → (q : Bool) → eqb c object ≡ q → (if_true p then (if_true q then no_class else object) else super_of past c) ≢ no_class
+          → Super past c (if_true p then (if_true q then no_class else object) else super_of past c)
       go true e true f nz = absurd (nz refl)
       go true e false f nz = reserved_super past c e f
       go false e q f nz = by_K c (super_of past c) (super_declared past c nz)
@@ -408,7 +408,7 @@ module _ (room : Room) where
     where
       go : (p : Bool) → eqb c k ≡ p → (q : Bool) → (r : Bool) → eqb (super (super_of past) c) no_class ≡ r
           → (leads (super_of past) n (super (super_of past) c) k ≡ true → AtOrBelow past (super (super_of past) c) k)
-          → (if p then true else if q then false else leads (super_of past) n (super (super_of past) c) k) ≡ true → AtOrBelow past c k
+          → (if_true p then true else if_true q then false else leads (super_of past) n (super (super_of past) c) k) ≡ true → AtOrBelow past c k
       go true e q r f ih h = inl (eqb-true c k e)
       go false e true r f ih h = absurd (false≢true h)
       go false e false true f ih h = true_not_false (leads (super_of past) n (super (super_of past) c) k) h (rw (eqb-true (super (super_of past) c) no_class f) (none_leads (super_of past) n k nz))

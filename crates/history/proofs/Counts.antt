@@ -9,7 +9,7 @@ use native.Mathlib.Omega.{arith}
 use lib.Dec.{ltb}
 use lib.ListN.{length}
 use borrow.Author.Tests.{lt-ltb, ltb-true, ltb-false}
-use Rattle.words.specs.Choice.{if◌then◌else◌, one}
+use Rattle.words.specs.Choice.{if_true◌then◌else◌, one}
 use Rattle.words.specs.Lists.{any, keep, count, but_first}
 use Rattle.history.proofs.Tests.{one_le, either}
 
@@ -17,11 +17,11 @@ module _ {ℓ} {A : Type ℓ} where
   pub count_cons : (f : A → Bool) (x : A) (l : List A) → count f (x ∷ l) ≡ one (f x) + count f l
   count_cons f x l = go (f x)
     where
-      go : (b : Bool) → (if b then suc (count f l) else count f l) ≡ one b + count f l
+      go : (b : Bool) → (if_true b then suc (count f l) else count f l) ≡ one b + count f l
       go true = omega arith
       go false = omega arith
 
-  pub count_if : (f : A → Bool) (b : Bool) (x : A) (l : List A) → count f (if b then x ∷ l else l) ≡ one (b && f x) + count f l
+  pub count_if : (f : A → Bool) (b : Bool) (x : A) (l : List A) → count f (if_true b then x ∷ l else l) ≡ one (b && f x) + count f l
   count_if f true x l = count_cons f x l
   count_if f false x l = omega arith
 
@@ -49,7 +49,7 @@ module _ {ℓ} {A : Type ℓ} where
   keep_append f [] m = refl
   keep_append f (x ∷ l) m = go (f x) (keep_append f l m)
     where
-      go : (b : Bool) → keep f (l ++ m) ≡ keep f l ++ keep f m → (if b then x ∷ keep f (l ++ m) else keep f (l ++ m)) ≡ (if b then x ∷ keep f l else keep f l) ++ keep f m
+      go : (b : Bool) → keep f (l ++ m) ≡ keep f l ++ keep f m → (if_true b then x ∷ keep f (l ++ m) else keep f (l ++ m)) ≡ (if_true b then x ∷ keep f l else keep f l) ++ keep f m
       go true ih = ap (λ (k : List A). x ∷ k) ih
       go false ih = ih
 
@@ -58,15 +58,15 @@ module _ {ℓ} {A : Type ℓ} where
   keep_kept f g (x ∷ l) = go (g x) (keep_kept f g l)
     where
       go : (b : Bool) → keep f (keep g l) ≡ keep (λ y. g y && f y) l
-          → keep f (if b then x ∷ keep g l else keep g l) ≡ (if b && f x then x ∷ keep (λ y. g y && f y) l else keep (λ y. g y && f y) l)
-      go true ih = ap (λ (k : List A). if f x then x ∷ k else k) ih
+          → keep f (if_true b then x ∷ keep g l else keep g l) ≡ (if_true b && f x then x ∷ keep (λ y. g y && f y) l else keep (λ y. g y && f y) l)
+      go true ih = ap (λ (k : List A). if_true f x then x ∷ k else k) ih
       go false ih = ih
 
   pub length_keep : (f : A → Bool) (l : List A) → length (keep f l) ≡ count f l
   length_keep f [] = refl
   length_keep f (x ∷ l) = go (f x) (length_keep f l)
     where
-      go : (b : Bool) → length (keep f l) ≡ count f l → length (if b then x ∷ keep f l else keep f l) ≡ (if b then suc (count f l) else count f l)
+      go : (b : Bool) → length (keep f l) ≡ count f l → length (if_true b then x ∷ keep f l else keep f l) ≡ (if_true b then suc (count f l) else count f l)
       go true ih = ap suc ih
       go false ih = ih
 
@@ -98,8 +98,8 @@ module _ {ℓ} {A : Type ℓ} where
   keep_but d g (x ∷ l) e = go (g x) (d x) (count_cons g x l) (keep_but d g l)
     where
       go : (b c : Bool) → count g (x ∷ l) ≡ one b + count g l → (count g l ≡ 0 → keep (λ x. not (d x || g x)) l ≡ keep (λ x. not (d x)) l)
-          → (if not (c || b) then x ∷ keep (λ x. not (d x || g x)) l else keep (λ x. not (d x || g x)) l)
-          ≡ (if not c then x ∷ keep (λ x. not (d x)) l else keep (λ x. not (d x)) l)
+          → (if_true not (c || b) then x ∷ keep (λ x. not (d x || g x)) l else keep (λ x. not (d x || g x)) l)
+          ≡ (if_true not c then x ∷ keep (λ x. not (d x)) l else keep (λ x. not (d x)) l)
       go true c k ih = absurd (omega (arith, e))
       go false true k ih = ih (omega (arith, e))
       go false false k ih = ap (λ (m : List A). x ∷ m) (ih (omega (arith, e)))
@@ -109,7 +109,7 @@ module _ {ℓ} {A : Type ℓ} where
   keep_all g (x ∷ l) e = go (g x) (count_cons g x l) (keep_all g l)
     where
       go : (b : Bool) → count g (x ∷ l) ≡ one b + count g l → (count g l ≡ 0 → keep (λ x. not (g x)) l ≡ l)
-          → (if not b then x ∷ keep (λ x. not (g x)) l else keep (λ x. not (g x)) l) ≡ x ∷ l
+          → (if_true not b then x ∷ keep (λ x. not (g x)) l else keep (λ x. not (g x)) l) ≡ x ∷ l
       go true k ih = absurd (omega (arith, e))
       go false k ih = ap (λ (m : List A). x ∷ m) (ih (omega (arith, e)))
 
@@ -119,7 +119,7 @@ module _ {ℓ} {A : Type ℓ} where
   but_first_is g (x ∷ l) h = go (g x) (count_cons g x l) (but_first_is g l)
     where
       go : (b : Bool) → count g (x ∷ l) ≡ one b + count g l → (count g l ≤ 1 → but_first g l ≡ keep (λ x. not (g x)) l)
-          → (if b then l else x ∷ but_first g l) ≡ (if not b then x ∷ keep (λ x. not (g x)) l else keep (λ x. not (g x)) l)
+          → (if_true b then l else x ∷ but_first g l) ≡ (if_true not b then x ∷ keep (λ x. not (g x)) l else keep (λ x. not (g x)) l)
       go true k ih = sym (keep_all g l (omega (arith, h)))
       go false k ih = ap (λ (m : List A). x ∷ m) (ih (omega (arith, h)))
 
@@ -130,7 +130,7 @@ module _ {ℓ} {A : Type ℓ} where
   count_but_first f g v h (x ∷ l) = go (g x) (h x) (count_but_first f g v h l)
     where
       go : (b : Bool) → (b ≡ true → f x ≡ v) → count f (but_first g l) + one (ltb 0 (count g l) && v) ≡ count f l
-          → count f (if b then l else x ∷ but_first g l) + one (ltb 0 (if b then suc (count g l) else count g l) && v) ≡ count f (x ∷ l)
+          → count f (if_true b then l else x ∷ but_first g l) + one (ltb 0 (if_true b then suc (count g l) else count g l) && v) ≡ count f (x ∷ l)
       go true e ih = rw (lt-ltb 0 (suc (count g l)) (omega arith), ← e refl) (omega (arith, count_cons f x l))
       go false e ih = omega (arith, ih, count_cons f x l, count_cons f x (but_first g l))
 
@@ -140,7 +140,7 @@ module _ {ℓ} {A : Type ℓ} where
   count_but_other f g h (x ∷ l) = go (g x) refl (f x) refl (count_but_other f g h l)
     where
       go : (b : Bool) → g x ≡ b → (c : Bool) → f x ≡ c → count f (but_first g l) ≡ count f l
-          → count f (if b then l else x ∷ but_first g l) ≡ (if c then suc (count f l) else count f l)
+          → count f (if_true b then l else x ∷ but_first g l) ≡ (if_true c then suc (count f l) else count f l)
       go true eb true ec ih = absurd (false≢true (sym (h x ec) ∙ eb))
       go true eb false ec ih = refl
       go false eb true ec ih = rw ec (ap suc ih)
@@ -152,7 +152,7 @@ module _ {ℓ} {A : Type ℓ} where
   member_counts f [] x m h = absurd (Memᴰ.not-nil m)
   member_counts f (y ∷ l) x m h = go (f y) refl (Memᴰ.cases_cons m) (λ k. member_counts f l x k h)
     where
-      go : (q : Bool) → f y ≡ q → (x ≡ y) ⊎ Memᴰ x l → (Memᴰ x l → 0 < count f l) → 0 < (if q then suc (count f l) else count f l)
+      go : (q : Bool) → f y ≡ q → (x ≡ y) ⊎ Memᴰ x l → (Memᴰ x l → 0 < count f l) → 0 < (if_true q then suc (count f l) else count f l)
       go true e c r = omega arith
       go false e (inl p) r = absurd (false≢true (sym e ∙ ap f (sym p) ∙ h))
       go false e (inr k) r = r k
@@ -161,7 +161,7 @@ module _ {ℓ} {A : Type ℓ} where
   some_member f [] h = absurd (omega (arith, h))
   some_member f (y ∷ l) h = go (f y) refl h (λ k. some_member f l k)
     where
-      go : (q : Bool) → f y ≡ q → 0 < (if q then suc (count f l) else count f l) → (0 < count f l → (x : A) × Memᴰ x l × (f x ≡ true))
+      go : (q : Bool) → f y ≡ q → 0 < (if_true q then suc (count f l) else count f l) → (0 < count f l → (x : A) × Memᴰ x l × (f x ≡ true))
           → (x : A) × Memᴰ x (y ∷ l) × (f x ≡ true)
       go true e k r = (y, Memᴰ.head refl, e)
       go false e k r = let (x, m, g) = r k in (x, Memᴰ.tail m, g)
@@ -170,7 +170,7 @@ module _ {ℓ} {A : Type ℓ} where
   any_counts f [] = refl
   any_counts f (x ∷ l) = go (f x) (any_counts f l)
     where
-      go : (b : Bool) → any f l ≡ ltb 0 (count f l) → (b || any f l) ≡ ltb 0 (if b then suc (count f l) else count f l)
+      go : (b : Bool) → any f l ≡ ltb 0 (count f l) → (b || any f l) ≡ ltb 0 (if_true b then suc (count f l) else count f l)
       go true ih = sym (lt-ltb 0 (suc (count f l)) (omega arith))
       go false ih = ih
 
@@ -195,7 +195,7 @@ module _ {ℓ} {A : Type ℓ} where
   keep_member f [] m = absurd (Memᴰ.not-nil m)
   keep_member {x} f (y ∷ l) m = go (f y) refl m (keep_member f l)
     where
-      go : (q : Bool) → f y ≡ q → Memᴰ x (if q then y ∷ keep f l else keep f l)
+      go : (q : Bool) → f y ≡ q → Memᴰ x (if_true q then y ∷ keep f l else keep f l)
           → (Memᴰ x (keep f l) → Memᴰ x l × (f x ≡ true)) → Memᴰ x (y ∷ l) × (f x ≡ true)
       go true e m ih = first (Memᴰ.cases_cons m)
         where
@@ -208,7 +208,7 @@ module _ {ℓ} {A : Type ℓ} where
   but_first_member f [] m = m
   but_first_member {x} f (y ∷ l) m = go (f y) m (but_first_member f l)
     where
-      go : (q : Bool) → Memᴰ x (if q then l else y ∷ but_first f l) → (Memᴰ x (but_first f l) → Memᴰ x l) → Memᴰ x (y ∷ l)
+      go : (q : Bool) → Memᴰ x (if_true q then l else y ∷ but_first f l) → (Memᴰ x (but_first f l) → Memᴰ x l) → Memᴰ x (y ∷ l)
       go true m ih = Memᴰ.tail m
       go false m ih = first (Memᴰ.cases_cons m)
         where
@@ -220,11 +220,11 @@ module _ {ℓ} {A : Type ℓ} where
   member_kept f [] m h = absurd (Memᴰ.not-nil m)
   member_kept {x} f (y ∷ l) m h = go (Memᴰ.cases_cons m) (λ i. member_kept f l i h)
     where
-      rest : (q : Bool) → Memᴰ x (keep f l) → Memᴰ x (if q then y ∷ keep f l else keep f l)
+      rest : (q : Bool) → Memᴰ x (keep f l) → Memᴰ x (if_true q then y ∷ keep f l else keep f l)
       rest true i = Memᴰ.tail i
       rest false i = i
 
-      go : (x ≡ y) ⊎ Memᴰ x l → (Memᴰ x l → Memᴰ x (keep f l)) → Memᴰ x (if f y then y ∷ keep f l else keep f l)
+      go : (x ≡ y) ⊎ Memᴰ x l → (Memᴰ x l → Memᴰ x (keep f l)) → Memᴰ x (if_true f y then y ∷ keep f l else keep f l)
       go (inl e) ih = rw (sym (ap f e) ∙ h) (Memᴰ.head e)
       go (inr i) ih = rest (f y) (ih i)
 
@@ -235,7 +235,7 @@ keep_map f g [] = refl
 keep_map {A} {B} f g (x ∷ l) = go (f (g x)) (keep_map f g l)
   where
     go : (b : Bool) → keep f (map g l) ≡ map g (keep (λ y. f (g y)) l)
-        → (if b then g x ∷ keep f (map g l) else keep f (map g l)) ≡ map g (if b then x ∷ keep (λ y. f (g y)) l else keep (λ y. f (g y)) l)
+        → (if_true b then g x ∷ keep f (map g l) else keep f (map g l)) ≡ map g (if_true b then x ∷ keep (λ y. f (g y)) l else keep (λ y. f (g y)) l)
     go true ih = ap (λ (m : List B). g x ∷ m) ih
     go false ih = ih
 

@@ -7,7 +7,7 @@ use mathlib.Core.List.{[], ◌∷◌, ◌++◌, Memᴰ}
 use native.Mathlib.Omega.{arith}
 use lib.Dec.{eqb, leb}
 use borrow.Author.Tests.{eqb-true, eqb-false, ne_eqb, leb-true}
-use Rattle.words.specs.Choice.{if◌then◌else◌}
+use Rattle.words.specs.Choice.{if_true◌then◌else◌}
 use Rattle.lines.specs.Line.{Line, N, X, C, R, A, D, Z, states, is_thread, is_allowed}
 use Rattle.history.specs.Past.{History, is_of, through}
 use Rattle.history.specs.Thread.{all_threads, env_of, env_after}
@@ -27,7 +27,7 @@ own_line : (t s env : ℕ) (e : Line) → Brings s env e → is_of t e ≡ eqb t
 own_line t s env _ (by_N hs) = refl
 own_line t s env _ by_A = refl
 
-brought : (t env : ℕ) (e : Line) (past : History) → Brings t env e → env_of t (e ∷ past) ≡ (if eqb (env_of t past) 0 then env else env_of t past)
+brought : (t env : ℕ) (e : Line) (past : History) → Brings t env e → env_of t (e ∷ past) ≡ (if_true eqb (env_of t past) 0 then env else env_of t past)
 brought t env _ past (by_N hs) = own_env t (N t env hs) past (eqb_self t)
 brought t env _ past by_A = own_env t (A t env) past (eqb_self t)
 
@@ -109,9 +109,9 @@ entered_apart room t env e past b k right s d nz apart = go (eqb (env_of t past)
   where
     go : (q : Bool) → eqb (env_of t past) 0 ≡ q → env_of s past ≢ env_of t (e ∷ past)
     go true z is =
-        let same : env_of s past ≡ env = is ∙ brought t env e past b ∙ ap (λ (b : Bool). if b then env else env_of t past) z in
+        let same : env_of s past ≡ env = is ∙ brought t env e past b ∙ ap (λ (b : Bool). if_true b then env else env_of t past) z in
         true_not_false (env_right e (seen past)) right ((env_is past e).1 (shared_env e t env s b (entered_thread room past k s nz) d same))
-    go false z is = apart (is ∙ brought t env e past b ∙ ap (λ (b : Bool). if b then env else env_of t past) z)
+    go false z is = apart (is ∙ brought t env e past b ∙ ap (λ (b : Bool). if_true b then env else env_of t past) z)
 
 -- no two threads share one
 pub envs_apart : (room : Room) (past : History) → Accepted room past → (s t : ℕ) → s ≢ t → env_of s past ≢ 0 → env_of s past ≢ env_of t past

@@ -7,7 +7,7 @@ use native.Mathlib.Omega.{arith}
 use lib.Dec.{eqb}
 use lib.IntN.{ℤ}
 use lib.ListN.{length, drop}
-use Rattle.words.specs.Choice.{if◌then◌else◌}
+use Rattle.words.specs.Choice.{if_true◌then◌else◌}
 use Rattle.facts.specs.Named.{PushLocalFrame, PopLocalFrame, EnsureLocalCapacity}
 use Rattle.lines.specs.Line.{Line, N, X, C, R, is_zero}
 use Rattle.history.specs.Past.{History, is_of}
@@ -49,7 +49,7 @@ lower_raised k fs (c ∷ cs) h = ap (λ (n : ℕ). drop n (max c k ∷ cs)) some
     some_gone = omega (arith, below_top fs (omega (arith, h)))
 
 called : (b : Bool) (fs : List Frame) (cs : List ℕ) → length cs ≡ length fs
-    → lower (if b then without_pushed fs else fs) (drop (length fs - length (if b then without_pushed fs else fs)) cs) ≡ lower fs cs
+    → lower (if_true b then without_pushed fs else fs) (drop (length fs - length (if_true b then without_pushed fs else fs)) cs) ≡ lower fs cs
 called true [] cs h = ap (lower []) (nothing_dropped 0 cs)
 called true (entered ∷ fs) cs h = ap (lower (entered ∷ fs)) (nothing_dropped (suc (length fs)) cs)
 called true (pushed ∷ fs) [] h = absurd (omega (arith, h))
@@ -57,7 +57,7 @@ called true (pushed ∷ fs) (c ∷ cs) h = ap (lower fs) (one_dropped (length fs
 called false fs cs h = ap (lower fs) (nothing_dropped (length fs) cs)
 
 returned : (z q u : Bool) (held n : ℕ) (fs : List Frame) (cs : List ℕ) → length cs ≡ length fs
-    → lower (if q && z then pushed ∷ fs else fs) (if not z then cs else if q then n ∷ cs else if u then raised (held + n) cs else cs) ≡ lower fs cs
+    → lower (if_true q && z then pushed ∷ fs else fs) (if_true not z then cs else if_true q then n ∷ cs else if_true u then raised (held + n) cs else cs) ≡ lower fs cs
 returned false true u held n fs cs h = refl
 returned false false u held n fs cs h = refl
 returned true true u held n fs cs h = lower_pushed n fs cs

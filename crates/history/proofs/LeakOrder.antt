@@ -8,7 +8,7 @@ use native.Mathlib.Omega.{arith}
 use lib.Dec.{eqb, leb}
 use lib.ListN.{length, length-map, length-append}
 use borrow.Author.Tests.{leb-true, leb-false, eqb-true, eqb-false, eq-eqb}
-use Rattle.words.specs.Choice.{if◌then◌else◌, one}
+use Rattle.words.specs.Choice.{if_true◌then◌else◌, one}
 use Rattle.words.specs.Lists.{keep, count}
 use Rattle.history.specs.Handles.{Alive, global_or_weak}
 use Rattle.history.specs.Buffers.{Pin}
@@ -23,7 +23,7 @@ count_placed : (f : Leak → Bool) (x : Leak) (ys : List Leak) → count f (plac
 count_placed f x [] = count_cons f x []
 count_placed f x (y ∷ ys) = go (leb x.line y.line) (count_placed f x ys)
   where
-    go : (b : Bool) → count f (placed x ys) ≡ one (f x) + count f ys → count f (if b then x ∷ y ∷ ys else y ∷ placed x ys) ≡ one (f x) + count f (y ∷ ys)
+    go : (b : Bool) → count f (placed x ys) ≡ one (f x) + count f ys → count f (if_true b then x ∷ y ∷ ys else y ∷ placed x ys) ≡ one (f x) + count f (y ∷ ys)
     go true ih = count_cons f x (y ∷ ys)
     go false ih = omega (arith, ih, count_cons f y ys, count_cons f y (placed x ys))
 
@@ -56,7 +56,7 @@ member_placed {z} x (y ∷ ys) m = go (leb x.line y.line) (member_placed x ys) m
     later : Memᴰ z (x ∷ ys) → Memᴰ z (x ∷ y ∷ ys)
     later k = either (Memᴰ.cases_cons k) (λ is. Memᴰ.head is) (λ j. Memᴰ.tail (Memᴰ.tail j))
 
-    go : (b : Bool) → (Memᴰ z (placed x ys) → Memᴰ z (x ∷ ys)) → Memᴰ z (if b then x ∷ y ∷ ys else y ∷ placed x ys) → Memᴰ z (x ∷ y ∷ ys)
+    go : (b : Bool) → (Memᴰ z (placed x ys) → Memᴰ z (x ∷ ys)) → Memᴰ z (if_true b then x ∷ y ∷ ys else y ∷ placed x ys) → Memᴰ z (x ∷ y ∷ ys)
     go true ih k = k
     go false ih k = either (Memᴰ.cases_cons k) (λ is. Memᴰ.tail (Memᴰ.head is)) (λ j. later (ih j))
 
@@ -72,7 +72,7 @@ placed_in_order : (x : Leak) (ys : List Leak) → InOrder ys → InOrder (placed
 placed_in_order x [] k = then_more x [] (λ y m. absurd (Memᴰ.not-nil m)) no_more
 placed_in_order x (y ∷ ys) (then_more _ _ before rest) = go (leb x.line y.line) refl (placed_in_order x ys rest)
   where
-    go : (b : Bool) → leb x.line y.line ≡ b → InOrder (placed x ys) → InOrder (if b then x ∷ y ∷ ys else y ∷ placed x ys)
+    go : (b : Bool) → leb x.line y.line ≡ b → InOrder (placed x ys) → InOrder (if_true b then x ∷ y ∷ ys else y ∷ placed x ys)
     go true e ih =
         let le = leb-true x.line y.line e in
         then_more x (y ∷ ys)
@@ -95,24 +95,24 @@ keep_placed : (n : ℕ) (x : Leak) (ys : List Leak) → keep (of_making_line n) 
 keep_placed n x [] = refl
 keep_placed n x (y ∷ ys) = go (leb x.line y.line) refl (keep_placed n x ys)
   where
-    turned : (p q : Bool) (l : List Leak) → (p ≡ true → q ≡ true → ⊥) → (if q then y ∷ (if p then x ∷ l else l) else if p then x ∷ l else l) ≡ (if p then x ∷ (if q then y ∷ l else l) else if q then y ∷ l else l)
+    turned : (p q : Bool) (l : List Leak) → (p ≡ true → q ≡ true → ⊥) → (if_true q then y ∷ (if_true p then x ∷ l else l) else if_true p then x ∷ l else l) ≡ (if_true p then x ∷ (if_true q then y ∷ l else l) else if_true q then y ∷ l else l)
     turned true true l h = absurd (h refl refl)
     turned true false l h = refl
     turned false true l h = refl
     turned false false l h = refl
 
     go : (b : Bool) → leb x.line y.line ≡ b → keep (of_making_line n) (placed x ys) ≡ keep (of_making_line n) (x ∷ ys)
-        → keep (of_making_line n) (if b then x ∷ y ∷ ys else y ∷ placed x ys) ≡ keep (of_making_line n) (x ∷ y ∷ ys)
+        → keep (of_making_line n) (if_true b then x ∷ y ∷ ys else y ∷ placed x ys) ≡ keep (of_making_line n) (x ∷ y ∷ ys)
     go true e ih = refl
     go false e ih =
-        ap (λ (l : List Leak). if of_making_line n y then y ∷ l else l) ih
+        ap (λ (l : List Leak). if_true of_making_line n y then y ∷ l else l) ih
         ∙ turned (of_making_line n x) (of_making_line n y) (keep (of_making_line n) ys)
         (λ p q. omega (arith, leb-false x.line y.line e, eqb-true x.line n p, eqb-true y.line n q))
 
 kept_by_line : (n : ℕ) (xs : List Leak) → keep (of_making_line n) (by_line xs) ≡ keep (of_making_line n) xs
 unfolding by_line
 kept_by_line n [] = refl
-kept_by_line n (x ∷ xs) = keep_placed n x (by_line xs) ∙ ap (λ (l : List Leak). if of_making_line n x then x ∷ l else l) (kept_by_line n xs)
+kept_by_line n (x ∷ xs) = keep_placed n x (by_line xs) ∙ ap (λ (l : List Leak). if_true of_making_line n x then x ∷ l else l) (kept_by_line n xs)
 
 -- ---- the leaks
 

@@ -5,7 +5,7 @@ use mathlib.Core.List.{List, [], ◌∷◌, map}
 use lib.Dec.{leb}
 use lib.IntN.{pos, negsuc}
 use lib.ListN.{length}
-use Rattle.words.specs.Choice.{if◌then◌else◌}
+use Rattle.words.specs.Choice.{if_true◌then◌else◌}
 use Rattle.lines.specs.Line.{Line, N, X, C, R, A, D, Z}
 use Rattle.lines.specs.Reading.{refused, read}
 use Rattle.history.specs.Past.{History}
@@ -94,9 +94,9 @@ tried_hold = refl
 -- line 1,000,001 is 1 whatever it holds
 pub line_1000001 : (room : Room) (past : History) (bs : List ℕ) → length past ≡ 1000000 → verdict room past bs ≡ refused 1
 unfolding verdict
-line_1000001 room past bs h = ap (λ (n : ℕ). if leb most_lines n then refused 1 else weighed room past (read bs)) h
+line_1000001 room past bs h = ap (λ (n : ℕ). if_true leb most_lines n then refused 1 else weighed room past (read bs)) h
 
 -- line 1,000,000 is weighed as any other
 pub line_1000000 : (room : Room) (past : History) (bs : List ℕ) → length past ≡ 999999 → verdict room past bs ≡ weighed room past (read bs)
 unfolding verdict
-line_1000000 room past bs h = ap (λ (n : ℕ). if leb most_lines n then refused 1 else weighed room past (read bs)) h
+line_1000000 room past bs h = ap (λ (n : ℕ). if_true leb most_lines n then refused 1 else weighed room past (read bs)) h

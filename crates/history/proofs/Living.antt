@@ -10,7 +10,7 @@ use lib.Dec.{eqb}
 use lib.IntN.{pos, negsuc}
 use lib.ListN.{length}
 use borrow.Author.Tests.{eqb-true, eqb-false, ne_eqb, lt-ltb, le-ltb, ltb-true, ltb-false, not-true}
-use Rattle.words.specs.Choice.{if◌then◌else◌}
+use Rattle.words.specs.Choice.{if_true◌then◌else◌}
 use Rattle.words.specs.Lists.{keep, count}
 use Rattle.facts.specs.Table.{fact_of}
 use Rattle.facts.specs.Named.{PushLocalFrame, PopLocalFrame, DeleteGlobalRef, DeleteLocalRef, DeleteWeakGlobalRef}
@@ -38,7 +38,7 @@ module _ (past : History) where
   made_makes (R t f (negsuc k) p) x m = absurd (Memᴰ.not-nil m)
   made_makes (R t f (pos h) p) x m = go (eqb h 0) refl (fact_of f).result refl m
     where
-      go : (q : Bool) → eqb h 0 ≡ q → (k : Result) → (fact_of f).result ≡ k → Memᴰ x (if q then [] else result_made k t (depth t past) h)
+      go : (q : Bool) → eqb h 0 ≡ q → (k : Result) → (fact_of f).result ≡ k → Memᴰ x (if_true q then [] else result_made k t (depth t past) h)
           → Makes past (R t f (pos h) p) x
       go true z k is m = absurd (Memᴰ.not-nil m)
       go false z Result.Local is m = rw (Memᴰ.eq_of_singleton m) (local_result t f h p is (eqb-false _ _ z))
@@ -75,7 +75,7 @@ module _ (past : History) where
   frame_left (C s env f a b c n) t d h k l o = go (eqb f PopLocalFrame) refl (frames t past) refl (own_depth t (C s env f a b c n) past o)
     where
       go : (q : Bool) → eqb f PopLocalFrame ≡ q → (fs : List Frame) → frames t past ≡ fs
-          → length (frames t (C s env f a b c n ∷ past)) ≡ length (if q then without_pushed fs else fs) → Ends past (C s env f a b c n) (local t d h)
+          → length (frames t (C s env f a b c n ∷ past)) ≡ length (if_true q then without_pushed fs else fs) → Ends past (C s env f a b c n) (local t d h)
       go true z [] is m = absurd (omega (arith, ap length is))
       go true z (entered ∷ fs) is m = absurd (omega (arith, ap length is))
       go true z (pushed ∷ fs) is m =
@@ -84,7 +84,7 @@ module _ (past : History) where
       go false z fs is m = absurd (omega (arith, ap length is))
   frame_left (R s f r p) t d h k l o = absurd (go (eqb f PushLocalFrame && is_zero r) (own_depth t (R s f r p) past o))
     where
-      go : (q : Bool) → length (frames t (R s f r p ∷ past)) ≡ length (if q then pushed ∷ frames t past else frames t past) → ⊥
+      go : (q : Bool) → length (frames t (R s f r p ∷ past)) ≡ length (if_true q then pushed ∷ frames t past else frames t past) → ⊥
       go true m = omega arith
       go false m = omega arith
   frame_left (A s env) t d h k l o = absurd (omega (arith, own_depth t (A s env) past o))
@@ -155,7 +155,7 @@ module _ (past : History) where
   there _ _ (local_result t f h p is nz) =
       le-ltb (depth t (R t f (pos h) p ∷ past)) (depth t past) (go (eqb f PushLocalFrame && eqb h 0) (own_depth t (R t f (pos h) p) past (eqb_self t)))
     where
-      go : (q : Bool) → length (frames t (R t f (pos h) p ∷ past)) ≡ length (if q then pushed ∷ frames t past else frames t past)
+      go : (q : Bool) → length (frames t (R t f (pos h) p ∷ past)) ≡ length (if_true q then pushed ∷ frames t past else frames t past)
           → length (frames t past) ≤ length (frames t (R t f (pos h) p ∷ past))
       go true m = omega arith
       go false m = omega arith

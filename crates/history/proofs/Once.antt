@@ -9,7 +9,7 @@ use lib.Dec.{eqb, leb}
 use lib.IntN.{ℤ, pos}
 use lib.ListN.{length}
 use borrow.Author.Tests.{eqb-true, ltb-false, not-true}
-use Rattle.words.specs.Choice.{if◌then◌else◌}
+use Rattle.words.specs.Choice.{if_true◌then◌else◌}
 use Rattle.words.specs.Lists.{any, keep, count}
 use Rattle.facts.specs.Table.{fact_of, is_function}
 use Rattle.facts.specs.declared.Result.{Result}
@@ -42,7 +42,7 @@ not_twice : (x : Alive) (l : List Alive) → twice l ≡ false → count (same_h
 not_twice x [] h = omega arith
 not_twice x (y ∷ l) h = go (same_handle x y) refl (not_twice x l (or_neither (any (same_handle y) l) (twice l) h).1)
   where
-    go : (q : Bool) → same_handle x y ≡ q → count (same_handle x) l ≤ 1 → (if q then suc (count (same_handle x) l) else count (same_handle x) l) ≤ 1
+    go : (q : Bool) → same_handle x y ≡ q → count (same_handle x) l ≤ 1 → (if_true q then suc (count (same_handle x) l) else count (same_handle x) l) ≤ 1
     go true e ih =
         let none_left : count (same_handle x) l ≡ 0 = ap (λ (f : Alive → Bool). count f l) (sym (same_test x y e)) ∙ none_counts (same_handle y) l (or_neither (any (same_handle y) l) (twice l) h).0 in
         omega arith

@@ -6,7 +6,7 @@ use mathlib.Core.List.{[], ◌∷◌, Memᴰ}
 use native.Mathlib.Omega.{arith}
 use lib.Dec.{eqb}
 use borrow.Author.Tests.{eqb-false, ne_eqb}
-use Rattle.words.specs.Choice.{if◌then◌else◌}
+use Rattle.words.specs.Choice.{if_true◌then◌else◌}
 use Rattle.words.specs.Lists.{count, but_first}
 use Rattle.facts.specs.Table.{fact_of, family, is_critical}
 use Rattle.facts.specs.Results.{is_buffer_result, is_buffer_place}
@@ -50,7 +50,7 @@ not_same : (t s f k b v : ℕ) → (t ≡ s → ⊥) → same_pin (critical t k 
 unfolding pin
 not_same t s f k b v d = go (is_critical (family f))
   where
-    go : (q : Bool) → same_pin (critical t k b) (if q then critical s (family f) v else ordinary (family f) v) ≡ false
+    go : (q : Bool) → same_pin (critical t k b) (if_true q then critical s (family f) v else ordinary (family f) v) ≡ false
     go true = rw (ne_eqb t s d)
     go false = refl
 
@@ -69,7 +69,7 @@ gets_none t k b (X s r) o = refl
 gets_none t k b (C s env f x y z n) o = refl
 gets_none t k b (R s f r p) o = go (is_buffer_result (fact_of f).result && not (eqb (above_zero r) 0))
   where
-    go : (q : Bool) → count (same_pin (critical t k b)) (if q then pin s f (above_zero r) ∷ [] else []) ≡ 0
+    go : (q : Bool) → count (same_pin (critical t k b)) (if_true q then pin s f (above_zero r) ∷ [] else []) ≡ 0
     go true = rw (not_same t s f k b (above_zero r) (eqb-false _ _ o))
     go false = refl
 gets_none t k b (A s env) o = refl

@@ -7,7 +7,7 @@ use mathlib.Core.Option.{Option, none, some, some-injective}
 use native.Mathlib.Omega.{arith}
 use lib.Dec.{eqb}
 use borrow.Author.Tests.{eqb-true, eqb-false, ne_eqb, eq-eqb}
-use Rattle.words.specs.Choice.{if◌then◌else◌}
+use Rattle.words.specs.Choice.{if_true◌then◌else◌}
 use Rattle.facts.specs.Classes.{no_class}
 use Rattle.facts.specs.Identities.{wanted_of, suits, writes_field}
 use Rattle.facts.specs.declared.Place.{Place}
@@ -93,7 +93,7 @@ module _ (room : Room) (past : History) (so_far : Accepted room past) (t v fixed
     handle_right p hp nz fit = go (eqb (kind v) 0) refl (handle_alive t v (seen past)) refl class_here refl (eqb (kind v) 1) refl
       where
         go : (a : Bool) → eqb (kind v) 0 ≡ a → (b : Bool) → handle_alive t v (seen past) ≡ b → (c : Bool) → class_here ≡ c
-            → (d : Bool) → eqb (kind v) 1 ≡ d → Right p (if a then some 4 else if b then when (not c) 4 else if d then some 11 else some 10)
+            → (d : Bool) → eqb (kind v) 1 ≡ d → Right p (if_true a then some 4 else if_true b then when (not c) 4 else if_true d then some 11 else some 10)
         go true ea b eb c ec d ed = wrong_kind p v nz (identity_there p v hp (eqb-true _ _ ea))
         go false ea true eb true ec d ed = tt
         go false ea true eb false ec d ed = other_class p v hp (fit (eqb-false (kind v) 0 ea)) ((class_wrong eb).0 ec)
@@ -109,7 +109,7 @@ module _ (room : Room) (past : History) (so_far : Accepted room past) (t v fixed
     unfolding kind_rule
     kind_right p k hp w only = go (eqb v 0) refl (eqb (kind v) k) refl
       where
-        go : (a : Bool) → eqb v 0 ≡ a → (b : Bool) → eqb (kind v) k ≡ b → Right p (if a then none else if b then handle_rule v (handle_alive t v (seen past)) class_here else some 4)
+        go : (a : Bool) → eqb v 0 ≡ a → (b : Bool) → eqb (kind v) k ≡ b → Right p (if_true a then none else if_true b then handle_rule v (handle_alive t v (seen past)) class_here else some 4)
         go true ea b eb = tt
         go false ea true eb = handle_right p hp (eqb-false v 0 ea) (λ nz. right_kind p v hp nz (λ j u. eqb-true (kind v) k eb ∙ only j u))
         go false ea false eb = wrong_kind p v (eqb-false _ _ ea) (other_kind p k v w (eqb-false _ _ eb))
@@ -122,7 +122,7 @@ module _ (room : Room) (past : History) (so_far : Accepted room past) (t v fixed
         none_wanted : (k : ℕ) → Wants Place.Handle k → kind v ≡ k
         none_wanted k w = elim w [ ]
 
-        go : (a : Bool) → eqb v 0 ≡ a → Right Place.Handle (if a then some 7 else handle_rule v (handle_alive t v (seen past)) class_here)
+        go : (a : Bool) → eqb v 0 ≡ a → Right Place.Handle (if_true a then some 7 else handle_rule v (handle_alive t v (seen past)) class_here)
         go true ea = rw (eqb-true v 0 ea) null_handle
         go false ea = handle_right Place.Handle at_r (eqb-false v 0 ea) (λ nz. right_kind Place.Handle v at_r nz none_wanted)
     place_right Place.HandleOrNull = go (eqb v 0) refl
@@ -130,7 +130,7 @@ module _ (room : Room) (past : History) (so_far : Accepted room past) (t v fixed
         none_wanted : (k : ℕ) → Wants Place.HandleOrNull k → kind v ≡ k
         none_wanted k w = elim w [ ]
 
-        go : (a : Bool) → eqb v 0 ≡ a → Right Place.HandleOrNull (if a then none else handle_rule v (handle_alive t v (seen past)) class_here)
+        go : (a : Bool) → eqb v 0 ≡ a → Right Place.HandleOrNull (if_true a then none else handle_rule v (handle_alive t v (seen past)) class_here)
         go true ea = tt
         go false ea = handle_right Place.HandleOrNull at_o (eqb-false _ _ ea) (λ nz. right_kind Place.HandleOrNull v at_o nz none_wanted)
     place_right Place.LocalOrNull = kind_right Place.LocalOrNull 1 at_l a_local only
@@ -151,7 +151,7 @@ module _ (room : Room) (past : History) (so_far : Accepted room past) (t v fixed
         x = identity_of past v
 
         go : (a : Bool) → eqb v 0 ≡ a → (b : Bool) → eqb (kind v) 0 ≡ b → (c : Bool) → is_wanted f x ≡ c → (w : Bool) → writes_field f ≡ w
-            → (d : Bool) → eqb x.isfinal 1 ≡ d → Right Place.Identity (if a then some 7 else if b then identity_rule c (not (w && d)) else some 4)
+            → (d : Bool) → eqb x.isfinal 1 ≡ d → Right Place.Identity (if_true a then some 7 else if_true b then identity_rule c (not (w && d)) else some 4)
         go true ea b eb c ec w ew d ed = rw (eqb-true v 0 ea) null_identity
         go false ea true eb false ec w ew d ed =
             either (identified_or_never past v)
@@ -174,7 +174,7 @@ module _ (room : Room) (past : History) (so_far : Accepted room past) (t v fixed
         go false ea false eb c ec w ew d ed = wrong_kind Place.Identity v (eqb-false _ _ ea) (handle_there v (eqb-false _ _ eb))
     place_right Place.Buffer = go (eqb v 0) refl (is_outstanding (same_pin (pin t f v)) (seen past)) refl
       where
-        go : (a : Bool) → eqb v 0 ≡ a → (b : Bool) → is_outstanding (same_pin (pin t f v)) (seen past) ≡ b → Right Place.Buffer (if a then some 7 else when (not b) 8)
+        go : (a : Bool) → eqb v 0 ≡ a → (b : Bool) → is_outstanding (same_pin (pin t f v)) (seen past) ≡ b → Right Place.Buffer (if_true a then some 7 else when (not b) 8)
         go true ea b eb = rw (eqb-true v 0 ea) null_buffer
         go false ea true eb = tt
         go false ea false eb = not_outstanding v (eqb-false _ _ ea) (λ o. true_not_false _ ((pin_out past (pin t f v)).1 o) eb)

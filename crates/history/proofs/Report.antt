@@ -8,7 +8,7 @@ use native.Mathlib.Omega.{arith}
 use lib.Dec.{eqb, ltb}
 use lib.ListN.{length}
 use borrow.Author.Tests.{ne_eqb}
-use Rattle.words.specs.Choice.{if◌then◌else◌}
+use Rattle.words.specs.Choice.{if_true◌then◌else◌}
 use Rattle.words.specs.Lists.{count, joined}
 use Rattle.words.specs.Text.{bytes, tab, line_feed}
 use Rattle.numbers.specs.Decimal.{zero_digit, digits_in, digits}
@@ -65,7 +65,7 @@ findings_lines (f ∷ fs) = omega (arith, count_append ends_line (shown_finding 
 word_no_end : (r : Run) → count ends_line (end_word r) ≡ 0
 word_no_end r = go (not (eqb r.refusal 0)) (closed r.accepted)
   where
-    go : (a b : Bool) → count ends_line (if a then bytes "refused" else if b then bytes "closed" else bytes "open") ≡ 0
+    go : (a b : Bool) → count ends_line (if_true a then bytes "refused" else if_true b then bytes "closed" else bytes "open") ≡ 0
     go true b = refl
     go false true = refl
     go false false = refl

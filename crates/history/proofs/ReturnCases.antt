@@ -163,7 +163,7 @@ returns =
     "8 9 0 0"
     ∷ "end open 8 0 1"
     ∷ [])
-    ∷ (case "218 takes one if there is any" reads
+    ∷ (case "218 takes one if_true there is any" reads
     "N 1 100 5"
     ∷ "C 1 100 218 5 0 0 0" ∷ "R 1 218 0 0"
     ∷ "C 1 100 217 5 0 0 0" ∷ "R 1 217 0 0"

@@ -8,7 +8,7 @@ use native.Mathlib.Omega.{arith}
 use lib.Dec.{leb}
 use lib.ListN.{length}
 use borrow.Author.Tests.{leb-true, le-leb}
-use Rattle.words.specs.Choice.{if◌then◌else◌}
+use Rattle.words.specs.Choice.{if_true◌then◌else◌}
 use Rattle.lines.specs.Line.{Line}
 use Rattle.lines.specs.Reading.{Read, says, refused, read}
 use Rattle.history.specs.Past.{History, thread_of}
@@ -68,8 +68,8 @@ module _ (a b : Room) (r : Roomier a b) where
   unfolding verdict
   verdict_more past bs h = go (leb most_lines (length past)) h
     where
-      go : (q : Bool) → (if q then refused 1 else weighed a past (read bs)) ≢ refused 7
-          → (if q then refused 1 else weighed b past (read bs)) ≡ (if q then refused 1 else weighed a past (read bs))
+      go : (q : Bool) → (if_true q then refused 1 else weighed a past (read bs)) ≢ refused 7
+          → (if_true q then refused 1 else weighed b past (read bs)) ≡ (if_true q then refused 1 else weighed a past (read bs))
       go true k = refl
       go false k = weighed_more past (read bs) k
 

@@ -8,7 +8,7 @@ use native.Mathlib.Omega.{arith}
 use lib.Dec.{eqb, ltb}
 use borrow.Author.Tests.{lt-ltb, ltb-true}
 use lib.ListN.{length}
-use Rattle.words.specs.Choice.{if◌then◌else◌}
+use Rattle.words.specs.Choice.{if_true◌then◌else◌}
 use Rattle.words.specs.Lists.{count}
 use Rattle.facts.specs.Named.{PushLocalFrame, PopLocalFrame, MonitorEnter, MonitorExit}
 use Rattle.lines.specs.Line.{Line, N, X, C, R, A, D, Z, states, is_zero}
@@ -53,13 +53,13 @@ count_left [] = refl
 count_left (entered ∷ fs) = refl
 count_left (pushed ∷ fs) = count_left fs
 
-count_popped : (b : Bool) (fs : List Frame) → count native_frame (if b then without_pushed fs else fs) ≡ count native_frame fs
+count_popped : (b : Bool) (fs : List Frame) → count native_frame (if_true b then without_pushed fs else fs) ≡ count native_frame fs
 count_popped true [] = refl
 count_popped true (entered ∷ fs) = refl
 count_popped true (pushed ∷ fs) = refl
 count_popped false fs = refl
 
-count_pushed : (b : Bool) (fs : List Frame) → count native_frame (if b then pushed ∷ fs else fs) ≡ count native_frame fs
+count_pushed : (b : Bool) (fs : List Frame) → count native_frame (if_true b then pushed ∷ fs else fs) ≡ count native_frame fs
 count_pushed true fs = refl
 count_pushed false fs = refl
 
@@ -68,13 +68,13 @@ based_left [] h = h
 based_left (entered ∷ fs) h = h
 based_left (pushed ∷ fs) h = based_left fs (and_right (ltb 0 (count native_frame fs)) (based fs) h)
 
-based_popped : (b : Bool) (fs : List Frame) → based fs ≡ true → based (if b then without_pushed fs else fs) ≡ true
+based_popped : (b : Bool) (fs : List Frame) → based fs ≡ true → based (if_true b then without_pushed fs else fs) ≡ true
 based_popped true [] h = h
 based_popped true (entered ∷ fs) h = h
 based_popped true (pushed ∷ fs) h = and_right (ltb 0 (count native_frame fs)) (based fs) h
 based_popped false fs h = h
 
-based_pushed : (b : Bool) (fs : List Frame) → 0 < count native_frame fs → based fs ≡ true → based (if b then pushed ∷ fs else fs) ≡ true
+based_pushed : (b : Bool) (fs : List Frame) → 0 < count native_frame fs → based fs ≡ true → based (if_true b then pushed ∷ fs else fs) ≡ true
 based_pushed true fs l h = and_both (ltb 0 (count native_frame fs)) (based fs) (lt-ltb 0 (count native_frame fs) l) h
 based_pushed false fs l h = h
 
@@ -186,7 +186,7 @@ one_monitor (R t f r p) m = go (not (is_zero r)) (eqb f MonitorEnter) (eqb f Mon
     less : pred m ≤ suc m
     less = omega arith
 
-    go : (a b c : Bool) → (if a then m else if b then suc m else if c then pred m else m) ≤ suc m
+    go : (a b c : Bool) → (if_true a then m else if_true b then suc m else if_true c then pred m else m) ≤ suc m
     go true b c = omega arith
     go false true c = omega arith
     go false false true = less

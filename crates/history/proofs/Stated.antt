@@ -9,7 +9,7 @@ use native.Mathlib.Omega.{arith}
 use lib.Dec.{eqb}
 use lib.IntN.{ℤ, pos, negsuc}
 use borrow.Author.Tests.{eqb-true, eqb-false, ne_eqb}
-use Rattle.words.specs.Choice.{if◌then◌else◌}
+use Rattle.words.specs.Choice.{if_true◌then◌else◌}
 use Rattle.words.specs.Lists.{any, count, of_first}
 use Rattle.facts.specs.Table.{table, fact_of}
 use Rattle.facts.specs.Classes.{class, no_class}
@@ -36,7 +36,7 @@ pub names_means : (t h : ℕ) (x : Alive) → names t h x ≡ true → Means t h
 unfolding names
 names_means t h x k = go (eqb (kind h) 0) refl (eqb (kind h) 1) refl x k
   where
-    go : (a : Bool) → eqb (kind h) 0 ≡ a → (b : Bool) → eqb (kind h) 1 ≡ b → (x : Alive) → (if a then false else if b then is_local t h x else is_shared h x) ≡ true → Means t h x
+    go : (a : Bool) → eqb (kind h) 0 ≡ a → (b : Bool) → eqb (kind h) 1 ≡ b → (x : Alive) → (if_true a then false else if_true b then is_local t h x else is_shared h x) ≡ true → Means t h x
     go true ea b eb x k = absurd (false≢true k)
     go false ea true eb (local s d g) k =
         let own = eqb-true s t (and_left (eqb s t) (eqb g h) k) in
@@ -57,12 +57,12 @@ unfolding handle_alive
 alive_named past t h = (go (eqb (kind h) 0) refl (eqb (kind h) 1) refl, back)
   where
     go : (a : Bool) → eqb (kind h) 0 ≡ a → (b : Bool) → eqb (kind h) 1 ≡ b
-        → (if a then false else if b then is_alive (is_local t h) (seen past) else is_alive (is_shared h) (seen past)) ≡ true → (x : Alive) × Means t h x × Lives x past
+        → (if_true a then false else if_true b then is_alive (is_local t h) (seen past) else is_alive (is_shared h) (seen past)) ≡ true → (x : Alive) × Means t h x × Lives x past
     go true ea b eb k = absurd (false≢true k)
     go false ea true eb k = let l = (local_alive past t h).0 k in (local t l.frame h, its_local l.frame h (eqb-true (kind h) 1 eb), l.lives)
     go false ea false eb k = (shared h, a_shared h (omega (arith, eqb-false (kind h) 0 ea, eqb-false (kind h) 1 eb)), (shared_alive past h).0 k)
 
-    back : (x : Alive) × Means t h x × Lives x past → (if eqb (kind h) 0 then false else if eqb (kind h) 1 then is_alive (is_local t h) (seen past) else is_alive (is_shared h) (seen past)) ≡ true
+    back : (x : Alive) × Means t h x × Lives x past → (if_true eqb (kind h) 0 then false else if_true eqb (kind h) 1 then is_alive (is_local t h) (seen past) else is_alive (is_shared h) (seen past)) ≡ true
     back (_, its_local d _ k, l) = rw k ((local_alive past t h).1 (record { frame = d; lives = l }))
     back (_, a_shared _ k, l) = rw (ne_eqb (kind h) 0 (λ z. omega (arith, z)), ne_eqb (kind h) 1 (λ z. omega (arith, z))) ((shared_alive past h).1 l)
 
@@ -79,7 +79,7 @@ abbrev class_in_line : Line → ℕ
 class_in_line e = if_O e then (λ t h c. c) else no_class
 
 pub class_next : (e : Line) (past : History) (x : Alive)
-    → class_stated (e ∷ past) x ≡ (if made_by_line e past x then class_by e else if stating e x then class_in_line e else class_stated past x)
+    → class_stated (e ∷ past) x ≡ (if_true made_by_line e past x then class_by e else if_true stating e x then class_in_line e else class_stated past x)
 unfolding class_stated
 class_next (N t env hs) past x = refl
 class_next (X t r) past x = refl
@@ -142,7 +142,7 @@ made_states (R t f r p) past x m nz = go (eqb f GetObjectClass) refl nz
         let (d, is) = same_local t (depth t past) h x (sym (made_by_31 t h p past x nz) ∙ m) in
         rw is (of_result t d h p nz))
 
-    go : (q : Bool) → eqb f GetObjectClass ≡ q → (if q then class else no_class) ≢ no_class → States (R t f r p) x (if q then class else no_class)
+    go : (q : Bool) → eqb f GetObjectClass ≡ q → (if_true q then class else no_class) ≢ no_class → States (R t f r p) x (if_true q then class else no_class)
     go true e nz =
         subst (λ (g : ℕ). made_by_line (R t g r p) past x ≡ true → States (R t g r p) x class) (sym (eqb-true f GetObjectClass e)) (result r) m
     go false e nz = absurd (nz refl)
@@ -195,7 +195,7 @@ computed_stated (e ∷ past) x c nz is =
     here s = record { newer = []; stater = e; older = past; split = refl; said = s; last = so_far }
 
     go : (p : Bool) → made_by_line e past x ≡ p → (q : Bool) → stating e x ≡ q → (class_stated past x ≡ c → Stated x c past)
-        → (if p then class_by e else if q then class_in_line e else class_stated past x) ≡ c → Stated x c (e ∷ past)
+        → (if_true p then class_by e else if_true q then class_in_line e else class_stated past x) ≡ c → Stated x c (e ∷ past)
     go true m q k ih is = here (subst (States e x) is (made_states e past x m (λ z. nz (sym is ∙ z))))
     go false m true k ih is = here (subst (States e x) is (states_by e x k))
     go false m false k ih is = stated_later e past x c m k (ih is)
@@ -246,7 +246,7 @@ any_frame : (past : History) (t d c h : ℕ) → class_stated past (local t d h)
 unfolding class_stated names
 any_frame [] t d c h = refl
 any_frame (e ∷ past) t d c h =
-    ap (λ (k : ℕ). if any (is_local t h) (makes e (depth (thread_of e) past)) then class_by e else if_O e then (λ s g j. if names s g (local t c h) then j else k) else k) (any_frame past t d c h)
+    ap (λ (k : ℕ). if_true any (is_local t h) (makes e (depth (thread_of e) past)) then class_by e else if_O e then (λ s g j. if_true names s g (local t c h) then j else k) else k) (any_frame past t d c h)
 
 pub same_class_stated : (past : History) (t h : ℕ) (x y : Alive) → Means t h x → Means t h y → class_stated past x ≡ class_stated past y
 same_class_stated past t _ _ _ (its_local d h k) m = go m
@@ -265,7 +265,7 @@ of_first_member test f [] x m k same = absurd (Memᴰ.not-nil m)
 of_first_member {A} test f (y ∷ l) x m k same =
     go (test y) refl (either (Memᴰ.cases_cons m) (λ is q. true_not_false (test y) (subst (λ (z : A). test z ≡ true) is k) q) (λ i q. of_first_member test f l x i k same))
   where
-    go : (q : Bool) → test y ≡ q → (test y ≡ false → of_first test f l ≡ f x) → (if q then f y else of_first test f l) ≡ f x
+    go : (q : Bool) → test y ≡ q → (test y ≡ false → of_first test f l ≡ f x) → (if_true q then f y else of_first test f l) ≡ f x
     go true e rest = same y e
     go false e rest = rest e
 
@@ -273,7 +273,7 @@ pub of_first_none : {A : Type 0} (test : A → Bool) (f : A → ℕ) (l : List A
 of_first_none test f [] none = refl
 of_first_none test f (x ∷ l) none = go (test x) none (λ h. of_first_none test f l h)
   where
-    go : (q : Bool) → (if q then suc (count test l) else count test l) ≡ 0 → (count test l ≡ 0 → of_first test f l ≡ 0) → (if q then f x else of_first test f l) ≡ 0
+    go : (q : Bool) → (if_true q then suc (count test l) else count test l) ≡ 0 → (count test l ≡ 0 → of_first test f l ≡ 0) → (if_true q then f x else of_first test f l) ≡ 0
     go true h ih = absurd (omega (arith, h))
     go false h ih = ih h
 

@@ -255,7 +255,7 @@ steps =
     ∷ "17 10 0 2"
     ∷ "end closed 17 0 3"
     ∷ [])
-    ∷ (case "each only if above zero" reads
+    ∷ (case "each only if_true above zero" reads
     "N 1 100 5"
     ∷ "C 1 100 226 5 0 0 0" ∷ "R 1 226 7 0"
     ∷ "Z"

@@ -5,7 +5,7 @@ use mathlib.Core.Bool.{Bool, true, false, false≢true}
 use mathlib.Core.List.{[], ◌∷◌}
 use lib.ListN.{length}
 use borrow.Author.Tests.{eqb-true}
-use Rattle.words.specs.Choice.{if◌then◌else◌}
+use Rattle.words.specs.Choice.{if_true◌then◌else◌}
 use Rattle.lines.specs.Line.{Line, N, X, C, R, A, D, Z, states}
 use Rattle.history.specs.Past.{History, thread_of, is_of, through}
 use Rattle.history.specs.Items.{items, items_after, top_of, asked}
@@ -17,11 +17,11 @@ use Rattle.history.specs.Thread.{pending, pending_after, monitors, monitors_afte
 module _ {A : Type 0} (after : Line → A → A) (x : A) (t : ℕ) (e : Line) (past : History) where
   through_own : is_of t e ≡ true → through after x t (e ∷ past) ≡ after e (through after x t past)
   unfolding through
-  through_own h = ap (λ (q : Bool). if q then after e (through after x t past) else through after x t past) h
+  through_own h = ap (λ (q : Bool). if_true q then after e (through after x t past) else through after x t past) h
 
   through_other : is_of t e ≡ false → through after x t (e ∷ past) ≡ through after x t past
   unfolding through
-  through_other h = ap (λ (q : Bool). if q then after e (through after x t past) else through after x t past) h
+  through_other h = ap (λ (q : Bool). if_true q then after e (through after x t past) else through after x t past) h
 
 module _ (t : ℕ) (e : Line) (past : History) where
   pub own_items : is_of t e ≡ true → items t (e ∷ past) ≡ items_after e (items t past)

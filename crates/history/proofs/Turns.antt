@@ -7,7 +7,7 @@ use mathlib.Core.List.{List, [], ◌∷◌, map, Memᴰ}
 use mathlib.Core.Option.{Option}
 use lib.Dec.{eqb}
 use borrow.Author.Tests.{eqb-true, eqb-false, eq-eqb, ne_eqb, not-true}
-use Rattle.words.specs.Choice.{if◌then◌else◌}
+use Rattle.words.specs.Choice.{if_true◌then◌else◌}
 use Rattle.words.specs.Lists.{any}
 use Rattle.facts.specs.Table.{fact_of}
 use Rattle.facts.specs.declared.Result.{Result}
@@ -223,7 +223,7 @@ is_twice t d _ (here h hs m) =
 is_twice t d _ (further h hs k) = or_right (any (is_local t h) (map (local t d) hs)) (twice (map (local t d) hs)) (is_twice t d hs k)
 
 -- only N makes more than one
-one_result : (b : Bool) (k : Result) (t d h : ℕ) → twice (if b then [] else result_made k t d h) ≡ false
+one_result : (b : Bool) (k : Result) (t d h : ℕ) → twice (if_true b then [] else result_made k t d h) ≡ false
 one_result true k t d h = refl
 one_result false Result.Local t d h = refl
 one_result false Result.Global t d h = refl

@@ -7,7 +7,7 @@ use mathlib.Core.List.{[], ◌∷◌}
 use native.Mathlib.Omega.{arith}
 use lib.Dec.{eqb, leb}
 use borrow.Author.Tests.{leb-true, le-leb, lt-leb, eqb-true}
-use Rattle.words.specs.Choice.{if◌then◌else◌, within}
+use Rattle.words.specs.Choice.{if_true◌then◌else◌, within}
 use Rattle.facts.specs.Table.{only, ◌to◌, lists}
 use Rattle.facts.specs.Identities.{method, field, wanted_of, suits, writes_field}
 use Rattle.facts.specs.declared.identities.Wanted.{Wanted}
@@ -45,12 +45,12 @@ suited f sort static =
     go : (a : Bool) → lists (28 to 30 ∷ 34 to 93 ∷ []) f ≡ a → (b : Bool) → lists (114 to 143 ∷ []) f ≡ b → (c : Bool) → lists (95 to 112 ∷ []) f ≡ c
         → (d : Bool) → lists (145 to 162 ∷ []) f ≡ d → (m : Bool) → lists (only 9 ∷ []) f ≡ m → (n : Bool) → lists (only 12 ∷ []) f ≡ n
         → suits
-        (if a then Wanted.ObjectMethod
-        else if b then Wanted.StaticMethod
-        else if c then Wanted.ObjectField
-        else if d then Wanted.StaticField
-        else if m then Wanted.AnyMethod
-        else if n then Wanted.AnyField
+        (if_true a then Wanted.ObjectMethod
+        else if_true b then Wanted.StaticMethod
+        else if_true c then Wanted.ObjectField
+        else if_true d then Wanted.StaticField
+        else if_true m then Wanted.AnyMethod
+        else if_true n then Wanted.AnyField
         else Wanted.Nothing)
         sort
         static

@@ -1,7 +1,7 @@
 -- Which line is accepted after a history: the numbers 4 to 7, 9 and 10. Assumes nothing.
 use Rattle.std.specs.Prelude.{ℕ, Bool, true, false, not, ◌&&◌, ◌||◌, List, [], ◌∷◌, eqb, leb, ltb, length}
 use Rattle.std.proofs.Math.Option.{Option}
-use Rattle.words.specs.Choice.{if◌then◌else◌}
+use Rattle.words.specs.Choice.{if_true◌then◌else◌}
 use Rattle.words.specs.Lists.{any}
 use Rattle.lines.specs.Line.{Line, if_opens◌then◌else◌, if_N◌then◌else◌, if_X◌then◌else◌, if_C◌then◌else◌, if_R◌then◌else◌, if_A◌then◌else◌, if_D◌then◌else◌, if_K◌then◌else◌, if_O◌then◌else◌, if_M◌then◌else◌}
 use Rattle.history.specs.Past.{History, thread_of, closed}
@@ -101,12 +101,12 @@ has_item_room e n =
 
 abbrev pub first_refusal : Bool → Bool → Bool → Bool → Bool → Bool → ℕ
 first_refusal step env anew classes alive room =
-    if not step then 4
-    else if not env then 5
-    else if not anew then 6
-    else if not classes then 9
-    else if not alive then 10
-    else if not room then 7
+    if_true not step then 4
+    else if_true not env then 5
+    else if_true not anew then 6
+    else if_true not classes then 9
+    else if_true not alive then 10
+    else if_true not room then 7
     else 0
 
 unfoldable pub refusal : Room → Line → History → ℕ

@@ -1,7 +1,7 @@
 -- The breaches of a line, by rule and place. Everything is judged before the line acts, except overflow and Z. Assumes nothing.
 use Rattle.std.specs.Prelude.{ℕ, suc, Bool, true, false, not, ◌&&◌, List, [], ◌∷◌, eqb, ltb, length}
 use Rattle.std.proofs.Math.Option.{Option, none, some}
-use Rattle.words.specs.Choice.{if◌then◌else◌}
+use Rattle.words.specs.Choice.{if_true◌then◌else◌}
 use Rattle.facts.specs.Table.{fact_of, is_allowed_pending, is_allowed_critical}
 use Rattle.facts.specs.Named.{PopLocalFrame, MonitorExit}
 use Rattle.facts.specs.Results.{is_local_result, is_handle_place, is_buffer_place, is_identity_place}
@@ -28,29 +28,29 @@ when false n = none
 -- wrong kind: 4; local not alive in this thread: 11; global or weak not alive: 10; a live handle of a wrong class: 4
 unfoldable pub handle_rule : ℕ → Bool → Bool → Option ℕ
 handle_rule h there fits =
-    if eqb (kind h) 0 then some 4
-    else if there then when (not fits) 4
-    else if eqb (kind h) 1 then some 11
+    if_true eqb (kind h) 0 then some 4
+    else if_true there then when (not fits) 4
+    else if_true eqb (kind h) 1 then some 11
     else some 10
 
 -- another kind under l g w: 4
 unfoldable pub kind_rule : ℕ → ℕ → Bool → Bool → Option ℕ
-kind_rule k h there fits = if eqb h 0 then none else if eqb (kind h) k then handle_rule h there fits else some 4
+kind_rule k h there fits = if_true eqb h 0 then none else if_true eqb (kind h) k then handle_rule h there fits else some 4
 
 -- an identity that is not stated, or of another sort or flag: 5; a final field written: 6
 abbrev pub identity_rule : Bool → Bool → Option ℕ
-identity_rule there fits = if there then when (not fits) 6 else some 5
+identity_rule there fits = if_true there then when (not fits) 6 else some 5
 
 -- null where r, i or b stands: 7; buffer not outstanding in its family (and thread, if critical): 8
 unfoldable pub place_rule : Place → ℕ → Bool → Bool → Option ℕ
 place_rule Place.Unused h there fits = none
-place_rule Place.Handle h there fits = if eqb h 0 then some 7 else handle_rule h there fits
-place_rule Place.HandleOrNull h there fits = if eqb h 0 then none else handle_rule h there fits
+place_rule Place.Handle h there fits = if_true eqb h 0 then some 7 else handle_rule h there fits
+place_rule Place.HandleOrNull h there fits = if_true eqb h 0 then none else handle_rule h there fits
 place_rule Place.LocalOrNull h there fits = kind_rule 1 h there fits
 place_rule Place.GlobalOrNull h there fits = kind_rule 2 h there fits
 place_rule Place.WeakOrNull h there fits = kind_rule 3 h there fits
-place_rule Place.Identity h there fits = if eqb h 0 then some 7 else if eqb (kind h) 0 then identity_rule there fits else some 4
-place_rule Place.Buffer h there fits = if eqb h 0 then some 7 else when (not there) 8
+place_rule Place.Identity h there fits = if_true eqb h 0 then some 7 else if_true eqb (kind h) 0 then identity_rule there fits else some 4
+place_rule Place.Buffer h there fits = if_true eqb h 0 then some 7 else when (not there) 8
 
 -- what is stated of an identity is what function f wants
 abbrev pub is_wanted : ℕ → Identity → Bool
@@ -63,14 +63,14 @@ may_take f x = not (writes_field f && eqb x.isfinal 1)
 -- the value at a place of function f, called by thread t
 unfoldable pub is_there : Place → ℕ → ℕ → ℕ → Seen → Bool
 is_there p t f h v =
-    if is_handle_place p then handle_alive t h v
-    else if is_buffer_place p then is_outstanding (same_pin (pin t f h)) v
-    else if is_identity_place p then is_wanted f (v.identity h)
+    if_true is_handle_place p then handle_alive t h v
+    else if_true is_buffer_place p then is_outstanding (same_pin (pin t f h)) v
+    else if_true is_identity_place p then is_wanted f (v.identity h)
     else false
 
 -- where a class is fixed: what is stated of the handle is that class, or below it, or nothing
 abbrev pub fits_here : ℕ → Place → ℕ → ℕ → ℕ → Seen → Bool
-fits_here fixed p t f h v = if is_identity_place p then may_take f (v.identity h) else class_fits v.super fixed (v.class t h)
+fits_here fixed p t f h v = if_true is_identity_place p then may_take f (v.identity h) else class_fits v.super fixed (v.class t h)
 
 -- where class `fixed` is fixed, or none
 abbrev pub rule_here : ℕ → Place → ℕ → ℕ → ℕ → Seen → Option ℕ
@@ -79,24 +79,24 @@ rule_here fixed p t f h v = place_rule p h (is_there p t f h v) (fits_here fixed
 -- places 1 to 3 are a b c; X's result is place 1 of kind `o`
 abbrev pub place_at : Line → ℕ → Place
 place_at e p =
-    if_X e then (λ t r. if eqb p 1 then Place.HandleOrNull else Place.Unused)
+    if_X e then (λ t r. if_true eqb p 1 then Place.HandleOrNull else Place.Unused)
     else if_C e then
     (λ t env f a b c n.
-    if eqb p 1 then (fact_of f).a
-    else if eqb p 2 then (fact_of f).b
-    else if eqb p 3 then (fact_of f).c
+    if_true eqb p 1 then (fact_of f).a
+    else if_true eqb p 2 then (fact_of f).b
+    else if_true eqb p 3 then (fact_of f).c
     else Place.Unused)
     else Place.Unused
 
 -- the class fixed for the place
 abbrev pub class_at : Line → ℕ → ℕ
 class_at e p =
-    if_C e then (λ t env f a b c n. if eqb p 1 then class_a f else if eqb p 2 then class_b f else no_class) else no_class
+    if_C e then (λ t env f a b c n. if_true eqb p 1 then class_a f else if_true eqb p 2 then class_b f else no_class) else no_class
 
 abbrev pub value_at : Line → ℕ → ℕ
 value_at e p =
     if_X e then (λ t r. r)
-    else if_C e then (λ t env f a b c n. if eqb p 1 then a else if eqb p 2 then b else c)
+    else if_C e then (λ t env f a b c n. if_true eqb p 1 then a else if_true eqb p 2 then b else c)
     else 0
 
 abbrev pub function_of : Line → ℕ
@@ -126,11 +126,11 @@ overflows t f h v =
 -- 9 for 218 with no monitors; 11 for 20 when the top frame was not pushed
 unfoldable pub call_rule : ℕ → ℕ → ℕ → Seen → ℕ → Option ℕ
 call_rule t env f v rule =
-    if eqb rule 1 then when (not (eqb env (v.env t))) env
-    else if eqb rule 2 then when (eqb (v.pending t) 1 && not (is_allowed_pending f)) 0
-    else if eqb rule 3 then when (in_critical t v && not (is_allowed_critical f)) 0
-    else if eqb rule 9 then when (eqb f MonitorExit && eqb (v.monitors t) 0) 0
-    else if eqb rule 11 then when (eqb f PopLocalFrame && not (top_pushed (v.frames t))) 0
+    if_true eqb rule 1 then when (not (eqb env (v.env t))) env
+    else if_true eqb rule 2 then when (eqb (v.pending t) 1 && not (is_allowed_pending f)) 0
+    else if_true eqb rule 3 then when (in_critical t v && not (is_allowed_critical f)) 0
+    else if_true eqb rule 9 then when (eqb f MonitorExit && eqb (v.monitors t) 0) 0
+    else if_true eqb rule 11 then when (eqb f PopLocalFrame && not (top_pushed (v.frames t))) 0
     else none
 
 -- a count, if above zero
@@ -140,16 +140,16 @@ some_of k = when (ltb 0 k) k
 -- On Z: 8 buffers outstanding, 9 monitors of all threads, 10 globals and weaks alive
 unfoldable pub end_rule : Seen → ℕ → Option ℕ
 end_rule v rule =
-    if eqb rule 8 then some_of (v.buffers everything)
-    else if eqb rule 9 then some_of v.all_monitors
-    else if eqb rule 10 then some_of (v.handles global_or_weak)
+    if_true eqb rule 8 then some_of (v.buffers everything)
+    else if_true eqb rule 9 then some_of v.all_monitors
+    else if_true eqb rule 10 then some_of (v.handles global_or_weak)
     else none
 
 -- on D: 3 as on X; 9 with monitors of the thread
 unfoldable pub detach_rule : ℕ → Seen → ℕ → Option ℕ
 detach_rule t v rule =
-    if eqb rule 3 then when (in_critical t v) 0
-    else if eqb rule 9 then some_of (v.monitors t)
+    if_true eqb rule 3 then when (in_critical t v) 0
+    else if_true eqb rule 9 then some_of (v.monitors t)
     else none
 
 -- On X: 3 with a critical buffer of that thread outstanding. On R: 11 for overflow
@@ -169,4 +169,4 @@ is_rule rule none = false
 is_rule rule (some r) = eqb rule r
 
 unfoldable pub breach : Line → Seen → ℕ → ℕ → Option ℕ
-breach e v rule place = if eqb place 0 then line_rule e v rule else when (is_rule rule (rule_at e v place)) (value_at e place)
+breach e v rule place = if_true eqb place 0 then line_rule e v rule else when (is_rule rule (rule_at e v place)) (value_at e place)

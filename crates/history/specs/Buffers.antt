@@ -1,6 +1,6 @@
 -- The buffers outstanding: got, and not released since. The same buffer number may be outstanding several times. Assumes nothing.
 use Rattle.std.specs.Prelude.{ℕ, Bool, false, not, ◌&&◌, List, [], ◌∷◌, ◌++◌, eqb}
-use Rattle.words.specs.Choice.{if◌then◌else◌}
+use Rattle.words.specs.Choice.{if_true◌then◌else◌}
 use Rattle.words.specs.Lists.{but_first}
 use Rattle.facts.specs.Table.{fact_of, family, is_critical}
 use Rattle.facts.specs.Results.{is_buffer_result, is_buffer_place}
@@ -16,7 +16,7 @@ pub data Pin : Type 0 where
 
 -- the buffer that function f, called by thread t, gets or releases
 unfoldable pub pin : ℕ → ℕ → ℕ → Pin
-pin t f b = if is_critical (family f) then critical t (family f) b else ordinary (family f) b
+pin t f b = if_true is_critical (family f) then critical t (family f) b else ordinary (family f) b
 
 abbrev pub same_pin : Pin → Pin → Bool
 same_pin (ordinary k b) (ordinary j a) = eqb k j && eqb b a
@@ -32,7 +32,7 @@ critical_of t (critical s k b) = eqb t s
 unfoldable pub gets : Line → List Pin
 gets e =
     if_R e then
-    (λ t f r p. if is_buffer_result (fact_of f).result && not (eqb (above_zero r) 0) then pin t f (above_zero r) ∷ [] else [])
+    (λ t f r p. if_true is_buffer_result (fact_of f).result && not (eqb (above_zero r) 0) then pin t f (above_zero r) ∷ [] else [])
     else []
 
 -- a release names this one

@@ -1,6 +1,6 @@
 -- The capacity of each frame of a thread, top first. Assumes nothing.
 use Rattle.std.specs.Prelude.{ℕ, ◌+◌, ◌-◌, max, not, List, [], ◌∷◌, eqb, length, drop}
-use Rattle.words.specs.Choice.{if◌then◌else◌}
+use Rattle.words.specs.Choice.{if_true◌then◌else◌}
 use Rattle.facts.specs.Named.{PushLocalFrame, EnsureLocalCapacity}
 use Rattle.lines.specs.Line.{Line, if_opens◌then◌else◌, if_R◌then◌else◌, is_zero}
 use Rattle.history.specs.Past.{History, is_of}
@@ -30,16 +30,16 @@ capacities_after e x cs =
     if_opens e then (λ t env hs. native_capacity hs ∷ cs)
     else if_R e then
     (λ t f r p.
-    if not (is_zero r) then cs
-    else if eqb f PushLocalFrame then x.asked ∷ cs
-    else if eqb f EnsureLocalCapacity then raised (x.held + x.asked) cs
+    if_true not (is_zero r) then cs
+    else if_true eqb f PushLocalFrame then x.asked ∷ cs
+    else if_true eqb f EnsureLocalCapacity then raised (x.held + x.asked) cs
     else cs)
     else drop x.gone cs
 
 unfoldable pub capacities : ℕ → History → List ℕ
 capacities t [] = []
 capacities t (e ∷ past) =
-    if is_of t e then
+    if_true is_of t e then
     capacities_after e
     (record { gone = depth t past - depth t (e ∷ past); held = alive_in t (depth t past) past; asked = asked (top_of (items t past)) })
     (capacities t past)

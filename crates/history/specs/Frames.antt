@@ -1,6 +1,6 @@
 -- The frames of a thread: one for each open native or attached item, and those pushed in it. Assumes nothing.
 use Rattle.std.specs.Prelude.{ℕ, Bool, true, false, ◌&&◌, List, [], ◌∷◌, eqb, length}
-use Rattle.words.specs.Choice.{if◌then◌else◌}
+use Rattle.words.specs.Choice.{if_true◌then◌else◌}
 use Rattle.facts.specs.Named.{PushLocalFrame, PopLocalFrame}
 use Rattle.lines.specs.Line.{Line, if_opens◌then◌else◌, if_X◌then◌else◌, if_C◌then◌else◌, if_R◌then◌else◌, if_D◌then◌else◌, is_zero}
 use Rattle.history.specs.Past.{History, through}
@@ -25,8 +25,8 @@ abbrev pub frames_after : Line → List Frame → List Frame
 frames_after e fs =
     if_opens e then (λ t env hs. entered ∷ fs)
     else if_X e then (λ t r. without_native fs)
-    else if_C e then (λ t env f a b c n. if eqb f PopLocalFrame then without_pushed fs else fs)
-    else if_R e then (λ t f r p. if eqb f PushLocalFrame && is_zero r then pushed ∷ fs else fs)
+    else if_C e then (λ t env f a b c n. if_true eqb f PopLocalFrame then without_pushed fs else fs)
+    else if_R e then (λ t f r p. if_true eqb f PushLocalFrame && is_zero r then pushed ∷ fs else fs)
     else if_D e then (λ t. [])
     else fs
 

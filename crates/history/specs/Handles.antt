@@ -1,6 +1,6 @@
 -- The handles alive: an earlier line made it and no line since has ended it. Assumes nothing.
 use Rattle.std.specs.Prelude.{ℕ, suc, Bool, true, false, not, ◌&&◌, ◌||◌, List, [], ◌∷◌, ◌++◌, map, eqb, ltb}
-use Rattle.words.specs.Choice.{if◌then◌else◌}
+use Rattle.words.specs.Choice.{if_true◌then◌else◌}
 use Rattle.words.specs.Lists.{keep, count}
 use Rattle.facts.specs.Table.{fact_of}
 use Rattle.facts.specs.Named.{DeleteGlobalRef, DeleteLocalRef, DeleteWeakGlobalRef}
@@ -31,7 +31,7 @@ result_made Result.Nothing t d h = []
 unfoldable pub makes : Line → ℕ → List Alive
 makes e d =
     if_N e then (λ t env hs. map (local t (suc d)) hs)
-    else if_R e then (λ t f r p. if eqb (above_zero r) 0 then [] else result_made (fact_of f).result t d (above_zero r))
+    else if_R e then (λ t f r p. if_true eqb (above_zero r) 0 then [] else result_made (fact_of f).result t d (above_zero r))
     else []
 
 -- ---- which handle it is

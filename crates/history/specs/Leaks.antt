@@ -1,6 +1,6 @@
 -- A leak: what is outstanding or alive where a trace ends, with the line that made it. Assumes nothing.
 use Rattle.std.specs.Prelude.{ℕ, Bool, List, [], ◌∷◌, ◌++◌, map, leb}
-use Rattle.words.specs.Choice.{if◌then◌else◌}
+use Rattle.words.specs.Choice.{if_true◌then◌else◌}
 use Rattle.words.specs.Lists.{keep}
 use Rattle.words.specs.Text.{bytes, tab}
 use Rattle.history.specs.Handles.{Alive, global_or_weak}
@@ -48,7 +48,7 @@ handle_leak x = record { rule = 10; thread = 0; value = handle_of x.what; line =
 
 abbrev pub placed : Leak → List Leak → List Leak
 placed x [] = x ∷ []
-placed x (y ∷ ys) = if leb x.line y.line then x ∷ y ∷ ys else y ∷ placed x ys
+placed x (y ∷ ys) = if_true leb x.line y.line then x ∷ y ∷ ys else y ∷ placed x ys
 
 unfoldable pub by_line : List Leak → List Leak
 by_line [] = []

@@ -1,6 +1,6 @@
 -- The history: the accepted lines, newest first, and nothing else. Assumes nothing.
 use Rattle.std.specs.Prelude.{ℕ, Bool, true, false, List, [], ◌∷◌, eqb}
-use Rattle.words.specs.Choice.{if◌then◌else◌}
+use Rattle.words.specs.Choice.{if_true◌then◌else◌}
 use Rattle.lines.specs.Line.{Line, if_opens◌then◌else◌, if_X◌then◌else◌, if_C◌then◌else◌, if_R◌then◌else◌, if_D◌then◌else◌, if_Z◌then◌else◌, if_states◌then◌else◌}
 
 abbrev pub History : Type 0
@@ -22,7 +22,7 @@ is_of t e = if_Z e then false else if_states e then false else eqb t (thread_of 
 -- what the lines of thread t make of `x`, one after another
 unfoldable pub through {ℓ} : {A : Type ℓ} → (Line → A → A) → A → ℕ → History → A
 through after x t [] = x
-through after x t (e ∷ past) = if is_of t e then after e (through after x t past) else through after x t past
+through after x t (e ∷ past) = if_true is_of t e then after e (through after x t past) else through after x t past
 
 -- nothing is allowed after Z
 unfoldable pub closed : History → Bool

@@ -1,6 +1,6 @@
 -- The reply to the next line after any calls, refused ones among them. Assumes nothing.
 use Rattle.std.specs.Prelude.{ℕ, suc, List, [], ◌∷◌, eqb, leb, length}
-use Rattle.words.specs.Choice.{if◌then◌else◌}
+use Rattle.words.specs.Choice.{if_true◌then◌else◌}
 use Rattle.lines.specs.Reading.{Read, says, refused, read}
 use Rattle.history.specs.Past.{History}
 use Rattle.history.specs.Seen.{seen}
@@ -15,11 +15,11 @@ most_lines = 1000000
 -- a line that was read, after the history
 abbrev pub weighed : Room → History → Read → Read
 weighed room past (refused k) = refused k
-weighed room past (says e) = if eqb (refusal room e past) 0 then says e else refused (refusal room e past)
+weighed room past (says e) = if_true eqb (refusal room e past) 0 then says e else refused (refusal room e past)
 
 -- what these bytes are after these accepted lines: line 1,000,001 is 1 whatever it holds
 unfoldable pub verdict : Room → History → List ℕ → Read
-verdict room past bs = if leb most_lines (length past) then refused 1 else weighed room past (read bs)
+verdict room past bs = if_true leb most_lines (length past) then refused 1 else weighed room past (read bs)
 
 pub data Reply : Type 0 where
   accepted : List Finding → Reply

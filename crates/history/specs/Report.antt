@@ -1,6 +1,6 @@
 -- A whole run: the report of an input, down to its bytes. Assumes nothing.
 use Rattle.std.specs.Prelude.{ℕ, Bool, not, List, [], ◌∷◌, ◌++◌, eqb, length}
-use Rattle.words.specs.Choice.{if◌then◌else◌}
+use Rattle.words.specs.Choice.{if_true◌then◌else◌}
 use Rattle.words.specs.Lists.{joined}
 use Rattle.words.specs.Text.{bytes, tab, line_feed}
 use Rattle.numbers.specs.Decimal.{digits}
@@ -36,7 +36,7 @@ run room past (bs ∷ lines) =
 
 unfoldable pub lines_of : List ℕ → List (List ℕ)
 lines_of [] = []
-lines_of (b ∷ bs) = if eqb b line_feed then (b ∷ []) ∷ lines_of bs else onto_first b (lines_of bs)
+lines_of (b ∷ bs) = if_true eqb b line_feed then (b ∷ []) ∷ lines_of bs else onto_first b (lines_of bs)
 
 -- ---- what is printed, fields parted by tabs
 
@@ -51,7 +51,7 @@ shown_finding f = field_then f.line (field_then f.rule (field_then f.place (last
 
 -- `refused` whenever a line was refused, after Z too
 abbrev pub word_for : ℕ → Bool → List ℕ
-word_for refusal closed = if not (eqb refusal 0) then bytes "refused" else if closed then bytes "closed" else bytes "open"
+word_for refusal closed = if_true not (eqb refusal 0) then bytes "refused" else if_true closed then bytes "closed" else bytes "open"
 
 -- `end`, `closed`/`open`/`refused`, accepted lines, refusal or 0, findings printed
 abbrev pub end_line : Bool → ℕ → ℕ → ℕ → List ℕ

@@ -1,6 +1,6 @@
 -- All that a judgement of the next line looks at, but the open items. Assumes nothing.
 use Rattle.std.specs.Prelude.{ℕ, Bool, false, List, eqb, ltb}
-use Rattle.words.specs.Choice.{if◌then◌else◌}
+use Rattle.words.specs.Choice.{if_true◌then◌else◌}
 use Rattle.words.specs.Lists.{count, sum, of_first}
 use Rattle.lines.specs.Line.{kind}
 use Rattle.history.specs.Past.{History, closed}
@@ -62,6 +62,6 @@ is_outstanding test v = ltb 0 (v.buffers test)
 -- a local in this thread; null and identities are no handles
 unfoldable pub handle_alive : ℕ → ℕ → Seen → Bool
 handle_alive t h v =
-    if eqb (kind h) 0 then false
-    else if eqb (kind h) 1 then is_alive (is_local t h) v
+    if_true eqb (kind h) 0 then false
+    else if_true eqb (kind h) 1 then is_alive (is_local t h) v
     else is_alive (is_shared h) v

@@ -1,6 +1,6 @@
 -- A thread's pending exception, its monitors and its env. Assumes nothing.
 use Rattle.std.specs.Prelude.{ℕ, suc, pred, not, List, [], ◌∷◌, eqb}
-use Rattle.words.specs.Choice.{if◌then◌else◌}
+use Rattle.words.specs.Choice.{if_true◌then◌else◌}
 use Rattle.facts.specs.Named.{MonitorEnter, MonitorExit}
 use Rattle.lines.specs.Line.{Line, if_opens◌then◌else◌, if_R◌then◌else◌, if_D◌then◌else◌, is_zero}
 use Rattle.history.specs.Past.{History, through}
@@ -20,9 +20,9 @@ abbrev pub monitors_after : Line → ℕ → ℕ
 monitors_after e m =
     if_R e then
     (λ t f r p.
-    if not (is_zero r) then m
-    else if eqb f MonitorEnter then suc m
-    else if eqb f MonitorExit then pred m
+    if_true not (is_zero r) then m
+    else if_true eqb f MonitorEnter then suc m
+    else if_true eqb f MonitorExit then pred m
     else m)
     else if_D e then (λ t. 0)
     else m
@@ -32,7 +32,7 @@ monitors = through monitors_after 0
 
 -- a thread's env is that of its first N or A; 0 before it
 abbrev pub env_after : Line → ℕ → ℕ
-env_after e v = if_opens e then (λ t env hs. if eqb v 0 then env else v) else v
+env_after e v = if_opens e then (λ t env hs. if_true eqb v 0 then env else v) else v
 
 unfoldable pub env_of : ℕ → History → ℕ
 env_of = through env_after 0

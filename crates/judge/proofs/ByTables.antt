@@ -6,7 +6,7 @@ use mathlib.Core.List.{List, []}
 use native.Mathlib.Omega.{arith}
 use borrow.Author.Tests.{le-leb, lt-leb, leb-false}
 use lib.Dec.{leb}
-use Rattle.words.specs.Choice.{if◌then◌else◌}
+use Rattle.words.specs.Choice.{if_true◌then◌else◌}
 use Rattle.lines.specs.Reading.{read}
 use Rattle.history.specs.Replies.{most_lines}
 use Rattle.classes.specs.Supers.{is_short, classes_cleared}
@@ -38,7 +38,7 @@ module _ (T : Tables) (k : ℕ) (u s : Bool) (fit : u ≡ unfit T.book) (whole :
     unfolding by_tables
     fit_told l q = rw (told false h, lt-leb most_lines (lines_in T.book) (omega (arith, lines, l))) q
 
-pub neither_told : (a b : Bool) → ◌≡◌ {A = ℕ} (if a then 8 else if b then 1 else 0) 0 → (a ≡ false) × (b ≡ false)
+pub neither_told : (a b : Bool) → ◌≡◌ {A = ℕ} (if_true a then 8 else if_true b then 1 else 0) 0 → (a ≡ false) × (b ≡ false)
 neither_told true b h = absurd (omega (arith, h))
 neither_told false true h = absurd (omega (arith, h))
 neither_told false false h = (refl, refl)
@@ -53,8 +53,8 @@ module _ (T : Tables) (bs : List ℕ) where
   unfolding by_tables step_outcome step_of
   by_its_tables k a e z q = go (unfit_tables T) (leb most_lines (lines_in T.book)) e
     where
-      go : (u o : Bool) → k ≡ (if u then 8 else if o then 1 else 0)
-          → leaves a T ≡ outcome (if u then untouched 8 T else if o then untouched 1 T else on_read (read bs) T)
+      go : (u o : Bool) → k ≡ (if_true u then 8 else if_true o then 1 else 0)
+          → leaves a T ≡ outcome (if_true u then untouched 8 T else if_true o then untouched 1 T else on_read (read bs) T)
       go true o e = ap (λ (x : Answer). leaves x T) (q ∙ ap refused_with e)
       go false true e = ap (λ (x : Answer). leaves x T) (q ∙ ap refused_with e)
       go false false e = absurd (z e)

@@ -9,7 +9,7 @@ use borrow.Author.Tests.{eqb-false}
 use lib.Dec.{eqb, leb}
 use lib.IntN.{ℤ}
 use lib.ListN.{length, take}
-use Rattle.words.specs.Choice.{if◌then◌else◌}
+use Rattle.words.specs.Choice.{if_true◌then◌else◌}
 use Rattle.lines.specs.Line.{Line, N, X, C, R, A, D, Z, K, O, M, states, above_zero}
 use Rattle.lines.specs.Reading.{Read, says, refused, read}
 use Rattle.lines.specs.Events.{result_in_line, event_of, slots_of}
@@ -120,7 +120,7 @@ module _ (T : Tables) (y : Answer) (S : Tables) where
       number = refusal_in e (top_in e) (many_in e) T
 
       go : (q : Bool) → eqb number 0 ≡ q
-          → (if q then accepted (of_line (next_line T) e (seen_in T)) else not_accepted number) ≡ not_accepted j → j ≡ 0 → ⊥
+          → (if_true q then accepted (of_line (next_line T) e (seen_in T)) else not_accepted number) ≡ not_accepted j → j ≡ 0 → ⊥
       go true p h = let z : ◌≡◌ {A = ℕ} 0 1 = cc in λ k. omega arith
       go false p h = let same : number ≡ j = cc in λ k. eqb-false number 0 p (same ∙ k)
 

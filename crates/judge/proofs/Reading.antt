@@ -8,7 +8,7 @@ use borrow.Author.Tests.{leb-true}
 use lib.Dec.{eqb, leb}
 use lib.IntN.{pos}
 use lib.ListN.{length, take, drop}
-use Rattle.words.specs.Choice.{if◌then◌else◌}
+use Rattle.words.specs.Choice.{if_true◌then◌else◌}
 use Rattle.words.specs.Lists.{any}
 use Rattle.lines.specs.Line.{Line, N, X, C, R, A, D, Z, K, O, M, states, is_allowed, is_zero, most_handles, is_thread, is_env, is_argument, above_zero}
 use Rattle.lines.specs.Reading.{Read, says, refused, read}
@@ -21,7 +21,7 @@ use Rattle.lines.proofs.RoundTrip.{read_exactly}
 use Rattle.lines.proofs.Meant.{meant_read}
 use Rattle.judge.specs.Event.{read_as, slots_named}
 
-only_said : (ok : Bool) (x e : Line) → (if ok then says x else refused 3) ≡ says e → says x ≡ says e
+only_said : (ok : Bool) (x e : Line) → (if_true ok then says x else refused 3) ≡ says e → says x ≡ says e
 only_said true x e h = h
 only_said false x e h = absurd (never h)
 
@@ -34,13 +34,13 @@ as_meant (Event.Leave t r) hs e h = slots_said 0 hs (X t r) e h
 as_meant (Event.Call t env f a b c n) hs e h = slots_said 0 hs (C t env f a b c n) e h
 as_meant (Event.Return t f h s p) hs e m = go (gives_status f) m
   where
-    if_right : (ok : Bool) (x : Line) → (if ok then with_slots 0 hs x else refused 3) ≡ says e → says x ≡ says e
+    if_right : (ok : Bool) (x : Line) → (if_true ok then with_slots 0 hs x else refused 3) ≡ says e → says x ≡ says e
     if_right true x k = slots_said 0 hs x e k
     if_right false x k = absurd (never k)
 
     go : (status : Bool)
-        → (if status then (if eqb h 0 then with_slots 0 hs (R t f s p) else refused 3) else (if is_zero s then with_slots 0 hs (R t f (pos h) p) else refused 3)) ≡ says e
-        → says (R t f (if status then s else pos h) p) ≡ says e
+        → (if_true status then (if_true eqb h 0 then with_slots 0 hs (R t f s p) else refused 3) else (if_true is_zero s then with_slots 0 hs (R t f (pos h) p) else refused 3)) ≡ says e
+        → says (R t f (if_true status then s else pos h) p) ≡ says e
     go true k = if_right (eqb h 0) (R t f s p) k
     go false k = if_right (is_zero s) (R t f (pos h) p) k
 as_meant (Event.Attach t env) hs e h = slots_said 0 hs (A t env) e h
@@ -70,7 +70,7 @@ few_read bs (says (X t r)) h = omega arith
 few_read bs (says (C t env f a b c n)) h = omega arith
 few_read bs (says (R t f r p)) h = go (gives_status f)
   where
-    go : (s : Bool) → slots_named (if s then Event.Return t f 0 r p else Event.Return t f (above_zero r) (pos 0) p) ≤ most_handles
+    go : (s : Bool) → slots_named (if_true s then Event.Return t f 0 r p else Event.Return t f (above_zero r) (pos 0) p) ≤ most_handles
     go true = omega arith
     go false = omega arith
 few_read bs (says (A t env)) h = omega arith

@@ -1,7 +1,7 @@
 -- What a call of the step answers and leaves, as the code has it. Assumes nothing.
 use Rattle.std.specs.Prelude.{ℕ, List, leb}
 use Rattle.std.proofs.Math.Option.{Option}
-use Rattle.words.specs.Choice.{if◌then◌else◌}
+use Rattle.words.specs.Choice.{if_true◌then◌else◌}
 use Rattle.lines.specs.Reading.{Read, says, refused}
 use Rattle.lines.specs.declared.Event.{Event}
 use Rattle.history.specs.Items.{Item}
@@ -30,4 +30,4 @@ event_outcome line ev hs top many T = read_outcome line (read_as ev hs) top many
 
 -- 8 and line 1,000,001 are told from book and classes alone; 0 for neither
 unfoldable pub by_tables : Tables → ℕ
-by_tables T = if unfit_tables T then 8 else if leb most_lines (lines_in T.book) then 1 else 0
+by_tables T = if_true unfit_tables T then 8 else if_true leb most_lines (lines_in T.book) then 1 else 0

@@ -7,7 +7,7 @@ use mathlib.Core.Option.{Option, none, some}
 use native.Mathlib.Omega.{arith}
 use lib.Dec.{eqb, ltb}
 use lib.ListN.{get_or}
-use Rattle.words.specs.Choice.{if◌then◌else◌}
+use Rattle.words.specs.Choice.{if_true◌then◌else◌}
 use Rattle.rows.specs.Slots.{held}
 use Rattle.rows.specs.Table.{Table, each, room}
 use Rattle.rows.specs.View.{view}
@@ -34,7 +34,7 @@ of_reference_place : (p : ℕ) (o : Option Reference) → place_or p (of_referen
 of_reference_place p none = refl
 of_reference_place p (some x) = go (eqb x.thread 0)
   where
-    go : (b : Bool) → place_or p (if b then some (record { place = p; thread = x.thread; value = x.handle; line = x.line }) else none) ≡ p
+    go : (b : Bool) → place_or p (if_true b then some (record { place = p; thread = x.thread; value = x.handle; line = x.line }) else none) ≡ p
     go true = refl
     go false = refl
 
@@ -43,7 +43,7 @@ unfolding found_at
 found_place R P p = go (ltb p first_reference)
   where
     go : (b : Bool)
-        → place_or p (if b then of_pin p (get_or (view pins P) p none) else of_reference p (get_or (view references R) (p - first_reference) none)) ≡ p
+        → place_or p (if_true b then of_pin p (get_or (view pins P) p none) else of_reference p (get_or (view references R) (p - first_reference) none)) ≡ p
     go true = of_pin_place p (get_or (view pins P) p none)
     go false = of_reference_place p (get_or (view references R) (p - first_reference) none)
 

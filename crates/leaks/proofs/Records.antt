@@ -9,7 +9,7 @@ use native.Mathlib.Omega.{arith}
 use borrow.Author.Tests.{lt-ltb, le-ltb, eqb-true}
 use lib.Dec.{eqb}
 use lib.ListN.{length, length-append, length-map}
-use Rattle.words.specs.Choice.{if◌then◌else◌}
+use Rattle.words.specs.Choice.{if_true◌then◌else◌}
 use Rattle.words.specs.Lists.{keep, count, joined}
 use Rattle.rows.specs.Slots.{held}
 use Rattle.rows.specs.Table.{Table, each, room, alive, counted}
@@ -62,21 +62,21 @@ at_pin p (some x) h = rw (lt-ltb p first_reference h) (ap (λ (l : Leak). l ∷ 
   where
     go : (b : Bool) → eqb x.thread 0 ≡ b
         → ◌≡◌ {A = Leak} (record { rule = 8; thread = x.thread; value = x.buffer; line = x.line })
-        (buffer_leak (record { what = if b then ordinary x.family x.buffer else critical x.thread x.family x.buffer; line = x.line }))
+        (buffer_leak (record { what = if_true b then ordinary x.family x.buffer else critical x.thread x.family x.buffer; line = x.line }))
     go true e = λ i. record { rule = 8; thread = eqb-true x.thread 0 e i; value = x.buffer; line = x.line }
     go false e = refl
 
 -- ---- handles
 abbrev of_handle : Reference → List Leak
-of_handle x = if eqb x.thread 0 then handle_leak (made_alive x) ∷ [] else []
+of_handle x = if_true eqb x.thread 0 then handle_leak (made_alive x) ∷ [] else []
 
 handles : (xs : List Reference) → joined xs of_handle ≡ map handle_leak (keep (λ x. global_or_weak x.what) (map made_alive xs))
 handles [] = refl
 handles (x ∷ xs) = go (eqb x.thread 0) (handles xs)
   where
     go : (b : Bool) → joined xs of_handle ≡ map handle_leak (keep (λ x. global_or_weak x.what) (map made_alive xs))
-        → (if b then handle_leak (record { what = if b then shared x.handle else local x.thread x.frame x.handle; line = x.line }) ∷ [] else []) ++ joined xs of_handle
-        ≡ map handle_leak (keep (λ x. global_or_weak x.what) (record { what = if b then shared x.handle else local x.thread x.frame x.handle; line = x.line } ∷ map made_alive xs))
+        → (if_true b then handle_leak (record { what = if_true b then shared x.handle else local x.thread x.frame x.handle; line = x.line }) ∷ [] else []) ++ joined xs of_handle
+        ≡ map handle_leak (keep (λ x. global_or_weak x.what) (record { what = if_true b then shared x.handle else local x.thread x.frame x.handle; line = x.line } ∷ map made_alive xs))
     go true ih = ap (λ (l : List Leak). handle_leak (record { what = shared x.handle; line = x.line }) ∷ l) ih
     go false ih = ih
 
@@ -85,8 +85,8 @@ at_reference p none h = refl
 at_reference p (some x) h = go (eqb x.thread 0) refl
   where
     go : (b : Bool) → eqb x.thread 0 ≡ b
-        → map leak_of (held ((if b then some (record { place = p; thread = x.thread; value = x.handle; line = x.line }) else none) ∷ []))
-        ≡ (if b then handle_leak (record { what = if b then shared x.handle else local x.thread x.frame x.handle; line = x.line }) ∷ [] else []) ++ []
+        → map leak_of (held ((if_true b then some (record { place = p; thread = x.thread; value = x.handle; line = x.line }) else none) ∷ []))
+        ≡ (if_true b then handle_leak (record { what = if_true b then shared x.handle else local x.thread x.frame x.handle; line = x.line }) ∷ [] else []) ++ []
     go true e = rw (le-ltb p first_reference h) (λ i. record { rule = 10; thread = eqb-true x.thread 0 e i; value = x.handle; line = x.line } ∷ [])
     go false e = refl
 
@@ -142,7 +142,7 @@ module _ (R P : Table) where
       shared_ones (x ∷ xs) = go (eqb x.thread 0) (shared_ones xs)
         where
           go : (b : Bool) → count (of_thread 0) xs ≡ length (keep (λ x. global_or_weak x.what) (map made_alive xs))
-              → (if b then suc (count (of_thread 0) xs) else count (of_thread 0) xs)
-              ≡ length (keep (λ x. global_or_weak x.what) (record { what = if b then shared x.handle else local x.thread x.frame x.handle; line = x.line } ∷ map made_alive xs))
+              → (if_true b then suc (count (of_thread 0) xs) else count (of_thread 0) xs)
+              ≡ length (keep (λ x. global_or_weak x.what) (record { what = if_true b then shared x.handle else local x.thread x.frame x.handle; line = x.line } ∷ map made_alive xs))
           go true ih = ap suc ih
           go false ih = ih

@@ -1,7 +1,7 @@
 -- The leaks at the places, one behind another. Assumes nothing.
 use Rattle.std.specs.Prelude.{ℕ, ◌+◌, ◌-◌, ◌≡◌, List, ◌++◌, eqb, ltb, length, get_or, take}
 use Rattle.std.proofs.Math.Option.{Option, none, some}
-use Rattle.words.specs.Choice.{if◌then◌else◌}
+use Rattle.words.specs.Choice.{if_true◌then◌else◌}
 use Rattle.rows.specs.Slots.{held}
 use Rattle.rows.specs.Table.{Table, most, each, room}
 use Rattle.rows.specs.View.{view}
@@ -28,12 +28,12 @@ of_pin p (some x) = some (record { place = p; thread = x.thread; value = x.buffe
 -- a handle of a thread does not leak
 abbrev pub of_reference : ℕ → Option Reference → Option Entry
 of_reference p none = none
-of_reference p (some x) = if eqb x.thread 0 then some (record { place = p; thread = x.thread; value = x.handle; line = x.line }) else none
+of_reference p (some x) = if_true eqb x.thread 0 then some (record { place = p; thread = x.thread; value = x.handle; line = x.line }) else none
 
 -- of the references and the pins
 unfoldable pub found_at : Table → Table → ℕ → Option Entry
 found_at R P p =
-    if ltb p first_reference then of_pin p (get_or (view pins P) p none)
+    if_true ltb p first_reference then of_pin p (get_or (view pins P) p none)
     else of_reference p (get_or (view references R) (p - first_reference) none)
 
 -- at n places from a on

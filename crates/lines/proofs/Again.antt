@@ -8,7 +8,7 @@ use lib.Dec.{leb}
 use lib.IntN.{ℤ, pos, negsuc}
 use lib.ListN.{length, replicate, length-map}
 use borrow.Author.Tests.{leb-true, lt-leb}
-use Rattle.words.specs.Choice.{if◌then◌else◌}
+use Rattle.words.specs.Choice.{if_true◌then◌else◌}
 use Rattle.facts.specs.Table.{fact_of, is_function}
 use Rattle.numbers.specs.Signed.{largest_i32, is_i32}
 use Rattle.lines.specs.Line.{K, O, M, Line, N, X, C, R, A, D, Z, states, is_allowed, is_thread, above_zero, result_allows, largest, most_handles}
@@ -58,8 +58,8 @@ told_again (R t f r p) h = (go (gives_status f) refl, refl)
     allowed = (all4 (is_thread t) (is_function f) (result_allows (fact_of f).result r) (leb p 1) h).2
 
     go : (s : Bool) → gives_status f ≡ s
-        → (if s then Event.Return t f 0 (signed_of (as_told r)) p else Event.Return t f (as_told r) (pos 0) p)
-        ≡ (if s then Event.Return t f 0 r p else Event.Return t f (above_zero r) (pos 0) p)
+        → (if_true s then Event.Return t f 0 (signed_of (as_told r)) p else Event.Return t f (as_told r) (pos 0) p)
+        ≡ (if_true s then Event.Return t f 0 r p else Event.Return t f (above_zero r) (pos 0) p)
     go true e = ap (λ (z : ℤ). Event.Return t f 0 z p) (signed_back r (status_i32 (fact_of f).result r e allowed))
     go false e = ap (λ (n : ℕ). Event.Return t f n (pos 0) p) (plain_result_told r (plain_result (fact_of f).result r e allowed))
 told_again (A t env) h = (refl, refl)

@@ -4,7 +4,7 @@ use mathlib.Core.Bool.{Bool, true, false}
 use Prim.Native.Nat.{ℕ}
 use native.Mathlib.Omega.{arith}
 use lib.IntN.{pos}
-use Rattle.words.specs.Choice.{if◌then◌else◌}
+use Rattle.words.specs.Choice.{if_true◌then◌else◌}
 use Rattle.lines.specs.Line.{K, O, M, Line, N, X, C, R, A, D, Z, states, above_zero}
 use Rattle.lines.specs.Reading.{Read, says, refused}
 use Rattle.lines.specs.Events.{gives_status, event_of}
@@ -17,7 +17,7 @@ event_refused (says (X t r)) k h = let z : ◌≡◌ {A = ℕ} 0 1 = cc in absur
 event_refused (says (C t env f a b c n)) k h = let z : ◌≡◌ {A = ℕ} 0 1 = cc in absurd (omega arith)
 event_refused (says (R t f r p)) k h = go (gives_status f) h
   where
-    go : (s : Bool) → (if s then Event.Return t f 0 r p else Event.Return t f (above_zero r) (pos 0) p) ≡ Event.Refused k → says (R t f r p) ≡ refused k
+    go : (s : Bool) → (if_true s then Event.Return t f 0 r p else Event.Return t f (above_zero r) (pos 0) p) ≡ Event.Refused k → says (R t f r p) ≡ refused k
     go true h = let z : ◌≡◌ {A = ℕ} 0 1 = cc in absurd (omega arith)
     go false h = let z : ◌≡◌ {A = ℕ} 0 1 = cc in absurd (omega arith)
 event_refused (says (A t env)) k h = let z : ◌≡◌ {A = ℕ} 0 1 = cc in absurd (omega arith)

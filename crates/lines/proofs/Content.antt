@@ -9,7 +9,7 @@ use lib.Dec.{eqb, ltb}
 use lib.IntN.{ℤ}
 use lib.ListN.{length, get_or, take}
 use borrow.Author.Tests.{le-leb, lt-ltb, le-ltb, eq-eqb, ne_eqb, eqb-true}
-use Rattle.words.specs.Choice.{if◌then◌else◌}
+use Rattle.words.specs.Choice.{if_true◌then◌else◌}
 use Rattle.words.specs.Text.{tab, line_feed}
 use Rattle.lines.specs.Line.{longest}
 use Rattle.lines.specs.Forms.{of_letter}
@@ -38,7 +38,7 @@ not_alone (b ∷ x ∷ s) h =
     let k : is_tab x ≡ false = rw (le-leb 2 (suc (suc (length s))) (omega arith)) at h in
     go (is_tab b) k
   where
-    go : (t : Bool) → is_tab x ≡ false → of_fields (if t then [] ∷ fields (x ∷ s) else onto_first b (fields (x ∷ s))) ≡ refused 2
+    go : (t : Bool) → is_tab x ≡ false → of_fields (if_true t then [] ∷ fields (x ∷ s) else onto_first b (fields (x ∷ s))) ≡ refused 2
     go true k = refl
     go false k = rw k (two_bytes b x (fields s))
 
@@ -47,7 +47,7 @@ unfolding fields of_fields
 alone [] h = absurd (false≢true h)
 alone (b ∷ []) h = go (is_tab b) refl
   where
-    go : (t : Bool) → is_tab b ≡ t → of_fields (if t then [] ∷ [] ∷ [] else (b ∷ []) ∷ []) ≡ if_numbers b (numbers [])
+    go : (t : Bool) → is_tab b ≡ t → of_fields (if_true t then [] ∷ [] ∷ [] else (b ∷ []) ∷ []) ≡ if_numbers b (numbers [])
     go true e = sym (ap (λ (x : ℕ). if_numbers x (numbers [])) (eqb-true b tab e) ∙ tab_two (numbers []))
     go false e = refl
 alone (b ∷ x ∷ s) h =
@@ -56,7 +56,7 @@ alone (b ∷ x ∷ s) h =
     rw l (go (is_tab b) refl k)
   where
     go : (t : Bool) → is_tab b ≡ t → is_tab x ≡ true
-        → of_fields (if t then [] ∷ fields (x ∷ s) else onto_first b (fields (x ∷ s))) ≡ if_numbers b (numbers (fields s))
+        → of_fields (if_true t then [] ∷ fields (x ∷ s) else onto_first b (fields (x ∷ s))) ≡ if_numbers b (numbers (fields s))
     go true e k = sym (ap (λ (y : ℕ). if_numbers y (numbers (fields s))) (eqb-true b tab e) ∙ tab_two (numbers (fields s)))
     go false e k = rw k
 

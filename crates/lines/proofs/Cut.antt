@@ -6,7 +6,7 @@ use Prim.Native.Nat.{ℕ}
 use lib.Dec.{eqb}
 use lib.IntN.{ℤ}
 use borrow.Author.Tests.{eqb-true}
-use Rattle.words.specs.Choice.{if◌then◌else◌}
+use Rattle.words.specs.Choice.{if_true◌then◌else◌}
 use Rattle.words.specs.Lists.{any}
 use Rattle.words.specs.Text.{tab}
 use Rattle.numbers.specs.Decimal.{shown}
@@ -44,7 +44,7 @@ unfolding fields
 fields_cons [] = record { first = []; others = []; are = refl }
 fields_cons (b ∷ s) = go (is_tab b)
   where
-    go : (t : Bool) → Cons (if t then [] ∷ fields s else onto_first b (fields s))
+    go : (t : Bool) → Cons (if_true t then [] ∷ fields s else onto_first b (fields s))
     go true = record { first = []; others = fields s; are = refl }
     go false = onto_cons b (fields s)
 
@@ -62,7 +62,7 @@ unfolding fields tails
 parted_fields [] = refl
 parted_fields (b ∷ s) = go (is_tab b) refl (parted_fields s)
   where
-    go : (t : Bool) → is_tab b ≡ t → parted (fields s) ≡ s → parted (if t then [] ∷ fields s else onto_first b (fields s)) ≡ b ∷ s
+    go : (t : Bool) → is_tab b ≡ t → parted (fields s) ≡ s → parted (if_true t then [] ∷ fields s else onto_first b (fields s)) ≡ b ∷ s
     go true e ih = tails_parted s ∙ ap₂ (λ x y. x ∷ y) (sym (eqb-true b tab e)) ih
     go false e ih = parted_onto b (fields s) ∙ ap (λ x. b ∷ x) ih
 

@@ -9,7 +9,7 @@ use lib.Dec.{leb, eqb, leb-suc-suc}
 use lib.ListN.{length, drop, length-drop}
 use lib.Seq.{drop-drop}
 use borrow.Author.Tests.{le-leb, lt-leb, leb-true, leb-false}
-use Rattle.words.specs.Choice.{if◌then◌else◌}
+use Rattle.words.specs.Choice.{if_true◌then◌else◌}
 use Rattle.words.specs.Text.{tab}
 use Rattle.numbers.specs.Reading.{until, field_at}
 use Rattle.lines.specs.Reading.{onto_first, fields}
@@ -31,12 +31,12 @@ unfolding until
 until_le [] = omega arith
 until_le (b ∷ s) = go (eqb b tab) (until_le s)
   where
-    go : (t : Bool) → length (until tab s) ≤ length s → length (if t then [] else b ∷ until tab s) ≤ suc (length s)
+    go : (t : Bool) → length (until tab s) ≤ length s → length (if_true t then [] else b ∷ until tab s) ≤ suc (length s)
     go true h = omega arith
     go false h = omega arith
 
 shift : (b : ℕ) (s : List ℕ) (n : ℕ) → fields_from (b ∷ s) (suc n + 1) ≡ fields_from s (n + 1)
-shift b s n = rw (add-one (suc n), add-one n) (ap (λ (t : Bool). if t then fields (drop (suc n) s) else []) (leb-suc-suc (suc n) (length s)))
+shift b s n = rw (add-one (suc n), add-one n) (ap (λ (t : Bool). if_true t then fields (drop (suc n) s) else []) (leb-suc-suc (suc n) (length s)))
 
 -- the first field, and the fields after it
 pub first_field : (s : List ℕ) → fields s ≡ until tab s ∷ fields_from s (length (until tab s) + 1)
@@ -46,8 +46,8 @@ first_field (b ∷ s) = go (eqb b tab) (first_field s)
   where
     go : (t : Bool)
         → fields s ≡ until tab s ∷ fields_from s (length (until tab s) + 1)
-        → (if t then [] ∷ fields s else onto_first b (fields s))
-        ≡ (if t then [] else b ∷ until tab s) ∷ fields_from (b ∷ s) (length (if t then [] else b ∷ until tab s) + 1)
+        → (if_true t then [] ∷ fields s else onto_first b (fields s))
+        ≡ (if_true t then [] else b ∷ until tab s) ∷ fields_from (b ∷ s) (length (if_true t then [] else b ∷ until tab s) + 1)
     go true ih = rw (le-leb 1 (suc (length s)) (omega arith))
     go false ih = rw ih (ap (λ (r : List (List ℕ)). (b ∷ until tab s) ∷ r) (sym (shift b s (length (until tab s)))))
 
@@ -60,7 +60,7 @@ module _ (s : List ℕ) (at : ℕ) (h : at ≤ length s) where
       let n = length (field_at s at tab) in
       let l = length-drop at s in
       let k : at + (n + 1) ≡ at + n + 1 = omega arith in
-      ap₂ (λ (t : Bool) (x : List ℕ). if t then fields x else [])
+      ap₂ (λ (t : Bool) (x : List ℕ). if_true t then fields x else [])
       (same_test (n + 1) (length (drop at s)) (at + n + 1) (length s) (λ g. omega arith) (λ g. omega arith))
       (drop-drop (n + 1) at s ∙ ap (λ (i : ℕ). drop i s) k)
 

@@ -8,7 +8,7 @@ use lib.Dec.{eqb, leb}
 use lib.IntN.{ℤ, pos, negsuc, nat_abs}
 use lib.ListN.{length, length-append}
 use borrow.Author.Tests.{leb-true, eqb-true, not-true}
-use Rattle.words.specs.Choice.{if◌then◌else◌, within}
+use Rattle.words.specs.Choice.{if_true◌then◌else◌, within}
 use Rattle.words.specs.Lists.{any}
 use Rattle.words.specs.Text.{line_feed}
 use Rattle.numbers.specs.Decimal.{shown}
@@ -73,7 +73,7 @@ zero_fits (negsuc n) h = let z : ◌≡◌ {A = ℕ} 0 1 = cc in absurd (omega a
 capacity_fits : (f : ℕ) (n : ℤ) → capacity_allows f n ≡ true → nat_abs n ≤ largest
 capacity_fits f n = go (eqb f 19 || eqb f 26)
   where
-    go : (t : Bool) → (if t then is_i32 n else is_zero n) ≡ true → nat_abs n ≤ largest
+    go : (t : Bool) → (if_true t then is_i32 n else is_zero n) ≡ true → nat_abs n ≤ largest
     go true h = i32_fits n h
     go false h = zero_fits n h
 

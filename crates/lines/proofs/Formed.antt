@@ -6,7 +6,7 @@ use Prim.Native.Nat.{ℕ, zero, suc, ◌≤◌}
 use native.Mathlib.Omega.{arith}
 use lib.Dec.{eqb, leb, ltb}
 use borrow.Author.Tests.{eqb-true, le-leb, lt-leb, leb-true, ltb-false}
-use Rattle.words.specs.Choice.{if◌then◌else◌, within}
+use Rattle.words.specs.Choice.{if_true◌then◌else◌, within}
 use Rattle.words.specs.Lists.{any}
 use Rattle.lines.specs.Forms.{Form, forms, no_form, of_letter, form_of, most_fields}
 use Rattle.lines.proofs.Tests.{both, neither, and_false}
@@ -38,7 +38,7 @@ unfolding of_letter
 in_each P [] h b other = other
 in_each P (f ∷ fs) h b other = go (eqb b f.letter) (in_each P fs h.1 b other)
   where
-    go : (t : Bool) → P (of_letter b fs) → P (if t then f else of_letter b fs)
+    go : (t : Bool) → P (of_letter b fs) → P (if_true t then f else of_letter b fs)
     go true rest = h.0
     go false rest = rest
 
@@ -50,7 +50,7 @@ unfolding of_letter
 letter_in b [] = refl
 letter_in b (f ∷ fs) = go (eqb b f.letter) refl (letter_in b fs)
   where
-    go : (t : Bool) → eqb b f.letter ≡ t → (of_letter b fs).letter ≡ b → (if t then f else of_letter b fs).letter ≡ b
+    go : (t : Bool) → eqb b f.letter ≡ t → (of_letter b fs).letter ≡ b → (if_true t then f else of_letter b fs).letter ≡ b
     go true e rest = sym (eqb-true b f.letter e)
     go false e rest = rest
 
@@ -65,7 +65,7 @@ few_in b (f ∷ fs) h =
     let k = neither (ltb most_fields f.most) (any (λ (f : Form). ltb most_fields f.most) fs) h in
     go (eqb b f.letter) (ltb-false most_fields f.most k.0) (few_in b fs k.1)
   where
-    go : (t : Bool) → f.most ≤ most_fields → (of_letter b fs).most ≤ most_fields → (if t then f else of_letter b fs).most ≤ most_fields
+    go : (t : Bool) → f.most ≤ most_fields → (of_letter b fs).most ≤ most_fields → (if_true t then f else of_letter b fs).most ≤ most_fields
     go true l rest = l
     go false l rest = rest
 

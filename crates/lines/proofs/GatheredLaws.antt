@@ -11,7 +11,7 @@ use lib.IntN.{ℤ, pos, nat_abs}
 use lib.ListN.{length, take, drop, replicate, length-map}
 use lib.Seq.{take_at, drop_at}
 use borrow.Author.Tests.{le-leb, lt-leb}
-use Rattle.words.specs.Choice.{if◌then◌else◌}
+use Rattle.words.specs.Choice.{if_true◌then◌else◌}
 use Rattle.words.specs.Lists.{any}
 use Rattle.numbers.specs.Signed.{is_negative}
 use Rattle.lines.specs.Line.{K, O, M, Line, N, X, C, R, A, D, Z, states, above_zero}
@@ -152,7 +152,7 @@ Slots n vs x = slots_in (event_of x) n vs ≡ slots_of x
 return_slots : (n : ℕ) (vs : List ℕ) (t f : ℕ) (r : ℤ) (p : ℕ) → Slots n vs (says (R t f r p))
 return_slots n vs t f r p = go (gives_status f)
   where
-    go : (s : Bool) → slots_in (if s then Event.Return t f 0 r p else Event.Return t f (above_zero r) (pos 0) p) n vs ≡ padded []
+    go : (s : Bool) → slots_in (if_true s then Event.Return t f 0 r p else Event.Return t f (above_zero r) (pos 0) p) n vs ≡ padded []
     go true = refl
     go false = refl
 
@@ -196,7 +196,7 @@ pub line_in_numbered : (b n : ℕ) (minus : Bool) (vs : List ℕ) (e : Line) →
 unfolding line_in
 line_in_numbered b n minus vs e = go (right_count b n) refl
   where
-    go : (r : Bool) → right_count b n ≡ r → (if r then line_of b (numbers_in b minus (take n vs)) else refused 2) ≡ says e
+    go : (r : Bool) → right_count b n ≡ r → (if_true r then line_of b (numbers_in b minus (take n vs)) else refused 2) ≡ says e
         → (n ≤ most_fields) × Numbered b (numbers_in b minus (take n vs)) e
     go true r h = (right_most b n r, line_said b (numbers_in b minus (take n vs)) e h)
     go false r h = absurd (never h)

@@ -10,7 +10,7 @@ use lib.Dec.{eqb, leb, ltb}
 use lib.IntN.{ℤ, pos, negsuc, nat_abs}
 use lib.ListN.{length, set, length-set, length-map}
 use borrow.Author.Tests.{lt-ltb, le-ltb, le-leb, lt-leb, ltb-false, leb-true, leb-false}
-use Rattle.words.specs.Choice.{if◌then◌else◌}
+use Rattle.words.specs.Choice.{if_true◌then◌else◌}
 use Rattle.words.specs.Lists.{any}
 use Rattle.words.specs.Text.{tab}
 use Rattle.numbers.specs.Decimal.{number}
@@ -50,12 +50,12 @@ record Counted (k : ℕ) (g : Gathered) (z : ℤ) (r : Gathered) : Type 0 where
 counted : (k : ℕ) (g : Gathered) (z : ℤ) → Counted k g z (and_field k g (bounded largest (some z)))
 counted k g (pos n) = go (leb n largest) refl
   where
-    go : (t : Bool) → leb n largest ≡ t → Counted k g (pos n) (and_field k g (if t then Field.Plus n else Field.Out))
+    go : (t : Bool) → leb n largest ≡ t → Counted k g (pos n) (and_field k g (if_true t then Field.Plus n else Field.Out))
     go true h = record { count = refl; out = rw (le-ltb largest n (leb-true n largest h)) (sym (or_false g.tally.out)) }
     go false h = record { count = refl; out = rw (lt-ltb largest n (leb-false n largest h)) (sym (or_true g.tally.out)) }
 counted k g (negsuc n) = go (leb (suc n) largest) refl
   where
-    go : (t : Bool) → leb (suc n) largest ≡ t → Counted k g (negsuc n) (and_field k g (if t then Field.Minus (suc n) else Field.Out))
+    go : (t : Bool) → leb (suc n) largest ≡ t → Counted k g (negsuc n) (and_field k g (if_true t then Field.Minus (suc n) else Field.Out))
     go true h = record { count = refl; out = rw (le-ltb largest (suc n) (leb-true (suc n) largest h)) }
     go false h = record { count = refl; out = rw (lt-ltb largest (suc n) (leb-false (suc n) largest h)) (sym (or_true g.tally.out)) }
 
@@ -104,7 +104,7 @@ nothing_mends k g x ws h = let e = taken_over k g x h in ap (λ (r : Gathered). 
 -- how many numbers there are, from i on; one past the most where one is none or there are more
 abbrev pub counted_from : ℕ → Option (List ℤ) → ℕ
 counted_from i none = suc most_fields
-counted_from i (some ns) = if leb (i + length ns) most_fields then i + length ns else suc most_fields
+counted_from i (some ns) = if_true leb (i + length ns) most_fields then i + length ns else suc most_fields
 
 past_most : (i : ℕ) (o : Option (List ℤ)) → most_fields < i → counted_from i o ≡ suc most_fields
 past_most i none h = refl
@@ -119,12 +119,12 @@ one_more : (i : ℕ) (n : ℤ) (o : Option (List ℤ)) → counted_from (i + 1) 
 one_more i n none = refl
 one_more i n (some ns) =
     let k : i + 1 + length ns ≡ i + suc (length ns) = omega arith in
-    ap (λ (m : ℕ). if leb m most_fields then m else suc most_fields) k
+    ap (λ (m : ℕ). if_true leb m most_fields then m else suc most_fields) k
 
-end_count : (n : ℕ) → n ≤ suc most_fields → n ≡ (if leb (n + 0) most_fields then n + 0 else suc most_fields)
+end_count : (n : ℕ) → n ≤ suc most_fields → n ≡ (if_true leb (n + 0) most_fields then n + 0 else suc most_fields)
 end_count n h = go (dec_le n most_fields)
   where
-    go : Dec (n ≤ most_fields) → n ≡ (if leb (n + 0) most_fields then n + 0 else suc most_fields)
+    go : Dec (n ≤ most_fields) → n ≡ (if_true leb (n + 0) most_fields then n + 0 else suc most_fields)
     go (yes l) = rw (le-leb (n + 0) most_fields (omega arith)) (omega arith)
     go (no l) = rw (lt-leb (n + 0) most_fields (omega arith)) (omega arith)
 

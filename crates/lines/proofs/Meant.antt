@@ -9,7 +9,7 @@ use lib.IntN.{ℤ, pos, negsuc}
 use lib.ListN.{length, take, drop, replicate, length-drop, take-append-drop}
 use lib.Seq.{take-append_seam, drop-append_seam, length-take-le}
 use borrow.Author.Tests.{eqb-true, leb-true, not-false}
-use Rattle.words.specs.Choice.{if◌then◌else◌}
+use Rattle.words.specs.Choice.{if_true◌then◌else◌}
 use Rattle.words.specs.Lists.{any}
 use Rattle.facts.specs.Table.{fact_of, is_function}
 use Rattle.facts.specs.declared.Result.{Result}
@@ -37,7 +37,7 @@ with_slots_said : (n : ℕ) (hs : List ℕ) (x e : Line) → with_slots n hs x �
 with_slots_said n hs x e = go (leb n most_handles) refl (any not_zero (drop n hs)) refl (is_allowed x) refl
   where
     go : (a : Bool) → leb n most_handles ≡ a → (b : Bool) → any not_zero (drop n hs) ≡ b → (c : Bool) → is_allowed x ≡ c
-        → (if a && not b && c then says x else refused 3) ≡ says e
+        → (if_true a && not b && c then says x else refused 3) ≡ says e
         → (n ≤ most_handles) × (any not_zero (drop n hs) ≡ false) × (is_allowed x ≡ true) × (x ≡ e)
     go true p false q true r h = (leb-true n most_handles p, q, r, cc)
     go true p false q false r h = absurd (never h)
@@ -76,7 +76,7 @@ return_meant : (t f : ℕ) (r : ℤ) (p : ℕ) → is_allowed (R t f r p) ≡ tr
 return_meant t f r p h = go (gives_status f) refl
   where
     go : (s : Bool) → gives_status f ≡ s
-        → meant (if s then Event.Return t f 0 r p else Event.Return t f (above_zero r) (pos 0) p) (padded []) ≡ says (R t f r p)
+        → meant (if_true s then Event.Return t f 0 r p else Event.Return t f (above_zero r) (pos 0) p) (padded []) ≡ says (R t f r p)
     go true e = rw (e, h)
     go false e =
         let k = all4 (is_thread t) (is_function f) (result_allows (fact_of f).result r) (leb p 1) h in
@@ -115,7 +115,7 @@ return_same : (t f r : ℕ) (s : ℤ) (p : ℕ) (hs : List ℕ) (e : Line) → l
 return_same t f r s p hs e l = go (gives_status f) refl (eqb r 0) refl (is_zero s) refl
   where
     go : (x : Bool) → gives_status f ≡ x → (y : Bool) → eqb r 0 ≡ y → (z : Bool) → is_zero s ≡ z
-        → (if x then (if y then with_slots 0 hs (R t f s p) else refused 3) else (if z then with_slots 0 hs (R t f (pos r) p) else refused 3)) ≡ says e
+        → (if_true x then (if_true y then with_slots 0 hs (R t f s p) else refused 3) else (if_true z then with_slots 0 hs (R t f (pos r) p) else refused 3)) ≡ says e
         → Same (Event.Return t f r s p) hs e
     go true a true b z c h =
         let k = with_slots_said 0 hs (R t f s p) e h in

@@ -10,7 +10,7 @@ use lib.IntN.{ℤ, pos, negsuc}
 use lib.ListN.{length, length-map, drop_of_length-le}
 use lib.Seq.{take_all}
 use borrow.Author.Tests.{leb-true}
-use Rattle.words.specs.Choice.{if◌then◌else◌, within}
+use Rattle.words.specs.Choice.{if_true◌then◌else◌, within}
 use Rattle.words.specs.Lists.{any}
 use Rattle.numbers.specs.Signed.{is_negative}
 use Rattle.lines.specs.Line.{K, O, M, Line, N, X, C, R, A, D, Z, states, is_allowed, is_thread, is_env, is_argument, above_zero, most_handles}
@@ -52,7 +52,7 @@ never h = let z : ◌≡◌ {A = ℕ} 0 1 = cc in omega arith
 pub if_allowed_said : (x e : Line) → if_allowed x ≡ says e → x ≡ e
 if_allowed_said x e = go (is_allowed x)
   where
-    go : (t : Bool) → (if t then says x else refused 3) ≡ says e → x ≡ e
+    go : (t : Bool) → (if_true t then says x else refused 3) ≡ says e → x ≡ e
     go true h = cc
     go false h = absurd (never h)
 
@@ -68,7 +68,7 @@ in_form_said f ns e = go (within f.least f.most (length ns)) refl (any is_negati
   where
     go : (a : Bool) → within f.least f.most (length ns) ≡ a → (b : Bool) → any is_negative (without f.signed ns) ≡ b
         → (c : Bool) → is_allowed (f.line ns) ≡ c
-        → (if not a then refused 2 else if b then refused 3 else if c then says (f.line ns) else refused 3) ≡ says e → Formed f ns e
+        → (if_true not a then refused 2 else if_true b then refused 3 else if_true c then says (f.line ns) else refused 3) ≡ says e → Formed f ns e
     go true p false q true r h = let i : f.line ns ≡ e = cc in record { count = p; plain = q; is = i; allowed = ap is_allowed (sym i) ∙ r }
     go true p false q false r h = absurd (never h)
     go true p true q c r h = absurd (never h)

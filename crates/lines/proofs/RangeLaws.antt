@@ -6,7 +6,7 @@ use native.Mathlib.Omega.{arith}
 use lib.Dec.{eqb}
 use lib.IntN.{ℤ, pos, negsuc}
 use borrow.Author.Tests.{ne_eqb}
-use Rattle.words.specs.Choice.{if◌then◌else◌}
+use Rattle.words.specs.Choice.{if_true◌then◌else◌}
 use Rattle.facts.specs.declared.Result.{Result}
 use Rattle.numbers.specs.Signed.{signed, is_i32, as_int}
 use Rattle.numbers.specs.declared.Int.{Int}
@@ -55,7 +55,7 @@ module _ (f : ℕ) (minus : Bool) (n : ℕ) where
 pub capacity_i32 : (f : ℕ) (z : ℤ) → capacity_allows f z ≡ true → is_i32 z ≡ true
 capacity_i32 f z = go (eqb f 19 || eqb f 26)
   where
-    go : (t : Bool) → (if t then is_i32 z else is_zero z) ≡ true → is_i32 z ≡ true
+    go : (t : Bool) → (if_true t then is_i32 z else is_zero z) ≡ true → is_i32 z ≡ true
     go true h = h
     go false h = zero_i32 z h
 

@@ -8,7 +8,7 @@ use native.Mathlib.Omega.{arith}
 use lib.Dec.{eqb, ltb}
 use lib.IntN.{ℤ}
 use lib.ListN.{length, get_or, take}
-use Rattle.words.specs.Choice.{if◌then◌else◌, within}
+use Rattle.words.specs.Choice.{if_true◌then◌else◌, within}
 use Rattle.words.specs.Lists.{any}
 use Rattle.words.specs.Text.{line_feed}
 use Rattle.numbers.specs.Signed.{is_negative}
@@ -20,7 +20,7 @@ abbrev Low : Read → Type 0
 Low (says e) = Unit
 Low (refused k) = (1 ≤ k) × (k ≤ 3)
 
-if_low : (t : Bool) (x y : Read) → Low x → Low y → Low (if t then x else y)
+if_low : (t : Bool) (x y : Read) → Low x → Low y → Low (if_true t then x else y)
 if_low true x y a b = a
 if_low false x y a b = b
 

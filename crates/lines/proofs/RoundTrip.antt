@@ -11,7 +11,7 @@ use lib.IntN.{ℤ}
 use lib.ListN.{length, get_or, take, length-append}
 use lib.Seq.{take_at, get_or_at, take-suc, take-length}
 use borrow.Author.Tests.{eqb-true, eqb-false, eq-eqb, ne_eqb, le-ltb}
-use Rattle.words.specs.Choice.{if◌then◌else◌}
+use Rattle.words.specs.Choice.{if_true◌then◌else◌}
 use Rattle.words.specs.Lists.{any}
 use Rattle.words.specs.Text.{tab, line_feed}
 use Rattle.numbers.specs.Decimal.{number, shown}
@@ -158,7 +158,7 @@ unfolding read
 written_read bs e = go (eqb (length bs) 0) refl (ltb (suc longest) (length bs)) (eqb (get_or bs (length bs - 1) 0) line_feed) refl
   where
     go : (a : Bool) → eqb (length bs) 0 ≡ a → (b : Bool) → (c : Bool) → eqb (get_or bs (length bs - 1) 0) line_feed ≡ c
-        → (if a || b || not c then refused 1 else of_fields (fields (take (length bs - 1) bs))) ≡ says e
+        → (if_true a || b || not c then refused 1 else of_fields (fields (take (length bs - 1) bs))) ≡ says e
         → (written e ≡ bs) × (is_allowed e ≡ true)
     go true p b c q h = absurd (never h)
     go false p true c q h = absurd (never h)

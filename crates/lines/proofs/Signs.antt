@@ -11,7 +11,7 @@ use lib.Dec.{eqb}
 use lib.IntN.{ℤ, pos, negsuc, nat_abs}
 use lib.ListN.{length}
 use borrow.Author.Tests.{le-ltb, eq-eqb, ne_eqb}
-use Rattle.words.specs.Choice.{if◌then◌else◌}
+use Rattle.words.specs.Choice.{if_true◌then◌else◌}
 use Rattle.words.specs.Lists.{any}
 use Rattle.numbers.specs.Signed.{signed, is_negative}
 use Rattle.lines.specs.Line.{Line, is_allowed, largest}
@@ -119,7 +119,7 @@ plain_sizes k i (n ∷ ns) a h =
     ap₂ (λ (x : ℤ) (xs : List ℤ). x ∷ xs) (plain_size k i n (away k i (length ns) a) q.0) (plain_sizes k (suc i) ns (away_next k i (length ns) a) q.1)
 
 signs : (k i : ℕ) (ns : List ℤ) → i ≤ k → i + length ns ≤ most_fields → any_wrong k i ns ≡ false
-    → signed_at i (if any is_negative ns then k else no_place) (map nat_abs ns) ≡ ns
+    → signed_at i (if_true any is_negative ns then k else no_place) (map nat_abs ns) ≡ ns
 unfolding signed_at any_wrong
 signs k i [] l m h = refl
 signs k i (z ∷ ns) l m h = go (dec_lt i k) z (neither (wrong_at k i z) (any_wrong k (i + 1) ns) h).0 (signs k (suc i) ns)
@@ -127,13 +127,13 @@ signs k i (z ∷ ns) l m h = go (dec_lt i k) z (neither (wrong_at k i z) (any_wr
     rest : any_wrong k (suc i) ns ≡ false
     rest = ap (λ (j : ℕ). any_wrong k j ns) (sym (add-one i)) ∙ (neither (wrong_at k i z) (any_wrong k (i + 1) ns) h).1
 
-    other : (t : Bool) → i < k → eqb i (if t then k else no_place) ≡ false
+    other : (t : Bool) → i < k → eqb i (if_true t then k else no_place) ≡ false
     other true b = ne_eqb i k (λ e. omega arith)
     other false b = ne_eqb i no_place (λ e. omega arith)
 
     go : Dec (i < k) → (z : ℤ) → wrong_at k i z ≡ false
-        → (suc i ≤ k → suc i + length ns ≤ most_fields → any_wrong k (suc i) ns ≡ false → signed_at (suc i) (if any is_negative ns then k else no_place) (map nat_abs ns) ≡ ns)
-        → signed_at i (if any is_negative (z ∷ ns) then k else no_place) (map nat_abs (z ∷ ns)) ≡ z ∷ ns
+        → (suc i ≤ k → suc i + length ns ≤ most_fields → any_wrong k (suc i) ns ≡ false → signed_at (suc i) (if_true any is_negative ns then k else no_place) (map nat_abs ns) ≡ ns)
+        → signed_at i (if_true any is_negative (z ∷ ns) then k else no_place) (map nat_abs (z ∷ ns)) ≡ z ∷ ns
     go (yes b) (pos n) w ih =
         rw (other (any is_negative ns) b) (ap (λ (xs : List ℤ). pos n ∷ xs) (ih (omega arith) (omega arith) rest))
     go (yes b) (negsuc n) w ih = absurd (true≢false (not_negative k i (negsuc n) (ne_eqb i k (λ e. omega arith)) w))

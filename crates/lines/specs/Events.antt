@@ -1,6 +1,6 @@
 -- The code's events and the lines that they are; what the reader and the writer answer and leave. Assumes nothing.
 use Rattle.std.specs.Prelude.{ℕ, ◌-◌, ◌≡◌, Bool, true, false, not, ◌&&◌, List, [], ◌++◌, eqb, leb, ltb, ℤ, pos, length, take, drop, replicate}
-use Rattle.words.specs.Choice.{if◌then◌else◌}
+use Rattle.words.specs.Choice.{if_true◌then◌else◌}
 use Rattle.words.specs.Lists.{any}
 use Rattle.facts.specs.Table.{fact_of}
 use Rattle.facts.specs.declared.Result.{Result}
@@ -24,7 +24,7 @@ gives_status f = is_status (fact_of f).result
 
 -- the result in R's line, of the event's result h and status s: one of them is 0
 abbrev pub result_in_line : ℕ → ℕ → ℤ → ℤ
-result_in_line f h s = if gives_status f then s else pos h
+result_in_line f h s = if_true gives_status f then s else pos h
 
 -- ---- what the reader answers, and the eight slots beside it
 
@@ -33,7 +33,7 @@ event_of (refused k) = Event.Refused k
 event_of (says (N t env hs)) = Event.Enter t env (length hs)
 event_of (says (X t r)) = Event.Leave t r
 event_of (says (C t env f a b c n)) = Event.Call t env f a b c n
-event_of (says (R t f r p)) = if gives_status f then Event.Return t f 0 r p else Event.Return t f (above_zero r) (pos 0) p
+event_of (says (R t f r p)) = if_true gives_status f then Event.Return t f 0 r p else Event.Return t f (above_zero r) (pos 0) p
 event_of (says (A t env)) = Event.Attach t env
 event_of (says (D t)) = Event.Detach t
 event_of (says Z) = Event.End
@@ -59,15 +59,15 @@ not_zero h = not (eqb h 0)
 
 -- the line of an event: 3 for a bad one, also one with over eight handles, or a nonzero handle slot past its count
 abbrev pub with_slots : ℕ → List ℕ → Line → Read
-with_slots n hs e = if leb n most_handles && not (any not_zero (drop n hs)) && is_allowed e then says e else refused 3
+with_slots n hs e = if_true leb n most_handles && not (any not_zero (drop n hs)) && is_allowed e then says e else refused 3
 
 abbrev pub meant : Event → List ℕ → Read
 meant (Event.Enter t env n) hs = with_slots n hs (N t env (take n hs))
 meant (Event.Leave t r) hs = with_slots 0 hs (X t r)
 meant (Event.Call t env f a b c n) hs = with_slots 0 hs (C t env f a b c n)
 meant (Event.Return t f r s p) hs =
-    if gives_status f then (if eqb r 0 then with_slots 0 hs (R t f s p) else refused 3)
-    else (if is_zero s then with_slots 0 hs (R t f (pos r) p) else refused 3)
+    if_true gives_status f then (if_true eqb r 0 then with_slots 0 hs (R t f s p) else refused 3)
+    else (if_true is_zero s then with_slots 0 hs (R t f (pos r) p) else refused 3)
 meant (Event.Attach t env) hs = with_slots 0 hs (A t env)
 meant (Event.Detach t) hs = with_slots 0 hs (D t)
 meant (Event.Declare c s) hs = with_slots 0 hs (states (K c s))
@@ -79,9 +79,9 @@ meant (Event.Refused k) hs = refused 3
 -- 3, then 7 if the buffer is short
 abbrev pub wrote : Read → List ℕ → Wrote
 wrote (refused k) d = Wrote.Refused k
-wrote (says e) d = if ltb (length d) (length (written e)) then Wrote.Refused 7 else Wrote.Bytes (length (written e))
+wrote (says e) d = if_true ltb (length d) (length (written e)) then Wrote.Refused 7 else Wrote.Bytes (length (written e))
 
 -- bytes past a written line stay
 abbrev pub left : Read → List ℕ → List ℕ
 left (refused k) d = d
-left (says e) d = if ltb (length d) (length (written e)) then d else written e ++ drop (length (written e)) d
+left (says e) d = if_true ltb (length d) (length (written e)) then d else written e ++ drop (length (written e)) d

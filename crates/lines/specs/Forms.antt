@@ -1,7 +1,7 @@
 -- The forms of lines, one entry for each letter: how many numbers it has, which of them may be below zero, and the line that they are; and a line's own letter and numbers. Assumes nothing.
 use Rattle.std.specs.Prelude.{ℕ, List, [], ◌∷◌, map, eqb, ℤ, pos, get_or, drop}
 use Prim.Native.Char.{code}
-use Rattle.words.specs.Choice.{if◌then◌else◌}
+use Rattle.words.specs.Choice.{if_true◌then◌else◌}
 use Rattle.lines.specs.Line.{K, O, M, Line, N, X, C, R, A, D, Z, states, above_zero}
 
 pub record Form : Type 0 where
@@ -71,7 +71,7 @@ no_form letter = form letter 1 0 no_place (λ ns. Z)
 -- the first of that letter
 unfoldable pub of_letter : ℕ → List Form → Form
 of_letter letter [] = no_form letter
-of_letter letter (f ∷ fs) = if eqb letter f.letter then f else of_letter letter fs
+of_letter letter (f ∷ fs) = if_true eqb letter f.letter then f else of_letter letter fs
 
 abbrev pub form_of : ℕ → Form
 form_of letter = of_letter letter forms

@@ -1,6 +1,6 @@
 -- The reader's own bookkeeping: numbers as the code gathers them, and the line that they are; the law `made_numbers` (proofs/GatheredLaws.antt) ties it to Reading.antt. Assumes nothing.
 use Rattle.std.specs.Prelude.{ℕ, suc, ◌+◌, ◌-◌, ◌≡◌, Bool, true, false, not, ◌&&◌, ◌||◌, List, [], ◌∷◌, eqb, leb, ltb, length, get_or, set, drop, replicate}
-use Rattle.words.specs.Choice.{if◌then◌else◌}
+use Rattle.words.specs.Choice.{if_true◌then◌else◌}
 use Rattle.words.specs.Text.{tab}
 use Rattle.numbers.specs.Decimal.{number}
 use Rattle.numbers.specs.Reading.{bounded}
@@ -16,11 +16,11 @@ use Rattle.lines.specs.declared.heads.Head.{Head}
 
 -- the fields from a place on, none past the end
 abbrev pub fields_from : List ℕ → ℕ → List (List ℕ)
-fields_from s at = if leb at (length s) then fields (drop at s) else []
+fields_from s at = if_true leb at (length s) then fields (drop at s) else []
 
 -- the first field has one byte
 abbrev pub letter_alone : List ℕ → Bool
-letter_alone s = if leb 2 (length s) then eqb (get_or s 1 0) tab else eqb (length s) 1
+letter_alone s = if_true leb 2 (length s) then eqb (get_or s 1 0) tab else eqb (length s) 1
 
 -- ---- gathering
 
@@ -50,7 +50,7 @@ and_field k g Field.Out = gathered_as (tally (g.tally.count + 1) true g.tally.mi
 and_field k g Field.Bad = gathered_as wrong g.values
 
 unfoldable pub taken : ℕ → Gathered → Field → Gathered
-taken k g x = if ltb g.tally.count most_fields then and_field k g x else gathered_as wrong g.values
+taken k g x = if_true ltb g.tally.count most_fields then and_field k g x else gathered_as wrong g.values
 
 unfoldable pub gathered : ℕ → Gathered → List (List ℕ) → Gathered
 gathered k g [] = g
@@ -66,7 +66,7 @@ nothing_yet = tally 0 false false
 
 -- 3 where one is out of range, but 2 first where the count is wrong
 unfoldable pub made : ℕ → Tally → List ℕ → Read
-made letter t vs = if t.out && right_count letter t.count then refused 3 else line_in letter t.count t.minus vs
+made letter t vs = if_true t.out && right_count letter t.count then refused 3 else line_in letter t.count t.minus vs
 
 abbrev pub said : Head → List ℕ → Read
 said (Head.Numbers letter n minus) vs = line_in letter n minus vs

@@ -1,6 +1,6 @@
 -- A line of a trace, and which lines documents 01 and 02 allow by themselves. Assumes nothing.
 use Rattle.std.specs.Prelude.{ℕ, ◌%◌, Bool, true, false, not, ◌&&◌, ◌||◌, List, [], eqb, leb, ℤ, pos, negsuc, length}
-use Rattle.words.specs.Choice.{if◌then◌else◌, within}
+use Rattle.words.specs.Choice.{if_true◌then◌else◌, within}
 use Rattle.words.specs.Lists.{any}
 use Rattle.numbers.specs.Signed.{is_i32}
 use Rattle.facts.specs.Table.{fact_of, is_function}
@@ -249,7 +249,7 @@ place_allows Place.Buffer v = is_value v
 
 -- capacity n is used by 19 and 26 only, else 0
 abbrev pub capacity_allows : ℕ → ℤ → Bool
-capacity_allows f n = if eqb f PushLocalFrame || eqb f EnsureLocalCapacity then is_i32 n else is_zero n
+capacity_allows f n = if_true eqb f PushLocalFrame || eqb f EnsureLocalCapacity then is_i32 n else is_zero n
 
 -- a value of which a test holds
 abbrev pub value_allows : (ℕ → Bool) → ℤ → Bool

@@ -1,7 +1,7 @@
 -- What the bytes of a line say, or why they say nothing. Assumes nothing.
 use Rattle.std.specs.Prelude.{ℕ, suc, ◌-◌, not, ◌||◌, List, [], ◌∷◌, ◌++◌, eqb, ltb, ℤ, length, get_or, take, drop}
 use Rattle.std.proofs.Math.Option.{Option, none, some}
-use Rattle.words.specs.Choice.{if◌then◌else◌, within}
+use Rattle.words.specs.Choice.{if_true◌then◌else◌, within}
 use Rattle.words.specs.Lists.{any}
 use Rattle.words.specs.Text.{tab, line_feed}
 use Rattle.numbers.specs.Decimal.{number}
@@ -22,7 +22,7 @@ onto_first b (w ∷ ws) = (b ∷ w) ∷ ws
 
 unfoldable pub fields : List ℕ → List (List ℕ)
 fields [] = [] ∷ []
-fields (b ∷ bs) = if eqb b tab then [] ∷ fields bs else onto_first b (fields bs)
+fields (b ∷ bs) = if_true eqb b tab then [] ∷ fields bs else onto_first b (fields bs)
 
 -- all the fields as numbers, if each is one
 abbrev pub and_number : Option ℤ → Option (List ℤ) → Option (List ℤ)
@@ -38,7 +38,7 @@ numbers (w ∷ ws) = and_number (number w) (numbers ws)
 
 -- the line, if all is in range
 abbrev pub if_allowed : Line → Read
-if_allowed e = if is_allowed e then says e else refused 3
+if_allowed e = if_true is_allowed e then says e else refused 3
 
 -- all but that at place k
 abbrev pub without : ℕ → List ℤ → List ℤ
@@ -47,8 +47,8 @@ without k ns = take k ns ++ drop (suc k) ns
 -- 2 where the count of numbers is wrong, 3 where one is below zero that may not be, or out of range
 abbrev pub in_form : Form → List ℤ → Read
 in_form f ns =
-    if not (within f.least f.most (length ns)) then refused 2
-    else if any is_negative (without f.signed ns) then refused 3
+    if_true not (within f.least f.most (length ns)) then refused 2
+    else if_true any is_negative (without f.signed ns) then refused 3
     else if_allowed (f.line ns)
 
 unfoldable pub line_of : ℕ → List ℤ → Read
@@ -70,6 +70,6 @@ of_fields ((letter ∷ _ ∷ _) ∷ ws) = refused 2
 -- 1 for a line that is too long or has no LF, then 2, then 3
 unfoldable pub read : List ℕ → Read
 read bs =
-    if eqb (length bs) 0 || ltb (suc longest) (length bs) || not (eqb (get_or bs (length bs - 1) 0) line_feed)
+    if_true eqb (length bs) 0 || ltb (suc longest) (length bs) || not (eqb (get_or bs (length bs - 1) 0) line_feed)
     then refused 1
     else of_fields (fields (take (length bs - 1) bs))

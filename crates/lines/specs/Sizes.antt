@@ -1,6 +1,6 @@
 -- Numbers as the code has them: their sizes, and whether the one that may be below zero is. Assumes nothing.
 use Rattle.std.specs.Prelude.{ℕ, suc, Bool, List, [], ◌∷◌, map, eqb, ℤ, take, drop}
-use Rattle.words.specs.Choice.{if◌then◌else◌, within}
+use Rattle.words.specs.Choice.{if_true◌then◌else◌, within}
 use Rattle.numbers.specs.Signed.{signed}
 use Rattle.lines.specs.Forms.{Form, no_place, form_of}
 use Rattle.lines.specs.Reading.{Read, refused, line_of}
@@ -20,7 +20,7 @@ signed_at i k (v ∷ vs) = signed (eqb i k) v ∷ signed_at (suc i) k vs
 
 -- the place of the number that is below zero
 abbrev pub minus_place : ℕ → Bool → ℕ
-minus_place letter minus = if minus then (form_of letter).signed else no_place
+minus_place letter minus = if_true minus then (form_of letter).signed else no_place
 
 abbrev pub numbers_in : ℕ → Bool → List ℕ → List ℤ
 numbers_in letter minus vs = signed_at 0 (minus_place letter minus) vs
@@ -30,7 +30,7 @@ right_count letter n = within (form_of letter).least (form_of letter).most n
 
 -- the line of a letter and n numbers, which stand at the front
 unfoldable pub line_in : ℕ → ℕ → Bool → List ℕ → Read
-line_in letter n minus vs = if right_count letter n then line_of letter (numbers_in letter minus (take n vs)) else refused 2
+line_in letter n minus vs = if_true right_count letter n then line_of letter (numbers_in letter minus (take n vs)) else refused 2
 
 -- the handles that N names, after thread and env
 abbrev pub named : ℕ → List ℕ → List ℕ

@@ -10,7 +10,7 @@ use lib.Dec.{eqb}
 use lib.IntN.{ℤ, pos, negsuc}
 use lib.Seq.{append_snoc}
 use borrow.Author.Tests.{le-leb, ne_eqb, eqb-true, eqb-false}
-use Rattle.words.specs.Choice.{if◌then◌else◌}
+use Rattle.words.specs.Choice.{if_true◌then◌else◌}
 use Rattle.numbers.specs.Decimal.{zero_digit, minus_sign, digits, shown, is_digit, read_on, nothing_more, decimal, not_negative, negative, number}
 use Rattle.numbers.proofs.Digits.{digit, digits_one, digits_step, digits_more}
 use Rattle.numbers.proofs.Run.{digit_range, read_on_digit, read_on_other}
@@ -144,6 +144,6 @@ read_was_written (b ∷ s) z e = go (eqb b minus_sign) refl e
         let i : z ≡ pos n = cc in
         rw i (digits_decimal (b ∷ s) n d)
 
-    go : (t : Bool) → eqb b minus_sign ≡ t → (if t then negative (decimal s) else not_negative (decimal (b ∷ s))) ≡ some z → shown z ≡ b ∷ s
+    go : (t : Bool) → eqb b minus_sign ≡ t → (if_true t then negative (decimal s) else not_negative (decimal (b ∷ s))) ≡ some z → shown z ≡ b ∷ s
     go true h a = after_minus (decimal s) refl (eqb-true b minus_sign h) a
     go false h a = plain (decimal (b ∷ s)) refl a

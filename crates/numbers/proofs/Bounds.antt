@@ -7,7 +7,7 @@ use native.Mathlib.Omega.{arith}
 use lib.Dec.{leb}
 use lib.IntN.{ℤ, pos, negsuc, nat_abs}
 use borrow.Author.Tests.{le-leb, lt-leb, leb-true, leb-false}
-use Rattle.words.specs.Choice.{if◌then◌else◌}
+use Rattle.words.specs.Choice.{if_true◌then◌else◌}
 use Rattle.numbers.specs.Decimal.{shown, number}
 use Rattle.numbers.specs.Reading.{bounded}
 use Rattle.numbers.specs.Signed.{signed, is_negative, largest_i32, is_i32, as_int}
@@ -54,12 +54,12 @@ every_meaning : (max : ℕ) (o : Option ℤ) → Means max o (bounded max o)
 every_meaning max none = refl
 every_meaning max (some (pos n)) = go (leb n max) refl
   where
-    go : (t : Bool) → leb n max ≡ t → Means max (some (pos n)) (if t then Plus n else Out)
+    go : (t : Bool) → leb n max ≡ t → Means max (some (pos n)) (if_true t then Plus n else Out)
     go true h = (refl, leb-true n max h)
     go false h = record { number = pos n; is = refl; past = leb-false n max h }
 every_meaning max (some (negsuc n)) = go (leb (suc n) max) refl
   where
-    go : (t : Bool) → leb (suc n) max ≡ t → Means max (some (negsuc n)) (if t then Minus (suc n) else Out)
+    go : (t : Bool) → leb (suc n) max ≡ t → Means max (some (negsuc n)) (if_true t then Minus (suc n) else Out)
     go true h = (refl, (omega arith, leb-true (suc n) max h))
     go false h = record { number = negsuc n; is = refl; past = leb-false (suc n) max h }
 
@@ -78,13 +78,13 @@ int_of_i32 z h = ap as_int (signed_size z) ∙ rw h
 pub int_was : (z : ℤ) {y : ℤ} → as_int z ≡ Int.Value y → (z ≡ y) × (is_i32 z ≡ true)
 int_was z {y} = go (is_i32 z)
   where
-    go : (t : Bool) → (if t then Int.Value z else Int.Out) ≡ Int.Value y → (z ≡ y) × (t ≡ true)
+    go : (t : Bool) → (if_true t then Int.Value z else Int.Out) ≡ Int.Value y → (z ≡ y) × (t ≡ true)
     go true e = (cc, refl)
     go false e = let x : ◌≡◌ {A = ℕ} 0 1 = cc in absurd (omega arith)
 
 pub int_was_out : (z : ℤ) → as_int z ≡ Int.Out → is_i32 z ≡ false
 int_was_out z = go (is_i32 z)
   where
-    go : (t : Bool) → (if t then Int.Value z else Int.Out) ≡ Int.Out → t ≡ false
+    go : (t : Bool) → (if_true t then Int.Value z else Int.Out) ≡ Int.Out → t ≡ false
     go true e = let x : ◌≡◌ {A = ℕ} 0 1 = cc in absurd (omega arith)
     go false e = refl

@@ -9,7 +9,7 @@ use native.Mathlib.Decide.{dec_lt}
 use lib.Dec.{eqb}
 use lib.IntN.{ℤ, pos, negsuc}
 use borrow.Author.Tests.{eq-eqb, ne_eqb}
-use Rattle.words.specs.Choice.{if◌then◌else◌}
+use Rattle.words.specs.Choice.{if_true◌then◌else◌}
 use Rattle.words.specs.Lists.{any}
 use Rattle.numbers.specs.Decimal.{zero_digit, minus_sign, digits, shown, is_digit, number}
 use Rattle.numbers.specs.Reading.{until}
@@ -61,7 +61,7 @@ unfolding until
 until_none x [] h = refl
 until_none x (b ∷ s) h = go (eqb b x) h (until_none x s)
   where
-    go : (u : Bool) → (u || has x s) ≡ false → (has x s ≡ false → until x s ≡ s) → (if u then [] else b ∷ until x s) ≡ b ∷ s
+    go : (u : Bool) → (u || has x s) ≡ false → (has x s ≡ false → until x s ≡ s) → (if_true u then [] else b ∷ until x s) ≡ b ∷ s
     go true p ih = absurd (false≢true (sym p))
     go false p ih = ap (λ t. b ∷ t) (ih p)
 
@@ -72,6 +72,6 @@ until_first x (b ∷ s) t h = go (eqb b x) h (until_first x s t)
   where
     go :
         (u : Bool) → (u || has x s) ≡ false → (has x s ≡ false → until x (s ++ (x ∷ t)) ≡ s)
-        → (if u then [] else b ∷ until x (s ++ (x ∷ t))) ≡ b ∷ s
+        → (if_true u then [] else b ∷ until x (s ++ (x ∷ t))) ≡ b ∷ s
     go true p ih = absurd (false≢true (sym p))
     go false p ih = ap (λ r. b ∷ r) (ih p)

@@ -8,7 +8,7 @@ use native.Mathlib.Omega.{arith}
 use lib.Dec.{leb, ltb, eqb}
 use lib.ListN.{length, get_or}
 use borrow.Author.Tests.{le-leb, eqb-true, eqb-false, lt-ltb, ne_eqb}
-use Rattle.words.specs.Choice.{if◌then◌else◌}
+use Rattle.words.specs.Choice.{if_true◌then◌else◌}
 use Rattle.numbers.specs.Decimal.{zero_digit, minus_sign, read_on, decimal, not_negative, negative, number}
 use Rattle.numbers.specs.Reading.{bounded, field_at, found, found_decimal, found_on, starts_minus, negated}
 use Rattle.numbers.specs.declared.Field.{Field}
@@ -24,12 +24,12 @@ decimal_zero : (f : List ℕ) → (eqb (get_or f 0 0) zero_digit && ltb 1 (lengt
 decimal_zero [] h = refl
 decimal_zero (b ∷ []) h = go (eqb b zero_digit) h
   where
-    go : (t : Bool) → (t && ltb 1 1) ≡ true → (if t then some 0 else read_on 0 (b ∷ [])) ≡ none
+    go : (t : Bool) → (t && ltb 1 1) ≡ true → (if_true t then some 0 else read_on 0 (b ∷ [])) ≡ none
     go true h = absurd (false≢true h)
     go false h = absurd (false≢true h)
 decimal_zero (b ∷ x ∷ f) h = go (eqb b zero_digit) h
   where
-    go : (t : Bool) → (t && ltb 1 (suc (suc (length f)))) ≡ true → (if t then none else read_on 0 (b ∷ x ∷ f)) ≡ none
+    go : (t : Bool) → (t && ltb 1 (suc (suc (length f)))) ≡ true → (if_true t then none else read_on 0 (b ∷ x ∷ f)) ≡ none
     go true h = refl
     go false h = absurd (false≢true h)
 
@@ -38,12 +38,12 @@ unfolding read_on
 decimal_run [] l h = absurd (omega arith)
 decimal_run (b ∷ []) l h = go (eqb b zero_digit) refl
   where
-    go : (t : Bool) → eqb b zero_digit ≡ t → (if t then some 0 else read_on 0 (b ∷ [])) ≡ read_on 0 (b ∷ [])
+    go : (t : Bool) → eqb b zero_digit ≡ t → (if_true t then some 0 else read_on 0 (b ∷ [])) ≡ read_on 0 (b ∷ [])
     go true e = let k = eqb-true b zero_digit e in rw k
     go false e = refl
 decimal_run (b ∷ x ∷ f) l h = go (eqb b zero_digit) h
   where
-    go : (t : Bool) → (t && ltb 1 (suc (suc (length f)))) ≡ false → (if t then none else read_on 0 (b ∷ x ∷ f)) ≡ read_on 0 (b ∷ x ∷ f)
+    go : (t : Bool) → (t && ltb 1 (suc (suc (length f)))) ≡ false → (if_true t then none else read_on 0 (b ∷ x ∷ f)) ≡ read_on 0 (b ∷ x ∷ f)
     go true h = absurd (false≢true (sym h ∙ lt-ltb 1 (suc (suc (length f))) (omega arith)))
     go false h = refl
 
@@ -88,7 +88,7 @@ negated_is max none = refl
 negated_is max (some zero) = rw (le-leb 0 max (omega arith))
 negated_is max (some (suc n)) = go (leb (suc n) max)
   where
-    go : (t : Bool) → negated (if t then Plus (suc n) else Out) ≡ (if t then Minus (suc n) else Out)
+    go : (t : Bool) → negated (if_true t then Plus (suc n) else Out) ≡ (if_true t then Minus (suc n) else Out)
     go true = refl
     go false = refl
 

@@ -2,7 +2,7 @@
 use Rattle.std.specs.Prelude.{ℕ, zero, suc, ◌+◌, ◌-◌, ◌*◌, ◌/◌, ◌%◌, Bool, true, false, List, [], ◌∷◌, ◌++◌, ltb, eqb, ℤ, pos, negsuc}
 use Prim.Native.Char.{code}
 use Rattle.std.proofs.Math.Option.{Option, none, some}
-use Rattle.words.specs.Choice.{if◌then◌else◌, within}
+use Rattle.words.specs.Choice.{if_true◌then◌else◌, within}
 
 abbrev pub zero_digit : ℕ
 zero_digit = code "0"
@@ -34,7 +34,7 @@ is_digit b = within zero_digit (code "9") b
 -- digits read on from n
 unfoldable pub read_on : ℕ → List ℕ → Option ℕ
 read_on n [] = some n
-read_on n (b ∷ s) = if is_digit b then read_on (n * 10 + (b - zero_digit)) s else none
+read_on n (b ∷ s) = if_true is_digit b then read_on (n * 10 + (b - zero_digit)) s else none
 
 abbrev pub nothing_more : List ℕ → Option ℕ
 nothing_more [] = some 0
@@ -43,7 +43,7 @@ nothing_more (b ∷ s) = none
 -- a decimal without sign or leading zeros
 abbrev pub decimal : List ℕ → Option ℕ
 decimal [] = none
-decimal (b ∷ s) = if eqb b zero_digit then nothing_more s else read_on 0 (b ∷ s)
+decimal (b ∷ s) = if_true eqb b zero_digit then nothing_more s else read_on 0 (b ∷ s)
 
 abbrev pub not_negative : Option ℕ → Option ℤ
 not_negative none = none
@@ -58,4 +58,4 @@ negative (some (suc n)) = some (negsuc n)
 -- a field: a decimal, or one after a minus
 abbrev pub number : List ℕ → Option ℤ
 number [] = none
-number (b ∷ s) = if eqb b minus_sign then negative (decimal s) else not_negative (decimal (b ∷ s))
+number (b ∷ s) = if_true eqb b minus_sign then negative (decimal s) else not_negative (decimal (b ∷ s))

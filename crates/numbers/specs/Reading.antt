@@ -1,7 +1,7 @@
 -- A field of a byte list, from a place up to a byte that stops it, and what the reader answers of it. Assumes nothing.
 use Rattle.std.specs.Prelude.{ℕ, zero, suc, ◌+◌, Bool, true, false, not, List, [], ◌∷◌, leb, eqb, ℤ, pos, negsuc, length, drop}
 use Rattle.std.proofs.Math.Option.{Option, none, some}
-use Rattle.words.specs.Choice.{if◌then◌else◌}
+use Rattle.words.specs.Choice.{if_true◌then◌else◌}
 use Rattle.words.specs.Lists.{any}
 use Rattle.numbers.specs.Decimal.{minus_sign, is_digit, read_on, decimal, not_negative, number}
 use Rattle.numbers.specs.declared.Field.{Field}
@@ -11,13 +11,13 @@ use Rattle.numbers.specs.declared.Found.{Found}
 -- a reading held to sizes up to max
 abbrev pub bounded : ℕ → Option ℤ → Field
 bounded max none = Bad
-bounded max (some (pos n)) = if leb n max then Plus n else Out
-bounded max (some (negsuc n)) = if leb (suc n) max then Minus (suc n) else Out
+bounded max (some (pos n)) = if_true leb n max then Plus n else Out
+bounded max (some (negsuc n)) = if_true leb (suc n) max then Minus (suc n) else Out
 
 -- the bytes before the first `stop`, or all
 unfoldable pub until : ℕ → List ℕ → List ℕ
 until stop [] = []
-until stop (b ∷ s) = if eqb b stop then [] else b ∷ until stop s
+until stop (b ∷ s) = if_true eqb b stop then [] else b ∷ until stop s
 
 -- the field at a place; none past the end
 abbrev pub field_at : List ℕ → ℕ → ℕ → List ℕ

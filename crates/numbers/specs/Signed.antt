@@ -1,6 +1,6 @@
 -- Numbers by sign and size, and those that 32 bits hold. Assumes nothing.
 use Rattle.std.specs.Prelude.{ℕ, zero, suc, Bool, true, false, leb, ℤ, pos, negsuc}
-use Rattle.words.specs.Choice.{if◌then◌else◌}
+use Rattle.words.specs.Choice.{if_true◌then◌else◌}
 use Rattle.numbers.specs.declared.Int.{Int}
 use Rattle.numbers.specs.declared.Int.TheVariants.{Value, Out}
 
@@ -23,4 +23,4 @@ is_i32 (pos n) = leb n largest_i32
 is_i32 (negsuc n) = leb n largest_i32
 
 abbrev pub as_int : ℤ → Int
-as_int z = if is_i32 z then Value z else Out
+as_int z = if_true is_i32 z then Value z else Out

@@ -1,6 +1,6 @@
 -- Bytes put into a byte list at a place: what the writer answers and leaves. Assumes nothing.
 use Rattle.std.specs.Prelude.{ℕ, ◌+◌, ◌≡◌, Bool, List, ◌++◌, leb, length, take, drop}
-use Rattle.words.specs.Choice.{if◌then◌else◌}
+use Rattle.words.specs.Choice.{if_true◌then◌else◌}
 use Rattle.numbers.specs.declared.Room.{Room}
 use Rattle.numbers.specs.declared.Room.TheVariants.{To, Short}
 
@@ -13,5 +13,5 @@ has_room d at bytes = leb (at + length bytes) (length d)
 
 -- the reply `r` and what is left, `d'`, of d: the bytes at the place, or nothing written where there is no room
 pub record Puts (d : List ℕ) (at : ℕ) (bytes : List ℕ) (r : Room) (d' : List ℕ) : Type 0 where
-  pub reply : r ≡ (if has_room d at bytes then To (at + length bytes) else Short)
-  pub left : d' ≡ (if has_room d at bytes then put d at bytes else d)
+  pub reply : r ≡ (if_true has_room d at bytes then To (at + length bytes) else Short)
+  pub left : d' ≡ (if_true has_room d at bytes then put d at bytes else d)

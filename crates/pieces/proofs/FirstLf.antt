@@ -8,7 +8,7 @@ use native.Mathlib.Numerals.{add-one}
 use lib.ListN.{length, take, drop, get_or, length-take, drop_of_length-le}
 use lib.Seq.{drop-cons, take_all, get_or-take}
 use borrow.Author.Tests.{eq-eqb, ne_eqb}
-use Rattle.words.specs.Choice.{if◌then◌else◌}
+use Rattle.words.specs.Choice.{if_true◌then◌else◌}
 use Rattle.words.specs.Lists.{any, place_of}
 use Rattle.words.specs.Text.{line_feed}
 use Rattle.lines.specs.Line.{longest}
@@ -33,7 +33,7 @@ module _ {A : Type 0} (f : A → Bool) where
   place_most [] = omega arith
   place_most (x ∷ s) = go (f x) (place_most s)
     where
-      go : (t : Bool) → place_of f s ≤ length s → (if t then 0 else suc (place_of f s)) ≤ suc (length s)
+      go : (t : Bool) → place_of f s ≤ length s → (if_true t then 0 else suc (place_of f s)) ≤ suc (length s)
       go true h = omega arith
       go false h = omega arith
 
@@ -41,9 +41,9 @@ module _ {A : Type 0} (f : A → Bool) where
   place_found [] d h = absurd (omega arith)
   place_found (x ∷ s) d h = go (f x) refl h (place_found s d)
     where
-      go : (t : Bool) → f x ≡ t → (if t then 0 else suc (place_of f s)) < suc (length s)
+      go : (t : Bool) → f x ≡ t → (if_true t then 0 else suc (place_of f s)) < suc (length s)
           → (place_of f s < length s → f (get_or s (place_of f s) d) ≡ true)
-          → f (get_or (x ∷ s) (if t then 0 else suc (place_of f s)) d) ≡ true
+          → f (get_or (x ∷ s) (if_true t then 0 else suc (place_of f s)) d) ≡ true
       go true e h ih = e
       go false e h ih = ih (omega arith)
 
@@ -51,7 +51,7 @@ module _ {A : Type 0} (f : A → Bool) where
   place_none [] h = refl
   place_none (x ∷ s) h = go (f x) h (place_none s)
     where
-      go : (t : Bool) → suc (length s) ≤ (if t then 0 else suc (place_of f s)) → (length s ≤ place_of f s → any f s ≡ false) → (t || any f s) ≡ false
+      go : (t : Bool) → suc (length s) ≤ (if_true t then 0 else suc (place_of f s)) → (length s ≤ place_of f s → any f s ≡ false) → (t || any f s) ≡ false
       go true h ih = absurd (omega arith)
       go false h ih = ih (omega arith)
 
@@ -61,7 +61,7 @@ module _ {A : Type 0} (f : A → Bool) where
   none_before (suc k) (x ∷ s) = go (f x) refl (none_before k s)
     where
       go : (t : Bool) → f x ≡ t → any f (take (place_of f (take k s)) s) ≡ false
-          → any f (take (if t then 0 else suc (place_of f (take k s))) (x ∷ s)) ≡ false
+          → any f (take (if_true t then 0 else suc (place_of f (take k s))) (x ∷ s)) ≡ false
       go true e ih = refl
       go false e ih = rw e ih
 
@@ -71,9 +71,9 @@ module _ {A : Type 0} (f : A → Bool) where
   place_append (suc k) [] t h = absurd (omega arith)
   place_append (suc k) (x ∷ s) t h = go (f x) h (place_append k s t)
     where
-      go : (b : Bool) → (if b then 0 else suc (place_of f (take k s))) < suc (length s)
+      go : (b : Bool) → (if_true b then 0 else suc (place_of f (take k s))) < suc (length s)
           → (place_of f (take k s) < length s → place_of f (take k (s ++ t)) ≡ place_of f (take k s))
-          → (if b then 0 else suc (place_of f (take k (s ++ t)))) ≡ (if b then 0 else suc (place_of f (take k s)))
+          → (if_true b then 0 else suc (place_of f (take k (s ++ t)))) ≡ (if_true b then 0 else suc (place_of f (take k s)))
       go true h ih = refl
       go false h ih = ap suc (ih (omega arith))
 

@@ -8,7 +8,7 @@ use lib.Dec.{eqb, leb}
 use lib.ListN.{length, take, drop, get_or, drop_of_length-le}
 use lib.Seq.{take_all, take-append-le, drop-append-le}
 use borrow.Author.Tests.{eqb-true, eqb-false}
-use Rattle.words.specs.Choice.{if◌then◌else◌}
+use Rattle.words.specs.Choice.{if_true◌then◌else◌}
 use Rattle.words.specs.Text.{line_feed}
 use Rattle.lines.specs.Reading.{refused, read}
 use Rattle.history.specs.Replies.{most_lines}
@@ -32,7 +32,7 @@ module _ (T : Tables) (fs : List Finding) where
   refused_alike k line piece p q lines others = rw (p, q) (go (unfit_tables T) (leb most_lines (lines_in T.book)))
     where
       stepped_by : Bool → Bool → Stepped
-      stepped_by t u = if t then untouched 8 T else if u then untouched 1 T else untouched k T
+      stepped_by t u = if_true t then untouched 8 T else if_true u then untouched 1 T else untouched k T
 
       go : (t u : Bool) → go_on_in T fs (stepped_by t u).reply (λ gs. run_in (stepped_by t u).left (fs ++ gs) lines)
           ≡ go_on_in T fs (stepped_by t u).reply (λ gs. run_in (stepped_by t u).left (fs ++ gs) others)

@@ -1,6 +1,6 @@
 -- The pieces of the unread bytes, which are handed to the step one after another. Assumes nothing.
 use Rattle.std.specs.Prelude.{ℕ, zero, suc, ◌≡◌, Bool, true, false, List, [], ◌∷◌, eqb, ltb, length, take, drop}
-use Rattle.words.specs.Choice.{if◌then◌else◌}
+use Rattle.words.specs.Choice.{if_true◌then◌else◌}
 use Rattle.words.specs.Lists.{place_of}
 use Rattle.words.specs.Text.{line_feed}
 use Rattle.lines.specs.Line.{longest}
@@ -16,7 +16,7 @@ before_lf s = place_of ends_line (take longest s)
 
 -- these and the byte after them: a line with its LF, or 225 bytes that no LF ends; 0: none before more are read
 unfoldable pub piece_length : List ℕ → ℕ
-piece_length s = if ltb (before_lf s) (length s) then suc (before_lf s) else 0
+piece_length s = if_true ltb (before_lf s) (length s) then suc (before_lf s) else 0
 
 -- what comes next of m bytes, of which the piece has n, where the input has ended behind them or not: at the end all that is left is a line without its LF
 abbrev pub next_by : Bool → ℕ → ℕ → Next

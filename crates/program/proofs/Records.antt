@@ -8,7 +8,7 @@ use native.Mathlib.Numerals.{add-one}
 use native.Mathlib.Omega.{arith}
 use borrow.Author.Tests.{le-ltb}
 use lib.ListN.{length, get_or, drop}
-use Rattle.words.specs.Choice.{if◌then◌else◌}
+use Rattle.words.specs.Choice.{if_true◌then◌else◌}
 use Rattle.words.specs.Lists.{joined}
 use Rattle.history.specs.Past.{History, closed}
 use Rattle.history.specs.Leaks.{Leak, shown_leak}
@@ -94,7 +94,7 @@ pub record Has (l : Listing) (bytes : List ℕ) : Type 0 where
   pub shown : shown_from l.left 0 (records_in l.reply) ≡ bytes
 
 listed_so : (is_closed : Bool) (xs : List Leak) (ns : List ℕ) → length xs ≤ most_leaks → length ns ≡ most_leaks * leak_numbers
-    → Has (if not is_closed then lists (not_written 4) ns else list_into xs ns) (if is_closed then joined xs shown_leak else [])
+    → Has (if_true not is_closed then lists (not_written 4) ns else list_into xs ns) (if_true is_closed then joined xs shown_leak else [])
 unfolding shown_from list_into
 listed_so false xs ns few size = record { few = omega arith; shown = refl }
 listed_so true xs ns few size =

@@ -1,6 +1,6 @@
 -- The leaks as they are listed in a slice of records, and as they are printed from there. Assumes nothing.
 use Rattle.std.specs.Prelude.{ℕ, zero, suc, ◌+◌, ◌*◌, ◌≡◌, Bool, List, [], ◌∷◌, get_or}
-use Rattle.words.specs.Choice.{if◌then◌else◌}
+use Rattle.words.specs.Choice.{if_true◌then◌else◌}
 use Rattle.words.specs.Lists.{joined}
 use Rattle.history.specs.Leaks.{Leak, shown_leak}
 use Rattle.report.specs.Shown.{leak}
@@ -9,7 +9,7 @@ use Rattle.tables.specs.Listing.{leak_numbers, Listed, written, not_written, Lis
 
 -- none are listed where none are asked for
 unfoldable pub listing_of : Bool → Tables → List ℕ → Listing
-listing_of asked T ns = if asked then list_of T ns else lists (written 0) ns
+listing_of asked T ns = if_true asked then list_of T ns else lists (written 0) ns
 
 -- so many records stand in the slice
 abbrev pub records_in : Listed → ℕ

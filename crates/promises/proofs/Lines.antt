@@ -9,7 +9,7 @@ use lib.Dec.{ltb}
 use lib.ListN.{length, take, drop}
 use lib.Seq.{take-append_seam}
 use borrow.Author.Tests.{le-ltb}
-use Rattle.words.specs.Choice.{if◌then◌else◌}
+use Rattle.words.specs.Choice.{if_true◌then◌else◌}
 use Rattle.lines.specs.Line.{Line, is_allowed, most_handles}
 use Rattle.lines.specs.Reading.{Read, says, refused, read}
 use Rattle.lines.specs.Writing.{written}
@@ -52,8 +52,8 @@ wrote_bytes : (x : Read) (d : List ℕ) {d' : List ℕ} {n : ℕ} → Wrote.Byte
 wrote_bytes (refused k) d h g = let z : ◌≡◌ {A = ℕ} 0 1 = cc in absurd (omega arith)
 wrote_bytes (says e) d {d'} {n} h g = go (ltb (length d) (length (written e))) h g
   where
-    go : (t : Bool) → Wrote.Bytes n ≡ (if t then Wrote.Refused 7 else Wrote.Bytes (length (written e)))
-        → d' ≡ (if t then d else written e ++ drop (length (written e)) d) → Written (says e) d d' n
+    go : (t : Bool) → Wrote.Bytes n ≡ (if_true t then Wrote.Refused 7 else Wrote.Bytes (length (written e)))
+        → d' ≡ (if_true t then d else written e ++ drop (length (written e)) d) → Written (says e) d d' n
     go true h g = let z : ◌≡◌ {A = ℕ} 0 1 = cc in absurd (omega arith)
     go false h g =
         let k : n ≡ length (written e) = cc in

@@ -12,7 +12,7 @@ use mir.Val.{SFits, to_z, of_z}
 use mir.ValLaws.{to_z_pos, to_z-of_z}
 use borrow.Author.Rules.{sfits_of}
 use Rattle.numbers.proofs.Minus.{minus_is, minus_fits}
-use Rattle.words.specs.Choice.{if◌then◌else◌}
+use Rattle.words.specs.Choice.{if_true◌then◌else◌}
 use Rattle.words.specs.Lists.{any}
 use Rattle.lines.specs.Line.{K, O, M, Line, N, X, C, R, A, D, Z, states, longest, most_handles, is_allowed, is_zero}
 use Rattle.lines.specs.Reading.{Read, says, refused}
@@ -44,14 +44,14 @@ refused_short d k n h = absurd (false≢true (ap is_written h))
 says_short : (d : List ℕ) (x : Line) → is_allowed x ≡ true → Short d (says x)
 says_short d x a n = go (ltb (length d) (length (written x)))
   where
-    go : (t : Bool) → (if t then Wrote.Refused 7 else Wrote.Bytes (length (written x))) ≡ Wrote.Bytes n → n ≤ suc longest
+    go : (t : Bool) → (if_true t then Wrote.Refused 7 else Wrote.Bytes (length (written x))) ≡ Wrote.Bytes n → n ≤ suc longest
     go true h = absurd (false≢true (ap is_written h))
     go false h = subst (λ (m : ℕ). m ≤ suc longest) (ap bytes h) (length_written x a)
 
 slots_short : (d : List ℕ) (i : ℕ) (hs : List ℕ) (x : Line) → Short d (with_slots i hs x)
 slots_short d i hs x = go (leb i most_handles) (not (any not_zero (drop i hs))) (is_allowed x) refl
   where
-    go : (a b c : Bool) → is_allowed x ≡ c → Short d (if a && b && c then says x else refused 3)
+    go : (a b c : Bool) → is_allowed x ≡ c → Short d (if_true a && b && c then says x else refused 3)
     go true true true r = says_short d x r
     go true true false r = refused_short d 3
     go true false c r = refused_short d 3
@@ -64,7 +64,7 @@ meant_short d (Event.Call t env f a b c n) hs = slots_short d 0 hs (C t env f a 
 meant_short d (Event.Return t f r s p) hs = go (gives_status f) (eqb r 0) (is_zero s)
   where
     go : (x y z : Bool)
-        → Short d (if x then (if y then with_slots 0 hs (R t f s p) else refused 3) else (if z then with_slots 0 hs (R t f (pos r) p) else refused 3))
+        → Short d (if_true x then (if_true y then with_slots 0 hs (R t f s p) else refused 3) else (if_true z then with_slots 0 hs (R t f (pos r) p) else refused 3))
     go true true z = slots_short d 0 hs (R t f s p)
     go true false z = refused_short d 3
     go false y true = slots_short d 0 hs (R t f (pos r) p)

@@ -10,7 +10,7 @@ use lib.Arith.{lt-one}
 use lib.Pow.{shr-shr, field, mod-mod-pow, pow_pos}
 use lib.Bits.{bit_and, bit_or, and_step, or_step, and_shr, or_shr}
 use lib.Count.{ones, ones_in, ones_step, count_trailing_zeros, under}
-use Rattle.words.specs.Choice.{if◌then◌else◌, one}
+use Rattle.words.specs.Choice.{if_true◌then◌else◌, one}
 use Rattle.rows.specs.Scan.{how_many, lowest}
 use Rattle.rows.specs.Marks.{bit}
 use Rattle.rows.proofs.ScanLaws.{how_many_ext, lowest_ext}
@@ -131,7 +131,7 @@ pub ones_low_count : (k w : ℕ) → ones (w % 2 ^ k) ≡ how_many (bit w) k
 ones_low_count k w = ones_onesIn k (w % 2 ^ k) (mod-lt w (pow_pos k)) ∙ onesIn_mod k w ∙ onesIn_count k w
 
 -- ---- the zeros below the lowest set digit of a word, and of the inverted one
-under_is : (x t : ℕ) → x < 2 → under x t ≡ (if eqb x 1 then 0 else suc t)
+under_is : (x t : ℕ) → x < 2 → under x t ≡ (if_true eqb x 1 then 0 else suc t)
 under_is zero t h = refl
 under_is (suc zero) t h = refl
 under_is (suc (suc x)) t h = absurd (omega arith)
@@ -141,7 +141,7 @@ unfolding count_trailing_zeros lowest
 trailing_lowest zero w = refl
 trailing_lowest (suc k) w =
     under_is (w % 2) (count_trailing_zeros k (w / 2)) (two w)
-    ∙ ap₂ (λ (b : Bool) (n : ℕ). if b then 0 else suc n) (sym (bit_zero w))
+    ∙ ap₂ (λ (b : Bool) (n : ℕ). if_true b then 0 else suc n) (sym (bit_zero w))
     (trailing_lowest k (w / 2) ∙ lowest_ext (bit (w / 2)) (λ j. bit w (suc j)) k (λ j l. sym (bit_suc w j)))
 
 pub trailing_not : (k w : ℕ) → w < 2 ^ k → count_trailing_zeros k (2 ^ k - 1 - w) ≡ lowest (λ i. not (bit w i)) k

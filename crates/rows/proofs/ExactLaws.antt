@@ -7,7 +7,7 @@ use Prim.Native.Nat.{ℕ, zero, suc, ◌+◌, ◌*◌, ◌/◌, ◌%◌, ◌≤�
 use native.Mathlib.Decide.{ℕ_discrete, dec_lt}
 use native.Mathlib.Omega.{arith}
 use lib.ListN.{length, get_or, replicate, length-replicate}
-use Rattle.words.specs.Choice.{if◌then◌else◌}
+use Rattle.words.specs.Choice.{if_true◌then◌else◌}
 use Rattle.rows.specs.Slots.{empty}
 use Rattle.rows.specs.Marks.{word, used, marked, unmarked}
 use Rattle.rows.specs.Table.{Layout, Table, table, cell, row, put_row, room, row_at, passes, free_row, found, stored, taken, changed, ended, ended_if, ended_from, ended_all, cleared}
@@ -103,7 +103,7 @@ module _ {A : Type 0} (L : Layout A) where
   clean_ended_from q T a zero k = k
   clean_ended_from q T a (suc n) k = go (passes L q (ended_from L q T a n) (a + n)) (clean_ended_from q T a n k)
     where
-      go : (b : Bool) → Clean (ended_from L q T a n) → Clean (if b then ended L (ended_from L q T a n) (a + n) else ended_from L q T a n)
+      go : (b : Bool) → Clean (ended_from L q T a n) → Clean (if_true b then ended L (ended_from L q T a n) (a + n) else ended_from L q T a n)
       go true c = clean_ended (ended_from L q T a n) (a + n) c
       go false c = c
 
@@ -119,17 +119,17 @@ module _ {A : Type 0} (L : Layout A) where
         each_mark = λ r. rw (at r) (marks (used T.marks r) (row_at L T.rows r));
       }
     where
-      at : (r : ℕ) → get_or (view L T) r none ≡ (if used T.marks r then some (row_at L T.rows r) else none)
+      at : (r : ℕ) → get_or (view L T) r none ≡ (if_true used T.marks r then some (row_at L T.rows r) else none)
       at r = go (dec_lt r (room L T))
         where
-          go : Dec (r < room L T) → get_or (view L T) r none ≡ (if used T.marks r then some (row_at L T.rows r) else none)
+          go : Dec (r < room L T) → get_or (view L T) r none ≡ (if_true used T.marks r then some (row_at L T.rows r) else none)
           go (yes h) = unfold slot in view_at L T r h
           go (no h) = view_past L T r (omega arith) ∙ rw (k.within r (omega arith))
 
-      rows : (r : ℕ) (b : Bool) → used T.marks r ≡ b → row L.stride T.rows r ≡ spelled L (if b then some (row_at L T.rows r) else none)
+      rows : (r : ℕ) (b : Bool) → used T.marks r ≡ b → row L.stride T.rows r ≡ spelled L (if_true b then some (row_at L T.rows r) else none)
       rows r true u = sym (spells T.rows r)
       rows r false u = k.zeroed r u
 
-      marks : (b : Bool) (x : A) → b ≡ not (empty (if b then some x else none))
+      marks : (b : Bool) (x : A) → b ≡ not (empty (if_true b then some x else none))
       marks true x = refl
       marks false x = refl

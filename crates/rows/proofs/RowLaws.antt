@@ -9,7 +9,7 @@ use native.Mathlib.Omega.{arith}
 use lib.ListN.{length, replicate, length-replicate}
 use lib.Seq.{ext_get_or}
 use borrow.Author.Tests.{lt-ltb, le-ltb}
-use Rattle.words.specs.Choice.{if◌then◌else◌}
+use Rattle.words.specs.Choice.{if_true◌then◌else◌}
 use Rattle.rows.specs.Marks.{word, used, marked, unmarked}
 use Rattle.rows.specs.Table.{Layout, Table, table, each, cell, row, put_row, room, row_at, stored, changed, ended}
 use Rattle.rows.specs.View.{slot}
@@ -92,7 +92,7 @@ module _ {A : Type 0} (L : Layout A) where
   unfolding slot
   slot_changed_same T r g h = rw (changed_in T r g h, at_same T.rows r (g (row_at L T.rows r)) (in_table T r h)) (go (used T.marks r))
     where
-      go : (b : Bool) → (if b then some (g (row_at L T.rows r)) else none) ≡ map g (if b then some (row_at L T.rows r) else none)
+      go : (b : Bool) → (if_true b then some (g (row_at L T.rows r)) else none) ≡ map g (if_true b then some (row_at L T.rows r) else none)
       go true = refl
       go false = refl
 

@@ -7,7 +7,7 @@ use native.Mathlib.Numerals.{add-one}
 use native.Mathlib.Decide.{dec_lt}
 use native.Mathlib.Omega.{arith}
 use borrow.Author.Count.{below_more}
-use Rattle.words.specs.Choice.{if◌then◌else◌, one}
+use Rattle.words.specs.Choice.{if_true◌then◌else◌, one}
 use Rattle.rows.specs.Scan.{how_many, lowest}
 
 -- one more number at the top
@@ -63,7 +63,7 @@ unfolding lowest
 lowest_le p zero = zero-le
 lowest_le p (suc n) = go (lowest_le (λ k. p (suc k)) n) (p zero)
   where
-    go : lowest (λ k. p (suc k)) n ≤ n → (b : Bool) → (if b then zero else suc (lowest (λ k. p (suc k)) n)) ≤ suc n
+    go : lowest (λ k. p (suc k)) n ≤ n → (b : Bool) → (if_true b then zero else suc (lowest (λ k. p (suc k)) n)) ≤ suc n
     go ih true = zero-le
     go ih false = suc-le-suc ih
 
@@ -72,9 +72,9 @@ pub lowest_is : (p : ℕ → Bool) (n r : ℕ) → r ≤ n → ((k : ℕ) → k 
 unfolding lowest
 lowest_is p zero zero h b t = refl
 lowest_is p zero (suc r) h b t = absurd (not-suc-le-zero h)
-lowest_is p (suc n) zero h b t = ap (λ (x : Bool). if x then zero else suc (lowest (λ k. p (suc k)) n)) (t (zero-lt-suc n))
+lowest_is p (suc n) zero h b t = ap (λ (x : Bool). if_true x then zero else suc (lowest (λ k. p (suc k)) n)) (t (zero-lt-suc n))
 lowest_is p (suc n) (suc r) h b t =
-    ap (λ (x : Bool). if x then zero else suc (lowest (λ k. p (suc k)) n)) (b zero (zero-lt-suc r))
+    ap (λ (x : Bool). if_true x then zero else suc (lowest (λ k. p (suc k)) n)) (b zero (zero-lt-suc r))
     ∙ ap suc (lowest_is (λ k. p (suc k)) n r (le_of_suc-le-suc h) (λ k l. b (suc k) (suc-le-suc l)) (λ l. t (suc-le-suc l)))
 
 pub lowest_below : (p : ℕ → Bool) (n k : ℕ) → k < lowest p n → p k ≡ false
@@ -83,7 +83,7 @@ lowest_below p zero k h = absurd (not-suc-le-zero h)
 lowest_below p (suc n) k h = go (λ k l. lowest_below (λ k. p (suc k)) n k l) k (p zero) refl h
   where
     go : ((k : ℕ) → k < lowest (λ k. p (suc k)) n → p (suc k) ≡ false) → (k : ℕ) (b : Bool) → p zero ≡ b
-        → k < (if b then zero else suc (lowest (λ k. p (suc k)) n)) → p k ≡ false
+        → k < (if_true b then zero else suc (lowest (λ k. p (suc k)) n)) → p k ≡ false
     go ih k true e l = absurd (not-suc-le-zero l)
     go ih zero false e l = e
     go ih (suc k) false e l = ih k (le_of_suc-le-suc l)
@@ -94,7 +94,7 @@ lowest_at p zero h = absurd (not-suc-le-zero h)
 lowest_at p (suc n) h = go (λ l. lowest_at (λ k. p (suc k)) n l) (p zero) refl h
   where
     go : (lowest (λ k. p (suc k)) n < n → p (suc (lowest (λ k. p (suc k)) n)) ≡ true) → (b : Bool) → p zero ≡ b
-        → (if b then zero else suc (lowest (λ k. p (suc k)) n)) < suc n → p (if b then zero else suc (lowest (λ k. p (suc k)) n)) ≡ true
+        → (if_true b then zero else suc (lowest (λ k. p (suc k)) n)) < suc n → p (if_true b then zero else suc (lowest (λ k. p (suc k)) n)) ≡ true
     go ih true e l = e
     go ih false e l = ih (le_of_suc-le-suc l)
 
@@ -102,8 +102,8 @@ pub lowest_ext : (p q : ℕ → Bool) (n : ℕ) → ((k : ℕ) → k < n → p k
 unfolding lowest
 lowest_ext p q zero h = refl
 lowest_ext p q (suc n) h =
-    ap (λ (b : Bool). if b then zero else suc (lowest (λ k. p (suc k)) n)) (h zero (zero-lt-suc n))
-    ∙ ap (λ (m : ℕ). if q zero then zero else suc m) (lowest_ext (λ k. p (suc k)) (λ k. q (suc k)) n (λ k l. h (suc k) (suc-le-suc l)))
+    ap (λ (b : Bool). if_true b then zero else suc (lowest (λ k. p (suc k)) n)) (h zero (zero-lt-suc n))
+    ∙ ap (λ (m : ℕ). if_true q zero then zero else suc m) (lowest_ext (λ k. p (suc k)) (λ k. q (suc k)) n (λ k l. h (suc k) (suc-le-suc l)))
 
 pub lowest_none : (p : ℕ → Bool) (n : ℕ) → ((k : ℕ) → k < n → p k ≡ false) → n ≡ lowest p n
 lowest_none p n h = sym (lowest_is p n n (omega arith) h (λ l. absurd (omega arith)))
@@ -115,7 +115,7 @@ one_fails p zero h = h
 one_fails p (suc n) h = go (λ l. one_fails (λ k. p (suc k)) n l) (p zero) h
   where
     go : (how_many (λ k. p (suc k)) n < n → lowest (λ k. not (p (suc k))) n < n) → (b : Bool) → one b + how_many (λ k. p (suc k)) n < suc n
-        → (if not b then zero else suc (lowest (λ k. not (p (suc k))) n)) < suc n
+        → (if_true not b then zero else suc (lowest (λ k. not (p (suc k))) n)) < suc n
     go ih true l = suc-le-suc (ih (omega arith))
     go ih false l = zero-lt-suc n
 
@@ -125,7 +125,7 @@ not_all_pass p zero h = h
 not_all_pass p (suc n) h = go (λ l. not_all_pass (λ k. p (suc k)) n l) (p zero) h
   where
     go : (lowest (λ k. not (p (suc k))) n < n → how_many (λ k. p (suc k)) n < n) → (b : Bool)
-        → (if not b then zero else suc (lowest (λ k. not (p (suc k))) n)) < suc n → one b + how_many (λ k. p (suc k)) n < suc n
+        → (if_true not b then zero else suc (lowest (λ k. not (p (suc k))) n)) < suc n → one b + how_many (λ k. p (suc k)) n < suc n
     go ih true l = omega (arith, ih (le_of_suc-le-suc l))
     go ih false l = omega (arith, how_many_le (λ k. p (suc k)) n)
 

@@ -9,13 +9,13 @@ use native.Mathlib.Omega.{arith}
 use lib.ListN.{length, get_or, set, replicate}
 use lib.Dec.{ltb, leb-suc-suc}
 use borrow.Author.Tests.{lt-ltb, le-ltb}
-use Rattle.words.specs.Choice.{if◌then◌else◌, one}
+use Rattle.words.specs.Choice.{if_true◌then◌else◌, one}
 use Rattle.words.specs.Lists.{any, count, place_of, of_first}
 use Rattle.rows.specs.Scan.{how_many, lowest}
 use Rattle.rows.specs.Slots.{held, holding, empty, put, wipe, wipe_first, change_first}
 use Rattle.rows.specs.Table.{each}
 
-one_more : (b : Bool) (m : ℕ) → one b + m ≡ (if b then suc m else m)
+one_more : (b : Bool) (m : ℕ) → one b + m ≡ (if_true b then suc m else m)
 one_more true m = omega arith
 one_more false m = omega arith
 
@@ -56,7 +56,7 @@ module _ {A : Type 0} where
   pub place_each : (q : A → Bool) (f : ℕ → A) (n : ℕ) → lowest (λ k. q (f k)) n ≡ place_of q (each f n)
   unfolding lowest
   place_each q f zero = refl
-  place_each q f (suc n) = ap (λ (m : ℕ). if q (f zero) then zero else suc m) (place_each q (λ k. f (suc k)) n)
+  place_each q f (suc n) = ap (λ (m : ℕ). if_true q (f zero) then zero else suc m) (place_each q (λ k. f (suc k)) n)
 
 -- ---- what is put into the lowest free slot, or taken from the lowest that passes, or made of it, or said of it
 module _ {A : Type 0} where
@@ -71,7 +71,7 @@ module _ {A : Type 0} where
   wipe_first_is_set q (some x ∷ s) = go (q x) (wipe_first_is_set q s)
     where
       go : (b : Bool) → wipe_first q s ≡ set s (place_of (holding q) s) none
-          → ◌≡◌ {A = List (Option A)} (if b then none ∷ s else some x ∷ wipe_first q s) (set (some x ∷ s) (if b then 0 else suc (place_of (holding q) s)) none)
+          → ◌≡◌ {A = List (Option A)} (if_true b then none ∷ s else some x ∷ wipe_first q s) (set (some x ∷ s) (if_true b then 0 else suc (place_of (holding q) s)) none)
       go true ih = refl
       go false ih = ap {B = List (Option A)} (λ l. some x ∷ l) ih
 
@@ -82,8 +82,8 @@ module _ {A : Type 0} where
   change_first_is_set q g (some x ∷ s) = go (q x) (change_first_is_set q g s)
     where
       go : (b : Bool) → change_first q g s ≡ set s (place_of (holding q) s) (map g (get_or s (place_of (holding q) s) none))
-          → (let r : ℕ = if b then 0 else suc (place_of (holding q) s) in
-          ◌≡◌ {A = List (Option A)} (if b then some (g x) ∷ s else some x ∷ change_first q g s) (set (some x ∷ s) r (map g (get_or (some x ∷ s) r none))))
+          → (let r : ℕ = if_true b then 0 else suc (place_of (holding q) s) in
+          ◌≡◌ {A = List (Option A)} (if_true b then some (g x) ∷ s else some x ∷ change_first q g s) (set (some x ∷ s) r (map g (get_or (some x ∷ s) r none))))
       go true ih = refl
       go false ih = ap {B = List (Option A)} (λ l. some x ∷ l) ih
 
@@ -98,14 +98,14 @@ module _ {A : Type 0} where
   of_first_is_said q f (some x ∷ s) = go (q x) (of_first_is_said q f s)
     where
       go : (b : Bool) → of_first q f (held s) ≡ said f (get_or s (place_of (holding q) s) none)
-          → (if b then f x else of_first q f (held s)) ≡ said f (get_or (some x ∷ s) (if b then 0 else suc (place_of (holding q) s)) none)
+          → (if_true b then f x else of_first q f (held s)) ≡ said f (get_or (some x ∷ s) (if_true b then 0 else suc (place_of (holding q) s)) none)
       go true ih = refl
       go false ih = ih
 
   -- a slot freed where it passes
   abbrev pub freed : (A → Bool) → Option A → Option A
   freed q none = none
-  freed q (some x) = if q x then none else some x
+  freed q (some x) = if_true q x then none else some x
 
   pub wipe_each : (q : A → Bool) (f : ℕ → Option A) (n : ℕ) → each (λ k. freed q (f k)) n ≡ wipe q (each f n)
   wipe_each q f zero = refl
@@ -120,7 +120,7 @@ module _ {A : Type 0} where
   pub count_held : (q : A → Bool) (s : List (Option A)) → count (holding q) s ≡ count q (held s)
   count_held q [] = refl
   count_held q (none ∷ s) = count_held q s
-  count_held q (some x ∷ s) = ap (λ (m : ℕ). if q x then suc m else m) (count_held q s)
+  count_held q (some x ∷ s) = ap (λ (m : ℕ). if_true q x then suc m else m) (count_held q s)
 
   pub length_held : (s : List (Option A)) → count (holding (λ x. true)) s ≡ length (held s)
   length_held [] = refl
@@ -133,7 +133,7 @@ module _ {A : Type 0} where
   any_held q (some x ∷ s) = go (q x) (any_held q s)
     where
       go : (b : Bool) → ltb (place_of (holding q) s) (length s) ≡ any q (held s)
-          → ltb (if b then 0 else suc (place_of (holding q) s)) (suc (length s)) ≡ (b || any q (held s))
+          → ltb (if_true b then 0 else suc (place_of (holding q) s)) (suc (length s)) ≡ (b || any q (held s))
       go true ih = lt-ltb 0 (suc (length s)) (zero-lt-suc (length s))
       go false ih = leb-suc-suc (suc (place_of (holding q) s)) (length s) ∙ ih
 

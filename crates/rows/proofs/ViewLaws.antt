@@ -11,7 +11,7 @@ use lib.ListN.{length, get_or, set, length-set, replicate, get_or-replicate, len
 use lib.Seq.{length-sets, set_out}
 use lib.Dec.{ltb}
 use borrow.Author.Tests.{lt-ltb, le-ltb}
-use Rattle.words.specs.Choice.{if◌then◌else◌}
+use Rattle.words.specs.Choice.{if_true◌then◌else◌}
 use Rattle.words.specs.Lists.{any, count, place_of, of_first}
 use Rattle.rows.specs.Scan.{some_below}
 use Rattle.rows.specs.Slots.{held, holding, empty, put, wipe, wipe_first, change_first}
@@ -44,7 +44,7 @@ module _ {A : Type 0} (L : Layout A) where
   unfolding stored
   stored_lengths T r x = go (ltb r (room L T))
     where
-      go : (b : Bool) → SameLengths (if b then table (put_row L.stride T.rows r (L.numbers x)) (marked T.marks r) else T) T
+      go : (b : Bool) → SameLengths (if_true b then table (put_row L.stride T.rows r (L.numbers x)) (marked T.marks r) else T) T
       go true = unfold put_row marked in record { rows = length-sets T.rows _ (L.numbers x); marks = length-set T.marks _ _ }
       go false = record { rows = refl; marks = refl }
 
@@ -56,7 +56,7 @@ module _ {A : Type 0} (L : Layout A) where
   unfolding changed
   changed_lengths T r g = go (ltb r (room L T)) (L.numbers (g (row_at L T.rows r)))
     where
-      go : (b : Bool) (vs : List ℕ) → SameLengths (if b then table (put_row L.stride T.rows r vs) T.marks else T) T
+      go : (b : Bool) (vs : List ℕ) → SameLengths (if_true b then table (put_row L.stride T.rows r vs) T.marks else T) T
       go true vs = unfold put_row in record { rows = length-sets T.rows _ vs; marks = refl }
       go false vs = record { rows = refl; marks = refl }
 
@@ -64,7 +64,7 @@ module _ {A : Type 0} (L : Layout A) where
   unfolding ended
   ended_lengths T r = go (ltb r (room L T))
     where
-      go : (b : Bool) → SameLengths (if b then table (put_row L.stride T.rows r (replicate L.stride 0)) (unmarked T.marks r) else T) T
+      go : (b : Bool) → SameLengths (if_true b then table (put_row L.stride T.rows r (replicate L.stride 0)) (unmarked T.marks r) else T) T
       go true = unfold put_row unmarked in record { rows = length-sets T.rows _ (replicate L.stride 0); marks = length-set T.marks _ _ }
       go false = record { rows = refl; marks = refl }
 
@@ -72,7 +72,7 @@ module _ {A : Type 0} (L : Layout A) where
   unfolding ended_if
   ended_if_lengths q T r = go (passes L q T r)
     where
-      go : (b : Bool) → SameLengths (if b then ended L T r else T) T
+      go : (b : Bool) → SameLengths (if_true b then ended L T r else T) T
       go true = ended_lengths T r
       go false = record { rows = refl; marks = refl }
 
@@ -101,7 +101,7 @@ module _ {A : Type 0} (L : Layout A) where
   unfolding slot
   used_slot T k = go (used T.marks k)
     where
-      go : (b : Bool) → b ≡ holding (λ x. true) (if b then some (row_at L T.rows k) else none)
+      go : (b : Bool) → b ≡ holding (λ x. true) (if_true b then some (row_at L T.rows k) else none)
       go true = refl
       go false = refl
 
@@ -109,7 +109,7 @@ module _ {A : Type 0} (L : Layout A) where
   unfolding free slot
   free_slot T k = go (used T.marks k)
     where
-      go : (b : Bool) → not b ≡ empty (if b then some (row_at L T.rows k) else none)
+      go : (b : Bool) → not b ≡ empty (if_true b then some (row_at L T.rows k) else none)
       go true = refl
       go false = refl
 
@@ -117,7 +117,7 @@ module _ {A : Type 0} (L : Layout A) where
   unfolding passes matches slot
   passes_slot q T k = go (used T.marks k) (q (row_at L T.rows k)) refl
     where
-      go : (b c : Bool) → c ≡ q (row_at L T.rows k) → (c && b) ≡ holding q (if b then some (row_at L T.rows k) else none)
+      go : (b c : Bool) → c ≡ q (row_at L T.rows k) → (c && b) ≡ holding q (if_true b then some (row_at L T.rows k) else none)
       go true true e = e
       go true false e = e
       go false true e = refl
@@ -164,11 +164,11 @@ module _ {A : Type 0} (L : Layout A) where
       go false b e = absurd (false≢true e)
 
   pub of_first_view : (q : A → Bool) (f : A → ℕ) (T : Table)
-      → (if ltb (found L q T) (room L T) then f (row_at L T.rows (found L q T)) else 0) ≡ of_first q f (held (view L T))
+      → (if_true ltb (found L q T) (room L T) then f (row_at L T.rows (found L q T)) else 0) ≡ of_first q f (held (view L T))
   of_first_view q f T = go (dec_lt (found L q T) (room L T)) ∙ ap (λ (r : ℕ). said f (get_or (view L T) r none)) (found_view q T) ∙ sym (of_first_is_said q f (view L T))
     where
       go : Dec (found L q T < room L T)
-          → (if ltb (found L q T) (room L T) then f (row_at L T.rows (found L q T)) else 0) ≡ said f (get_or (view L T) (found L q T) none)
+          → (if_true ltb (found L q T) (room L T) then f (row_at L T.rows (found L q T)) else 0) ≡ said f (get_or (view L T) (found L q T) none)
       go (yes h) = rw (lt-ltb (found L q T) (room L T) h, view_at T (found L q T) h) (unfold slot in rw (found_used q T h))
       go (no h) = let l : room L T ≤ found L q T = omega arith in rw (le-ltb (found L q T) (room L T) l, view_past T (found L q T) l)
 
@@ -246,7 +246,7 @@ module _ {A : Type 0} (L : Layout A) where
     pub below : (k : ℕ) → k < n → slot L S k ≡ freed q (slot L T k)
     pub above : (k : ℕ) → n ≤ k → slot L S k ≡ slot L T k
 
-  freed_by : (q : A → Bool) (s : Option A) → freed q s ≡ (if holding q s then none else s)
+  freed_by : (q : A → Bool) (s : Option A) → freed q s ≡ (if_true holding q s then none else s)
   freed_by q none = refl
   freed_by q (some x) = refl
 
@@ -257,7 +257,7 @@ module _ {A : Type 0} (L : Layout A) where
       in_room : n < room L S
       in_room = omega (arith, room_same S T e.lengths)
 
-      go : (b : Bool) → b ≡ holding q (slot L T n) → Ended q T (if b then ended L S n else S) (suc n)
+      go : (b : Bool) → b ≡ holding q (slot L T n) → Ended q T (if_true b then ended L S n else S) (suc n)
       go true x = record {
         lengths = lengths_trans (ended_lengths S n) e.lengths;
         below = λ k l. at k (ℕ_discrete k n) l;
@@ -267,14 +267,14 @@ module _ {A : Type 0} (L : Layout A) where
           at : (k : ℕ) → Dec (k ≡ n) → k < suc n → slot L (ended L S n) k ≡ freed q (slot L T k)
           at k (yes y) l =
               ap (slot L (ended L S n)) y ∙ slot_ended_same L S n in_room
-              ∙ ap (λ (b : Bool). if b then none else slot L T n) x ∙ sym (freed_by q (slot L T n)) ∙ ap (λ (m : ℕ). freed q (slot L T m)) (sym y)
+              ∙ ap (λ (b : Bool). if_true b then none else slot L T n) x ∙ sym (freed_by q (slot L T n)) ∙ ap (λ (m : ℕ). freed q (slot L T m)) (sym y)
           at k (no y) l = slot_ended_other L S n k in_room y ∙ e.below k (omega arith)
       go false x = record { lengths = e.lengths; below = λ k l. at k (ℕ_discrete k n) l; above = λ k l. e.above k (omega arith) }
         where
           at : (k : ℕ) → Dec (k ≡ n) → k < suc n → slot L S k ≡ freed q (slot L T k)
           at k (yes y) l =
               e.above k (omega arith)
-              ∙ ap (slot L T) y ∙ ap (λ (b : Bool). if b then none else slot L T n) x ∙ sym (freed_by q (slot L T n)) ∙ ap (λ (m : ℕ). freed q (slot L T m)) (sym y)
+              ∙ ap (slot L T) y ∙ ap (λ (b : Bool). if_true b then none else slot L T n) x ∙ sym (freed_by q (slot L T n)) ∙ ap (λ (m : ℕ). freed q (slot L T m)) (sym y)
           at k (no y) l = e.below k (omega arith)
 
   pub ended_below : (q : A → Bool) (T : Table) (n : ℕ) → n ≤ room L T → Ended q T (ended_from L q T 0 n) n

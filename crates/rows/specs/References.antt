@@ -1,7 +1,7 @@
 -- Reference rows: thread (0 for global and weak), handle, frame from 1 (0 likewise), making line, stated class or 0. Assumes nothing.
 use Rattle.std.specs.Prelude.{refl, Bool, ◌&&◌, [], ◌∷◌, ℕ, get_or, eqb, leb, ltb}
 use Rattle.std.proofs.Math.Option.{Option, none, some}
-use Rattle.words.specs.Choice.{if◌then◌else◌}
+use Rattle.words.specs.Choice.{if_true◌then◌else◌}
 use Rattle.rows.specs.declared.references.Reference.{Reference}
 use Rattle.rows.specs.declared.references.Held.{Held}
 use Rattle.rows.specs.declared.references.Held.TheVariants.{Row, Nothing}
@@ -49,4 +49,4 @@ with_class c x = record { thread = x.thread; handle = x.handle; frame = x.frame;
 
 -- the stated class of row r, used or not; 0 where there is no row r
 unfoldable pub class_at : Table → ℕ → ℕ
-class_at T r = if ltb r (room references T) then (row_at references T.rows r).class else 0
+class_at T r = if_true ltb r (room references T) then (row_at references T.rows r).class else 0

@@ -1,7 +1,7 @@
 -- The lent rows and marks, whatever a row's numbers are: what is read of them, and what is left in them. Assumes nothing.
 use Rattle.std.specs.Prelude.{◌≡◌, Bool, ◌&&◌, List, [], ◌∷◌, ℕ, zero, suc, ◌+◌, ◌*◌, ◌/◌, min, length, get_or, replicate, ltb}
 use Rattle.std.proofs.lemmas.List.Edits.{sets}
-use Rattle.words.specs.Choice.{if◌then◌else◌}
+use Rattle.words.specs.Choice.{if_true◌then◌else◌}
 use Rattle.rows.specs.Scan.{how_many, lowest, some_below}
 use Rattle.rows.specs.Marks.{word, used, free, marked, unmarked}
 
@@ -83,7 +83,7 @@ module _ {A : Type 0} (L : Layout A) where
 
   -- row r holds x and is marked, if there is such a row
   unfoldable pub stored : Table → ℕ → A → Table
-  stored T r x = if ltb r (room T) then table (put_row L.stride T.rows r (L.numbers x)) (marked T.marks r) else T
+  stored T r x = if_true ltb r (room T) then table (put_row L.stride T.rows r (L.numbers x)) (marked T.marks r) else T
 
   -- a new row is the lowest free one, if there is one
   unfoldable pub taken : Table → A → Table
@@ -91,15 +91,15 @@ module _ {A : Type 0} (L : Layout A) where
 
   -- row r holds what g makes of it, its mark stays, if there is such a row
   unfoldable pub changed : Table → ℕ → (A → A) → Table
-  changed T r g = if ltb r (room T) then table (put_row L.stride T.rows r (L.numbers (g (row_at T.rows r)))) T.marks else T
+  changed T r g = if_true ltb r (room T) then table (put_row L.stride T.rows r (L.numbers (g (row_at T.rows r)))) T.marks else T
 
   -- row r is zeroed and unmarked, if there is such a row
   unfoldable pub ended : Table → ℕ → Table
-  ended T r = if ltb r (room T) then table (put_row L.stride T.rows r (replicate L.stride 0)) (unmarked T.marks r) else T
+  ended T r = if_true ltb r (room T) then table (put_row L.stride T.rows r (replicate L.stride 0)) (unmarked T.marks r) else T
 
   -- row r ended, if it is used and passes the test
   unfoldable pub ended_if : (A → Bool) → Table → ℕ → Table
-  ended_if q T r = if passes q T r then ended T r else T
+  ended_if q T r = if_true passes q T r then ended T r else T
 
   -- the n rows from a on, those that are used and pass the test ended, one after another
   unfoldable pub ended_from : (A → Bool) → Table → ℕ → ℕ → Table

@@ -8,7 +8,7 @@ use native.Mathlib.Omega.{arith}
 use borrow.Author.Tests.{eq-eqb}
 use lib.Dec.{eqb, leb}
 use lib.ListN.{length}
-use Rattle.words.specs.Choice.{if◌then◌else◌}
+use Rattle.words.specs.Choice.{if_true◌then◌else◌}
 use Rattle.lines.specs.Line.{Line, N, X, C, R, A, D, Z, states}
 use Rattle.lines.specs.Reading.{Read, says, refused, read}
 use Rattle.lines.proofs.Refusals.{refused_by_number}
@@ -50,7 +50,7 @@ module _ (T : Tables) (bs : List ℕ) where
   unfolding weighed_in
   weighed_proper line e top many = go (eqb (refusal_in e top many T) 0) refl
     where
-      go : (o : Bool) → eqb (refusal_in e top many T) 0 ≡ o → Proper (if o then accepted (of_line line e (seen_in T)) else not_accepted (refusal_in e top many T))
+      go : (o : Bool) → eqb (refusal_in e top many T) 0 ≡ o → Proper (if_true o then accepted (of_line line e (seen_in T)) else not_accepted (refusal_in e top many T))
       go true q = omega (arith, at_most line e (seen_in T), few_findings e)
       go false q = λ z. false≢true (sym q ∙ eq-eqb (refusal_in e top many T) 0 z)
 
@@ -69,7 +69,7 @@ module _ (T : Tables) (bs : List ℕ) where
   unfolding step_of
   proper = go (unfit_tables T) (leb most_lines (lines_in T.book))
     where
-      go : (u o : Bool) → Proper (if u then untouched 8 T else if o then untouched 1 T else on_read (read bs) T).reply
+      go : (u o : Bool) → Proper (if_true u then untouched 8 T else if_true o then untouched 1 T else on_read (read bs) T).reply
       go true o = λ z. absurd (omega (arith, z))
       go false true = λ z. absurd (omega (arith, z))
       go false false = read_proper (read bs) refl

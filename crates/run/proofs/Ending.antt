@@ -9,7 +9,7 @@ use native.Mathlib.Decide.{dec_lt}
 use native.Mathlib.Omega.{arith}
 use lib.ListN.{get_or}
 use borrow.Author.Tests.{ne_eqb}
-use Rattle.words.specs.Choice.{if◌then◌else◌}
+use Rattle.words.specs.Choice.{if_true◌then◌else◌}
 use Rattle.rows.specs.Slots.{holding}
 use Rattle.rows.specs.Marks.{word, bit}
 use Rattle.rows.specs.Table.{Layout, Table, room, passes, ended, ended_if, ended_from, ended_all}
@@ -53,7 +53,7 @@ module _ {A : Type 0} (L : Layout A) (q : A → Bool) where
   freed_fails none = refl
   freed_fails (some x) = go (q x) refl
     where
-      go : (b : Bool) → q x ≡ b → holding q (if b then none else some x) ≡ false
+      go : (b : Bool) → q x ≡ b → holding q (if_true b then none else some x) ≡ false
       go true e = refl
       go false e = e
 

@@ -7,7 +7,7 @@ use native.Mathlib.Omega.{arith}
 use borrow.Author.Tests.{leb-false, le-leb, lt-leb, eq-eqb}
 use lib.Dec.{leb, ltb, eqb}
 use lib.ListN.{length, take}
-use Rattle.words.specs.Choice.{if◌then◌else◌}
+use Rattle.words.specs.Choice.{if_true◌then◌else◌}
 use Rattle.lines.specs.Line.{Line, N, X, C, R, A, D, Z, K, O, M, states, is_thread}
 use Rattle.lines.specs.Reading.{Read, says, refused, read}
 use Rattle.lines.specs.Events.{result_in_line, event_of, slots_of}
@@ -53,7 +53,7 @@ pub fit_unless_8 : (T : Tables) (t : ℕ) → (by_tables T ≡ 8 → ⊥) → Fi
 unfolding by_tables
 fit_unless_8 T t h = fit_so T t (go (unfit_tables T) h)
   where
-    go : (u : Bool) → (◌≡◌ {A = ℕ} (if u then 8 else if leb most_lines (lines_in T.book) then 1 else 0) 8 → ⊥) → u ≡ false
+    go : (u : Bool) → (◌≡◌ {A = ℕ} (if_true u then 8 else if_true leb most_lines (lines_in T.book) then 1 else 0) 8 → ⊥) → u ≡ false
     go true n = absurd (n refl)
     go false n = refl
 
@@ -63,12 +63,12 @@ fit_start T t z = fit_unless_8 T t (λ e. absurd (omega (arith, e, z)))
 -- ---- the test of one thread
 
 pub fit_refusal : (T : Tables) (t : ℕ) → FitBut T t
-    → by_tables T ≡ (if is_thread t && overdone_in T.book t then 8 else if leb most_lines (lines_in T.book) then 1 else 0)
+    → by_tables T ≡ (if_true is_thread t && overdone_in T.book t then 8 else if_true leb most_lines (lines_in T.book) then 1 else 0)
 unfolding by_tables
 fit_refusal T t f = rw (unfit_but T.book t f.long f.lines f.others, f.classes, or-false (is_thread t && overdone_in T.book t))
 
 module _ (T : Tables) (t k : ℕ) (o : Bool) (f : FitBut T t) (eo : o ≡ overdone_in T.book t) where
-  by_one : (q : Bool) → (is_thread t && o) ≡ q → by_tables T ≡ (if q then 8 else if leb most_lines (lines_in T.book) then 1 else 0)
+  by_one : (q : Bool) → (is_thread t && o) ≡ q → by_tables T ≡ (if_true q then 8 else if_true leb most_lines (lines_in T.book) then 1 else 0)
   by_one q h = fit_refusal T t f ∙ rw (← eo, h)
 
   pub overdone_told : (is_thread t && o) ≡ true → k ≡ 8 → k ≡ by_tables T

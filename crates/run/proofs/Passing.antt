@@ -9,7 +9,7 @@ use borrow.Author.Tests.{ltb-true}
 use lib.Dec.{ltb}
 use lib.ListN.{length, take, drop, length-append, length-drop}
 use lib.Seq.{length-take-le, take_at, drop-drop}
-use Rattle.words.specs.Choice.{if◌then◌else◌}
+use Rattle.words.specs.Choice.{if_true◌then◌else◌}
 use Rattle.lines.specs.Line.{longest}
 use Rattle.history.specs.Replies.{Reply, accepted, not_accepted}
 use Rattle.history.specs.Report.{lines_of}
@@ -98,7 +98,7 @@ module _ (ended : Bool) where
       where
         go : (t : Bool) → ltb room most_shown ≡ t → (r : Reply) → (step_of T line).reply ≡ r
             → Passes ended room T s
-            (if t then stops T Stop.Full else go_on T r (λ gs. behind gs (length line) (run_of ended (room - length (all_shown gs)) (step_of T line).left (drop n s))))
+            (if_true t then stops T Stop.Full else go_on T r (λ gs. behind gs (length line) (run_of ended (room - length (all_shown gs)) (step_of T line).left (drop n s))))
         go true p r q =
             stopped room T s Stop.Full (λ before next h. refl) (λ e. let z : ◌≡◌ {A = ℕ} 0 1 = cc in absurd (omega arith)) (λ _. ltb-true room most_shown p)
         go false p (not_accepted k) q = refused k q
@@ -107,14 +107,14 @@ module _ (ended : Bool) where
             (rest (room - length (all_shown gs)) (step_of T line).left)
 
   -- no line is left
-  none : (room : ℕ) (T : Tables) (s : List ℕ) (stop : Stop) → pieces_of ended s ≡ [] → (if ended then Stop.End else Stop.More) ≡ stop → Passes ended room T s (stops T stop)
+  none : (room : ℕ) (T : Tables) (s : List ℕ) (stop : Stop) → pieces_of ended s ≡ [] → (if_true ended then Stop.End else Stop.More) ≡ stop → Passes ended room T s (stops T stop)
       → Passes ended room T s (run_of ended room T s)
   unfolding run_of run_lines
   none room T s stop p q g =
       subst (λ (ps : List (List ℕ)). Passes ended room T s (run_lines ended room T ps)) (sym p) (subst (λ (x : Stop). Passes ended room T s (stops T x)) (sym q) g)
 
   abbrev last_stop : Bool → Stop
-  last_stop b = if b then Stop.End else Stop.More
+  last_stop b = if_true b then Stop.End else Stop.More
 
   pub passes : (s : List ℕ) (room : ℕ) (T : Tables) → Passes ended room T s (run_of ended room T s)
   passes =

@@ -8,7 +8,7 @@ use native.Mathlib.Omega.{arith}
 use lib.Bits.{bit_and}
 use lib.Count.{count_trailing_zeros}
 use lib.ListN.{get_or}
-use Rattle.words.specs.Choice.{if◌then◌else◌}
+use Rattle.words.specs.Choice.{if_true◌then◌else◌}
 use Rattle.rows.specs.Marks.{word, bit, used}
 use Rattle.rows.specs.Slots.{holding}
 use Rattle.rows.specs.Table.{Layout, Table, table, room, matches, passes, ended, ended_if, ended_from}
@@ -60,7 +60,7 @@ module _ {A : Type 0} (L : Layout A) (q : A → Bool) where
   ended_from_fails T a zero r e = e
   ended_from_fails T a (suc n) r e = go (ended_from_fails T a n r e) (passes L q (ended_from L q T a n) (a + n))
     where
-      go : passes L q (ended_from L q T a n) r ≡ false → (b : Bool) → passes L q (if b then ended L (ended_from L q T a n) (a + n) else ended_from L q T a n) r ≡ false
+      go : passes L q (ended_from L q T a n) r ≡ false → (b : Bool) → passes L q (if_true b then ended L (ended_from L q T a n) (a + n) else ended_from L q T a n) r ≡ false
       go h true = ended_fails (ended_from L q T a n) (a + n) r h
       go h false = h
 
@@ -69,7 +69,7 @@ module _ {A : Type 0} (L : Layout A) (q : A → Bool) where
   ended_from_room T a zero = refl
   ended_from_room T a (suc n) = go (ended_from_room T a n) (passes L q (ended_from L q T a n) (a + n))
     where
-      go : room L (ended_from L q T a n) ≡ room L T → (b : Bool) → room L (if b then ended L (ended_from L q T a n) (a + n) else ended_from L q T a n) ≡ room L T
+      go : room L (ended_from L q T a n) ≡ room L T → (b : Bool) → room L (if_true b then ended L (ended_from L q T a n) (a + n) else ended_from L q T a n) ≡ room L T
       go h true = room_same L (ended L (ended_from L q T a n) (a + n)) (ended_from L q T a n) (ended_lengths L (ended_from L q T a n) (a + n)) ∙ h
       go h false = h
 

@@ -5,7 +5,7 @@ use mathlib.Core.List.{List, []}
 use native.Mathlib.Omega.{arith}
 use lib.Dec.{eqb}
 use lib.ListN.{length}
-use Rattle.words.specs.Choice.{if◌then◌else◌}
+use Rattle.words.specs.Choice.{if_true◌then◌else◌}
 use Rattle.facts.specs.Named.{PushLocalFrame, PopLocalFrame, EnsureLocalCapacity, MonitorEnter, MonitorExit}
 use Rattle.lines.specs.Line.{Line, N, X, C, R, A, D, Z, states, is_zero, above_zero}
 use Rattle.history.specs.Past.{thread_of}
@@ -17,7 +17,7 @@ use Rattle.book.proofs.Elsewhere.{Elsewhere, further, keeping, nowhere, frame_pu
 use Rattle.tables.specs.Tables.{Tables, handles_in}
 use Rattle.tables.specs.Acting.{env_kept, native_entered, status_acted, book_after, acted, items_moved}
 
-either : {t n : ℕ} {b d e : List ℕ} (q : Bool) → Elsewhere t n b d → Elsewhere t n b e → Elsewhere t n b (if q then d else e)
+either : {t n : ℕ} {b d e : List ℕ} (q : Bool) → Elsewhere t n b d → Elsewhere t n b e → Elsewhere t n b (if_true q then d else e)
 either true x y = x
 either false x y = y
 

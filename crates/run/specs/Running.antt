@@ -1,6 +1,6 @@
 -- The run over a piece of the input, line by line, with the findings behind each other in a lent slice. Assumes nothing.
 use Rattle.std.specs.Prelude.{ℕ, ◌+◌, ◌-◌, Bool, List, [], ◌∷◌, ◌++◌, ltb, length}
-use Rattle.words.specs.Choice.{if◌then◌else◌}
+use Rattle.words.specs.Choice.{if_true◌then◌else◌}
 use Rattle.words.specs.Lists.{joined}
 use Rattle.numbers.specs.Writing.{put}
 use Rattle.history.specs.Replies.{Reply, accepted, not_accepted}
@@ -42,10 +42,10 @@ go_on T (accepted fs) rest = rest fs
 
 -- the next line is taken where there is room for its findings
 unfoldable pub run_lines : Bool → ℕ → Tables → List (List ℕ) → Run
-run_lines ended room T [] = stops T (if ended then Stop.End else Stop.More)
+run_lines ended room T [] = stops T (if_true ended then Stop.End else Stop.More)
 run_lines ended room T (line ∷ lines) =
     let rest : List Finding → Run = λ fs. behind fs (length line) (run_lines ended (room - length (all_shown fs)) (step_of T line).left lines) in
-    if ltb room most_shown then stops T Stop.Full else go_on T (step_of T line).reply rest
+    if_true ltb room most_shown then stops T Stop.Full else go_on T (step_of T line).reply rest
 
 -- over all pieces of these bytes
 unfoldable pub run_of : Bool → ℕ → Tables → List ℕ → Run

@@ -6,7 +6,7 @@ use mathlib.Core.List.{List}
 use borrow.Author.Tests.{eq-eqb, ne_eqb}
 use lib.Dec.{eqb, leb, ltb}
 use lib.ListN.{length}
-use Rattle.words.specs.Choice.{if◌then◌else◌}
+use Rattle.words.specs.Choice.{if_true◌then◌else◌}
 use Rattle.facts.specs.Table.{fact_of}
 use Rattle.facts.specs.Results.{is_local_result, is_handle_result, is_buffer_result}
 use Rattle.facts.specs.declared.Result.{Result}
@@ -91,14 +91,14 @@ return_seen rs ms ps ns d cs t f h k m n o ek em en eo i =
 -- the row of the result is the lowest free one of its table
 module _ (T : Tables) (t f h : ℕ) where
   row_as : (null : Bool) (k : Result) → (is_handle_result k && not null) ≡ true
-      → (if null then nothing_made else if is_handle_result k then handle_made (is_local_result k) T.references t h else if is_buffer_result k then buffer_made T.pins else nothing_made).row
+      → (if_true null then nothing_made else if_true is_handle_result k then handle_made (is_local_result k) T.references t h else if_true is_buffer_result k then buffer_made T.pins else nothing_made).row
       ≡ free_row references T.references
   unfolding handle_made
   row_as true k q = absurd (false≢true (sym (and_false (is_handle_result k)) ∙ q))
   row_as false k q = rw (sym (and_true (is_handle_result k)) ∙ q) refl
 
   pin_row_as : (null : Bool) (k : Result) → (is_buffer_result k && not null) ≡ true
-      → (if null then nothing_made else if is_handle_result k then handle_made (is_local_result k) T.references t h else if is_buffer_result k then buffer_made T.pins else nothing_made).row
+      → (if_true null then nothing_made else if_true is_handle_result k then handle_made (is_local_result k) T.references t h else if_true is_buffer_result k then buffer_made T.pins else nothing_made).row
       ≡ free_row pins T.pins
   unfolding buffer_made
   pin_row_as true k q = absurd (false≢true (sym (and_false (is_buffer_result k)) ∙ q))

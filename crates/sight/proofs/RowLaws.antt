@@ -5,7 +5,7 @@ use mathlib.Core.Bool.{Bool, true, false, ◌&&◌, ◌||◌, false≢true}
 use native.Mathlib.Decide.{ℕ_discrete}
 use borrow.Author.Tests.{eqb-true, ne_eqb}
 use lib.Dec.{eqb}
-use Rattle.words.specs.Choice.{if◌then◌else◌}
+use Rattle.words.specs.Choice.{if_true◌then◌else◌}
 use Rattle.facts.specs.Table.{fact_of, family, table}
 use Rattle.facts.specs.Named.{DeleteGlobalRef, DeleteLocalRef, DeleteWeakGlobalRef}
 use Rattle.facts.specs.Results.{is_buffer_place}
@@ -92,9 +92,9 @@ pub stated_row : (T : Tables) (t h c : ℕ) → (state_sight T t h c).alive ≡ 
 unfolding state_sight handle_alive handle_row
 stated_row T t h c = go (eqb (kind h) 0) (eqb (kind h) 1) (is_alive (is_local t h) (seen_in T)) (is_alive (is_shared h) (seen_in T))
   where
-    go : (null own x y : Bool) → (if null then false else if own then x else y) ≡ true
-        → (if null then 0 else if own then found references (is_handle t h) T.references else found references (is_handle 0 h) T.references)
-        ≡ found references (is_handle (if own then t else 0) h) T.references
+    go : (null own x y : Bool) → (if_true null then false else if_true own then x else y) ≡ true
+        → (if_true null then 0 else if_true own then found references (is_handle t h) T.references else found references (is_handle 0 h) T.references)
+        ≡ found references (is_handle (if_true own then t else 0) h) T.references
     go true own x y e = absurd (false≢true e)
     go false true x y e = refl
     go false false x y e = refl

@@ -6,7 +6,7 @@ use mathlib.Core.List.{List}
 use native.Mathlib.Decide.{ℕ_discrete}
 use borrow.Author.Tests.{eq-eqb, ne_eqb, not-true, not-false}
 use lib.Dec.{eqb, ltb}
-use Rattle.words.specs.Choice.{if◌then◌else◌}
+use Rattle.words.specs.Choice.{if_true◌then◌else◌}
 use Rattle.facts.specs.Table.{family, is_critical}
 use Rattle.facts.specs.Results.{is_handle_place, is_buffer_place, is_identity_place}
 use Rattle.facts.specs.Classes.{no_class}
@@ -80,8 +80,8 @@ module _ (T : Tables) (t h : ℕ) where
   class_there = go (ℕ_discrete (kind h) 0) (ℕ_discrete (kind h) 1) (ℕ_discrete t 0)
     where
       go : Dec (kind h ≡ 0) → Dec (kind h ≡ 1) → Dec (t ≡ 0)
-          → (if eqb (kind h) 0 then false else if eqb (kind h) 1 then ltb 0 (handles_in H (is_local t h)) else ltb 0 (handles_in H (is_shared h))) ≡ true
-          → class_at H (if eqb (kind h) 0 then 0 else if eqb (kind h) 1 then found references (is_handle t h) H else found references (is_handle 0 h) H) ≡ class_in H t h
+          → (if_true eqb (kind h) 0 then false else if_true eqb (kind h) 1 then ltb 0 (handles_in H (is_local t h)) else ltb 0 (handles_in H (is_shared h))) ≡ true
+          → class_at H (if_true eqb (kind h) 0 then 0 else if_true eqb (kind h) 1 then found references (is_handle t h) H else found references (is_handle 0 h) H) ≡ class_in H t h
       go (yes z) e o = rw (eq-eqb (kind h) 0 z) (λ q. absurd (false≢true q))
       go (no n) (yes e) (yes z) = rw (ne_eqb (kind h) 0 n, eq-eqb (kind h) 1 e) (λ q. absurd (false≢true (no_local_found H t h z ∙ q)))
       go (no n) (yes e) (no z) = rw (ne_eqb (kind h) 0 n, eq-eqb (kind h) 1 e) (λ q. local_class H t h _ n e z refl)
@@ -97,7 +97,7 @@ module _ (T : Tables) (t h : ℕ) where
   class_nowhere = go (ℕ_discrete (kind h) 0) (ℕ_discrete (kind h) 1) (ℕ_discrete t 0)
     where
       go : Dec (kind h ≡ 0) → Dec (kind h ≡ 1) → Dec (t ≡ 0)
-          → (if eqb (kind h) 0 then false else if eqb (kind h) 1 then ltb 0 (handles_in H (is_local t h)) else ltb 0 (handles_in H (is_shared h))) ≡ false
+          → (if_true eqb (kind h) 0 then false else if_true eqb (kind h) 1 then ltb 0 (handles_in H (is_local t h)) else ltb 0 (handles_in H (is_shared h))) ≡ false
           → ◌≡◌ {A = ℕ} 0 (class_in H t h)
       go (yes z) e o = λ q. no_handle_class H t h z
       go (no n) (yes e) (yes z) = λ q. no_local_class H t h n e z
@@ -136,11 +136,11 @@ module _ (T : Tables) (fixed t h : ℕ) (x : Spot) (e : x ≡ handle_spot no_cla
 -- ---- a buffer
 
 module _ (ps ns : List ℕ) (t f b k r n : ℕ) (e : k ≡ family f) (o : Bool) (i : o ≡ is_critical k) (en : n ≡ room pins (table ps ns)) (rs ms d cs : List ℕ) where
-  owner : (u : ℕ) → u ≡ (if is_critical k then t else 0) → r ≡ found pins (is_buffer u k b) (table ps ns)
-      → r ≡ found pins (is_buffer (if is_critical (family f) then t else 0) (family f) b) (table ps ns)
+  owner : (u : ℕ) → u ≡ (if_true is_critical k then t else 0) → r ≡ found pins (is_buffer u k b) (table ps ns)
+      → r ≡ found pins (is_buffer (if_true is_critical (family f) then t else 0) (family f) b) (table ps ns)
   owner u q er =
       er ∙ ap (λ (v : ℕ). found pins (is_buffer v k b) (table ps ns)) q
-      ∙ ap (λ (j : ℕ). found pins (is_buffer (if is_critical j then t else 0) j b) (table ps ns)) e
+      ∙ ap (λ (j : ℕ). found pins (is_buffer (if_true is_critical j then t else 0) j b) (table ps ns)) e
 
   pub own_at : o ≡ true → r ≡ found pins (is_buffer t k b) (table ps ns) → spot (not (eqb t 0) && ltb r n) r true ≡ buffer_spot (tables rs ms ps ns d cs) t f b
   unfolding buffer_spot seen_in

@@ -1,6 +1,6 @@
 -- What R is told of the lent tables. Assumes nothing.
 use Rattle.std.specs.Prelude.{ℕ, Bool, true, false, not, ◌&&◌, List, eqb, leb, ltb, length}
-use Rattle.words.specs.Choice.{if◌then◌else◌}
+use Rattle.words.specs.Choice.{if_true◌then◌else◌}
 use Rattle.facts.specs.Table.{fact_of}
 use Rattle.facts.specs.Results.{is_local_result, is_handle_result, is_buffer_result}
 use Rattle.facts.specs.declared.Result.{Result}
@@ -20,7 +20,7 @@ nothing_made = record { alive = false; row = 0; fits = true }
 
 -- a local in its thread, a global or weak in none
 abbrev pub is_alive_as : Bool → Table → ℕ → ℕ → Bool
-is_alive_as l R t h = if l then ltb 0 (handles_in R (is_local t h)) else ltb 0 (handles_in R (is_shared h))
+is_alive_as l R t h = if_true l then ltb 0 (handles_in R (is_local t h)) else ltb 0 (handles_in R (is_shared h))
 
 unfoldable pub handle_made : Bool → Table → ℕ → ℕ → Made
 handle_made l R t h =
@@ -35,9 +35,9 @@ buffer_made P = record { alive = false; row = free_row pins P; fits = ltb (free_
 
 unfoldable pub made_sight : Table → Table → Result → ℕ → ℕ → Made
 made_sight R P k t h =
-    if eqb h 0 then nothing_made
-    else if is_handle_result k then handle_made (is_local_result k) R t h
-    else if is_buffer_result k then buffer_made P
+    if_true eqb h 0 then nothing_made
+    else if_true is_handle_result k then handle_made (is_local_result k) R t h
+    else if_true is_buffer_result k then buffer_made P
     else nothing_made
 
 -- ---- the capacity

@@ -1,7 +1,7 @@
 -- What stands at a place of C or X, as it is told: whether it is there, its row, and whether its stated class is right there; an identity, whether it is
 -- stated as it is wanted, and may be taken. Assumes nothing.
 use Rattle.std.specs.Prelude.{ℕ, Bool, true, false, eqb}
-use Rattle.words.specs.Choice.{if◌then◌else◌}
+use Rattle.words.specs.Choice.{if_true◌then◌else◌}
 use Rattle.facts.specs.Table.{family}
 use Rattle.facts.specs.Results.{is_handle_place, is_buffer_place, is_identity_place}
 use Rattle.facts.specs.declared.Place.{Place}
@@ -38,8 +38,8 @@ shared_spot T h = spot (is_alive (is_shared h) (seen_in T)) (row_of_handle T.ref
 
 unfoldable pub handle_row : Table → ℕ → ℕ → ℕ
 handle_row R t h =
-    if eqb (kind h) 0 then 0
-    else if eqb (kind h) 1 then row_of_handle R t h
+    if_true eqb (kind h) 0 then 0
+    else if_true eqb (kind h) 1 then row_of_handle R t h
     else row_of_handle R 0 h
 
 -- where class `fixed` is fixed, or none
@@ -66,14 +66,14 @@ identity_spot T f x = spot (is_wanted f ((seen_in T).identity x)) 0 (may_take f 
 
 unfoldable pub place_row : Place → Tables → ℕ → ℕ → ℕ → ℕ
 place_row p T t f h =
-    if is_handle_place p then handle_row T.references t h
-    else if is_buffer_place p then buffer_row T.pins t f h
+    if_true is_handle_place p then handle_row T.references t h
+    else if_true is_buffer_place p then buffer_row T.pins t f h
     else 0
 
 unfoldable pub place_fits : ℕ → Place → Tables → ℕ → ℕ → ℕ → Bool
 place_fits fixed p T t f h =
-    if is_handle_place p then class_here fixed T t h
-    else if is_identity_place p then may_take f ((seen_in T).identity h)
+    if_true is_handle_place p then class_here fixed T t h
+    else if_true is_identity_place p then may_take f ((seen_in T).identity h)
     else true
 
 unfoldable pub place_spot : ℕ → Place → Tables → ℕ → ℕ → ℕ → Spot

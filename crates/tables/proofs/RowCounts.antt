@@ -8,7 +8,7 @@ use native.Mathlib.Omega.{arith}
 use borrow.Author.Tests.{lt-ltb}
 use lib.Dec.{ltb}
 use lib.ListN.{length}
-use Rattle.words.specs.Choice.{if◌then◌else◌}
+use Rattle.words.specs.Choice.{if_true◌then◌else◌}
 use Rattle.words.specs.Lists.{any, count}
 use Rattle.rows.specs.Slots.{held}
 use Rattle.rows.specs.Table.{Layout, Table, room, alive, found, counted, some_row, most}
@@ -22,7 +22,7 @@ module _ {A : Type 0} (q : A → Bool) where
   any_counted [] = refl
   any_counted (x ∷ l) = go (q x) (any_counted l)
     where
-      go : (b : Bool) → any q l ≡ ltb 0 (count q l) → (b || any q l) ≡ ltb 0 (if b then suc (count q l) else count q l)
+      go : (b : Bool) → any q l ≡ ltb 0 (count q l) → (b || any q l) ≡ ltb 0 (if_true b then suc (count q l) else count q l)
       go true e = sym (lt-ltb 0 (suc (count q l)) (omega arith))
       go false e = e
 
@@ -34,7 +34,7 @@ module _ {A : Type 0} (q : A → Bool) where
   count_most [] = omega arith
   count_most (x ∷ l) = go (q x) (count_most l)
     where
-      go : (b : Bool) → count q l ≤ length l → (if b then suc (count q l) else count q l) ≤ suc (length l)
+      go : (b : Bool) → count q l ≤ length l → (if_true b then suc (count q l) else count q l) ≤ suc (length l)
       go true h = omega arith
       go false h = omega arith
 

@@ -6,7 +6,7 @@ use mathlib.Core.List.{List, [], ◌∷◌}
 use native.Mathlib.Decide.{ℕ_discrete}
 use borrow.Author.Tests.{eq-eqb, ne_eqb}
 use lib.Dec.{eqb, ltb}
-use Rattle.words.specs.Choice.{if◌then◌else◌}
+use Rattle.words.specs.Choice.{if_true◌then◌else◌}
 use Rattle.words.specs.Lists.{of_first}
 use Rattle.lines.specs.Line.{kind}
 use Rattle.rows.specs.Slots.{held}
@@ -54,7 +54,7 @@ module _ (t : ℕ) (z : t ≡ 0 → ⊥) (x : Reference) where
       → f (alive_of x) ≡ (test && of_thread_row t x)
   by_thread test f e k = go (ℕ_discrete x.thread 0)
     where
-      go : Dec (x.thread ≡ 0) → f (if eqb x.thread 0 then shared x.handle else local x.thread x.frame x.handle) ≡ (test && eqb x.thread t)
+      go : Dec (x.thread ≡ 0) → f (if_true eqb x.thread 0 then shared x.handle else local x.thread x.frame x.handle) ≡ (test && eqb x.thread t)
       go (yes q) = rw (eq-eqb x.thread 0 q) (e ∙ and_false test (eqb x.thread t) (ne_eqb x.thread t (λ p. z (sym p ∙ q))))
       go (no q) = rw (ne_eqb x.thread 0 q) (k ∙ and_turned (eqb x.thread t) test)
 
@@ -70,21 +70,21 @@ no_local_row : (test : Bool) (f : Alive → Bool) (x : Reference) → (f (shared
 no_local_row test f x e k = go (eqb x.thread 0) k
   where
     go : (b : Bool) → f (local x.thread x.frame x.handle) ≡ (b && test)
-        → f (if b then shared x.handle else local x.thread x.frame x.handle) ≡ false
+        → f (if_true b then shared x.handle else local x.thread x.frame x.handle) ≡ false
     go true k = e
     go false k = k
 
 row_of_shared : (h : ℕ) (x : Reference) → is_shared h (alive_of x) ≡ is_handle 0 h x
 row_of_shared h x = go (eqb x.thread 0)
   where
-    go : (b : Bool) → is_shared h (if b then shared x.handle else local x.thread x.frame x.handle) ≡ (eqb x.handle h && b)
+    go : (b : Bool) → is_shared h (if_true b then shared x.handle else local x.thread x.frame x.handle) ≡ (eqb x.handle h && b)
     go true = and_turned true (eqb x.handle h)
     go false = and_false (eqb x.handle h) false refl
 
 row_of_global : (x : Reference) → global_or_weak (alive_of x) ≡ of_thread_row 0 x
 row_of_global x = go (eqb x.thread 0)
   where
-    go : (b : Bool) → global_or_weak (if b then shared x.handle else local x.thread x.frame x.handle) ≡ b
+    go : (b : Bool) → global_or_weak (if_true b then shared x.handle else local x.thread x.frame x.handle) ≡ b
     go true = refl
     go false = refl
 
@@ -167,14 +167,14 @@ module _ (t : ℕ) (z : t ≡ 0 → ⊥) (x : PinRow) where
   row_of_critical : critical_of t (pin_of x) ≡ of_thread t x
   row_of_critical = go (ℕ_discrete x.thread 0)
     where
-      go : Dec (x.thread ≡ 0) → critical_of t (if eqb x.thread 0 then ordinary x.family x.buffer else critical x.thread x.family x.buffer) ≡ eqb x.thread t
+      go : Dec (x.thread ≡ 0) → critical_of t (if_true eqb x.thread 0 then ordinary x.family x.buffer else critical x.thread x.family x.buffer) ≡ eqb x.thread t
       go (yes q) = rw (eq-eqb x.thread 0 q) (sym (ne_eqb x.thread t (λ p. z (sym p ∙ q))))
       go (no q) = rw (ne_eqb x.thread 0 q) (eqb_turned t x.thread)
 
 no_critical_row : (x : PinRow) → critical_of 0 (pin_of x) ≡ false
 no_critical_row x = go (ℕ_discrete x.thread 0)
   where
-    go : Dec (x.thread ≡ 0) → critical_of 0 (if eqb x.thread 0 then ordinary x.family x.buffer else critical x.thread x.family x.buffer) ≡ false
+    go : Dec (x.thread ≡ 0) → critical_of 0 (if_true eqb x.thread 0 then ordinary x.family x.buffer else critical x.thread x.family x.buffer) ≡ false
     go (yes q) = rw (eq-eqb x.thread 0 q) refl
     go (no q) = rw (ne_eqb x.thread 0 q) (ne_eqb 0 x.thread (λ p. q (sym p)))
 
@@ -205,7 +205,7 @@ module _ (x : PinRow) (k b : ℕ) where
   row_of_ordinary : same_pin (ordinary k b) (pin_of x) ≡ is_buffer 0 k b x
   row_of_ordinary = go (eqb x.thread 0)
     where
-      go : (o : Bool) → same_pin (ordinary k b) (if o then ordinary x.family x.buffer else critical x.thread x.family x.buffer) ≡ (as_row && o)
+      go : (o : Bool) → same_pin (ordinary k b) (if_true o then ordinary x.family x.buffer else critical x.thread x.family x.buffer) ≡ (as_row && o)
       go true = same_row ∙ and_turned true as_row
       go false = and_false as_row false refl
 
@@ -213,7 +213,7 @@ module _ (x : PinRow) (k b : ℕ) where
   row_of_own t z = go (ℕ_discrete x.thread 0)
     where
       go : Dec (x.thread ≡ 0)
-          → same_pin (critical t k b) (if eqb x.thread 0 then ordinary x.family x.buffer else critical x.thread x.family x.buffer) ≡ (as_row && eqb x.thread t)
+          → same_pin (critical t k b) (if_true eqb x.thread 0 then ordinary x.family x.buffer else critical x.thread x.family x.buffer) ≡ (as_row && eqb x.thread t)
       go (yes q) = rw (eq-eqb x.thread 0 q) (and_false as_row (eqb x.thread t) (ne_eqb x.thread t (λ p. z (sym p ∙ q))))
       go (no q) =
           rw (ne_eqb x.thread 0 q)
@@ -225,7 +225,7 @@ module _ (x : PinRow) (k b : ℕ) where
   no_own_row = go (ℕ_discrete x.thread 0)
     where
       go : Dec (x.thread ≡ 0)
-          → same_pin (critical 0 k b) (if eqb x.thread 0 then ordinary x.family x.buffer else critical x.thread x.family x.buffer) ≡ false
+          → same_pin (critical 0 k b) (if_true eqb x.thread 0 then ordinary x.family x.buffer else critical x.thread x.family x.buffer) ≡ false
       go (yes q) = rw (eq-eqb x.thread 0 q) refl
       go (no q) = rw (ne_eqb x.thread 0 q) (ap (λ (o : Bool). o && eqb k x.family && eqb b x.buffer) (ne_eqb 0 x.thread (λ p. q (sym p))))
 

@@ -1,6 +1,6 @@
 -- What an accepted line leaves in the lent tables. Assumes nothing.
 use Rattle.std.specs.Prelude.{ℕ, suc, ◌+◌, Bool, true, false, ◌&&◌, ◌||◌, List, [], ◌∷◌, map, eqb, length}
-use Rattle.words.specs.Choice.{if◌then◌else◌}
+use Rattle.words.specs.Choice.{if_true◌then◌else◌}
 use Rattle.facts.specs.Table.{fact_of, family, is_critical}
 use Rattle.facts.specs.Named.{PushLocalFrame, PopLocalFrame, DeleteGlobalRef, DeleteLocalRef, EnsureLocalCapacity, MonitorEnter, MonitorExit, DeleteWeakGlobalRef}
 use Rattle.facts.specs.Results.{is_buffer_place}
@@ -40,15 +40,15 @@ is_delete f a =
 
 -- the thread in the row of what is deleted
 abbrev pub delete_owner : ℕ → ℕ → ℕ
-delete_owner f t = if eqb f DeleteLocalRef then t else 0
+delete_owner f t = if_true eqb f DeleteLocalRef then t else 0
 
 -- the thread in the row of a buffer
 abbrev pub pin_owner : ℕ → ℕ → ℕ
-pin_owner f t = if is_critical (family f) then t else 0
+pin_owner f t = if_true is_critical (family f) then t else 0
 
 -- the thread in the row of what thread t names by h
 abbrev pub owner_of : ℕ → ℕ → ℕ
-owner_of t h = if eqb (kind h) 1 then t else 0
+owner_of t h = if_true eqb (kind h) 1 then t else 0
 
 -- X ends the rows of its native's frames, D those of all frames of its thread; 20 those of the top frame, if it was pushed; what line number `line` makes carries that number,
 -- and the class that the line gives it; O writes its class into the lowest matching row
@@ -57,8 +57,8 @@ references_after line e T =
     if_X e then (λ t r. ended_all references (from_frame t (suc (length (without_native (thread_in T.book t).frames)))) T.references)
     else if_C e then
     (λ t env f a b c n.
-    if is_delete f a then first_ended references (is_handle (delete_owner f t) a) T.references
-    else if eqb f PopLocalFrame && top_pushed (thread_in T.book t).frames then
+    if_true is_delete f a then first_ended references (is_handle (delete_owner f t) a) T.references
+    else if_true eqb f PopLocalFrame && top_pushed (thread_in T.book t).frames then
     ended_all references (from_frame t (length (thread_in T.book t).frames)) T.references
     else T.references)
     else if_D e then (λ t. ended_all references (from_frame t 1) T.references)
@@ -70,7 +70,7 @@ unfoldable pub pins_after : ℕ → Line → Tables → Table
 pins_after line e T =
     if_C e then
     (λ t env f a b c n.
-    if is_buffer_place (fact_of f).b then first_ended pins (is_buffer (pin_owner f t) (family f) b) T.pins else T.pins)
+    if_true is_buffer_place (fact_of f).b then first_ended pins (is_buffer (pin_owner f t) (family f) b) T.pins else T.pins)
     else all_taken pins T.pins (map (pin_row_of line) (gets e))
 
 -- ---- the classes
@@ -86,7 +86,7 @@ classes_after e cs =
 
 -- an env once set stays
 abbrev pub env_kept : List ℕ → ℕ → ℕ → List ℕ
-env_kept b t env = if eqb (thread_in b t).env 0 then env_set b t env else b
+env_kept b t env = if_true eqb (thread_in b t).env 0 then env_set b t env else b
 
 -- N, and A, which has no handles, opens a frame, keeps the env and clears pending
 abbrev pub native_entered : List ℕ → ℕ → ℕ → List ℕ → List ℕ
@@ -99,21 +99,21 @@ detached b t = monitors_dropped (frames_ended b t) t
 -- what a status of 0 does: `held` locals are alive in the top frame, and `n` was asked of the open call
 abbrev pub status_acted : List ℕ → ℕ → ℕ → ℕ → ℕ → List ℕ
 status_acted b t f held n =
-    if eqb f PushLocalFrame then frame_pushed b t n true
-    else if eqb f EnsureLocalCapacity then capacity_raised b t (held + n)
-    else if eqb f MonitorEnter then monitor_added b t
-    else if eqb f MonitorExit then monitor_taken b t
+    if_true eqb f PushLocalFrame then frame_pushed b t n true
+    else if_true eqb f EnsureLocalCapacity then capacity_raised b t (held + n)
+    else if_true eqb f MonitorEnter then monitor_added b t
+    else if_true eqb f MonitorExit then monitor_taken b t
     else b
 
 unfoldable pub book_after : Line → ℕ → Tables → List ℕ
 book_after e n T =
     if_opens e then (λ t env hs. native_entered T.book t env hs)
     else if_X e then (λ t r. native_left T.book t)
-    else if_C e then (λ t env f a b c m. if eqb f PopLocalFrame then frame_popped T.book t else T.book)
+    else if_C e then (λ t env f a b c m. if_true eqb f PopLocalFrame then frame_popped T.book t else T.book)
     else if_R e then
     (λ t f r p.
     pending_set
-    (if is_zero r then
+    (if_true is_zero r then
     status_acted T.book t f (handles_in T.references (in_frame t (length (thread_in T.book t).frames))) n
     else T.book)
     t

@@ -1,6 +1,6 @@
 -- The leaks that stand in lent tables, whatever these hold, and the list of them in a lent slice. Assumes nothing.
 use Rattle.std.specs.Prelude.{ℕ, ◌/◌, not, List, [], ◌∷◌, ◌++◌, map, ltb, length, drop}
-use Rattle.words.specs.Choice.{if◌then◌else◌}
+use Rattle.words.specs.Choice.{if_true◌then◌else◌}
 use Rattle.words.specs.Lists.{joined}
 use Rattle.rows.specs.Slots.{held}
 use Rattle.rows.specs.View.{view}
@@ -51,12 +51,12 @@ lists r ns = record { reply = r; left = ns }
 -- all of them at the front of the slice, and what is behind them stays; 7 where it holds fewer records, and nothing is written
 unfoldable pub list_into : List Leak → List ℕ → Listing
 list_into xs ns =
-    if ltb (length ns / leak_numbers) (length xs) then lists (not_written 7) ns
+    if_true ltb (length ns / leak_numbers) (length xs) then lists (not_written 7) ns
     else lists (written (length xs)) (joined xs numbers_of ++ drop (length (joined xs numbers_of)) ns)
 
 -- 8, 4, 7 in this order
 unfoldable pub list_of : Tables → List ℕ → Listing
 list_of T ns =
-    if unfit T.book then lists (not_written 8) ns
-    else if not (closed_in T.book) then lists (not_written 4) ns
+    if_true unfit T.book then lists (not_written 8) ns
+    else if_true not (closed_in T.book) then lists (not_written 4) ns
     else list_into (leaks_in T) ns

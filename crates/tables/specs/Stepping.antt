@@ -1,6 +1,6 @@
 -- One step over lent tables, and a start: what is answered and what is left, whatever stood there. Assumes nothing.
 use Rattle.std.specs.Prelude.{ℕ, suc, Bool, ◌||◌, List, leb, length}
-use Rattle.words.specs.Choice.{if◌then◌else◌}
+use Rattle.words.specs.Choice.{if_true◌then◌else◌}
 use Rattle.lines.specs.Line.{Line}
 use Rattle.lines.specs.Reading.{Read, says, refused, read}
 use Rattle.rows.specs.Table.{cleared as rows_cleared}
@@ -54,8 +54,8 @@ unfit_tables T = unfit T.book || is_short T.classes
 -- 8, 1, 2, 3, 4, 5, 6, 9, 10, 7 in this order
 unfoldable pub step_of : Tables → List ℕ → Stepped
 step_of T bs =
-    if unfit_tables T then untouched 8 T
-    else if leb most_lines (lines_in T.book) then untouched 1 T
+    if_true unfit_tables T then untouched 8 T
+    else if_true leb most_lines (lines_in T.book) then untouched 1 T
     else on_read (read bs) T
 
 -- a start call clears all rows, marks, book and classes

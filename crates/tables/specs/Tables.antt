@@ -1,6 +1,6 @@
 -- The lent tables as lists of numbers, and what a judgement sees in them, whatever they hold. Assumes nothing.
 use Rattle.std.specs.Prelude.{ℕ, Bool, List, eqb}
-use Rattle.words.specs.Choice.{if◌then◌else◌}
+use Rattle.words.specs.Choice.{if_true◌then◌else◌}
 use Rattle.words.specs.Lists.{of_first}
 use Rattle.rows.specs.Table.{Table, table, counted}
 use Rattle.rows.specs.Slots.{held}
@@ -29,7 +29,7 @@ tables rs ms ps ns b cs = record { references = table rs ms; pins = table ps ns;
 -- ---- a row and what it stands for: thread 0 is for a global or weak, and for a buffer of no thread; the making line and the stated class are forgotten
 
 abbrev pub alive_of : Reference → Alive
-alive_of x = if eqb x.thread 0 then shared x.handle else local x.thread x.frame x.handle
+alive_of x = if_true eqb x.thread 0 then shared x.handle else local x.thread x.frame x.handle
 
 -- the row of a handle that line `line` made, with its stated class
 abbrev pub reference_of : ℕ → ℕ → Alive → Reference
@@ -37,7 +37,7 @@ reference_of line class (local t d h) = record { thread = t; handle = h; frame =
 reference_of line class (shared h) = record { thread = 0; handle = h; frame = 0; line = line; class = class }
 
 abbrev pub pin_of : PinRow → Pin
-pin_of x = if eqb x.thread 0 then ordinary x.family x.buffer else critical x.thread x.family x.buffer
+pin_of x = if_true eqb x.thread 0 then ordinary x.family x.buffer else critical x.thread x.family x.buffer
 
 abbrev pub pin_row_of : ℕ → Pin → PinRow
 pin_row_of line (ordinary k b) = record { thread = 0; family = k; buffer = b; line = line }

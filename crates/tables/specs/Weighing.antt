@@ -1,7 +1,7 @@
 -- What is answered to a line that was read, over lent tables: the same rules as over the history, on what is seen in the tables. Assumes nothing.
 use Rattle.std.specs.Prelude.{ℕ, ◌+◌, Bool, true, ◌&&◌, eqb, leb, ltb, length}
 use Rattle.std.proofs.Math.Option.{Option}
-use Rattle.words.specs.Choice.{if◌then◌else◌}
+use Rattle.words.specs.Choice.{if_true◌then◌else◌}
 use Rattle.lines.specs.Line.{Line, if_M◌then◌else◌}
 use Rattle.rows.specs.Table.{room, alive}
 use Rattle.rows.specs.References.{references}
@@ -41,4 +41,4 @@ refusal_in e top many T =
 -- line number `line`
 unfoldable pub weighed_in : ℕ → Line → Option Item → ℕ → Tables → Reply
 weighed_in line e top many T =
-    if eqb (refusal_in e top many T) 0 then accepted (of_line line e (seen_in T)) else not_accepted (refusal_in e top many T)
+    if_true eqb (refusal_in e top many T) 0 then accepted (of_line line e (seen_in T)) else not_accepted (refusal_in e top many T)

@@ -1,6 +1,6 @@
 -- What is known on the way through a trace, from one function to the next. Assumes nothing.
 use Rattle.std.specs.Prelude.{ℕ, ◌+◌, ◌*◌, ◌≤◌, ◌≡◌, Bool, true, false, List, length, take}
-use Rattle.words.specs.Choice.{if◌then◌else◌}
+use Rattle.words.specs.Choice.{if_true◌then◌else◌}
 use Rattle.numbers.specs.Writing.{put, has_room}
 use Rattle.history.specs.Replies.{most_lines}
 use Rattle.answers.specs.Answer.{most_found}
@@ -14,7 +14,7 @@ use Rattle.trace.specs.Whole.{run_of}
 
 -- the bytes at a place, or nothing written where there is no room
 unfoldable pub put_fitting : List ℕ → ℕ → List ℕ → List ℕ
-put_fitting d at bs = if has_room d at bs then put d at bs else d
+put_fitting d at bs = if_true has_room d at bs then put d at bs else d
 
 -- findings are put into a slice of this size before they are copied
 abbrev pub scratch_size : ℕ

@@ -1,6 +1,6 @@
 -- What the judging of a whole lent trace answers, and what it leaves. Assumes nothing.
 use Rattle.std.specs.Prelude.{ℕ, Bool, ◌||◌, List, [], ltb, length}
-use Rattle.words.specs.Choice.{if◌then◌else◌}
+use Rattle.words.specs.Choice.{if_true◌then◌else◌}
 use Rattle.numbers.specs.Writing.{put, has_room}
 use Rattle.history.specs.Report.{lines_of, report}
 use Rattle.classes.specs.Supers.{is_short}
@@ -35,7 +35,7 @@ short_tables T = ltb (length T.book) whole || is_short T.classes
 -- a short book or class table, and nothing is touched; else the tables are left as the run left them, and the history's report stands at the start of the slice, or, where that is short, nothing is written and its length is told
 unfoldable pub whole_outcome : Tables → List ℕ → List ℕ → Outcome
 whole_outcome T trace out =
-    if short_tables T then leaves Reported.ShortTables T out
-    else if has_room out 0 (report (room_of T) trace) then
+    if_true short_tables T then leaves Reported.ShortTables T out
+    else if_true has_room out 0 (report (room_of T) trace) then
     leaves (Reported.Bytes (length (report (room_of T) trace))) (run_of T trace).left (put out 0 (report (room_of T) trace))
     else leaves (Reported.Needs (length (report (room_of T) trace))) (run_of T trace).left out

@@ -10,7 +10,7 @@ use borrow.Author.Tests.{lt-ltb, le-ltb, lt-leb, le-leb}
 use lib.Dec.{eqb, leb, ltb}
 use lib.IntN.{ℤ, pos}
 use lib.ListN.{length}
-use Rattle.words.specs.Choice.{if◌then◌else◌}
+use Rattle.words.specs.Choice.{if_true◌then◌else◌}
 use Rattle.words.specs.Lists.{joined}
 use Rattle.facts.specs.Table.{fact_of}
 use Rattle.facts.specs.Classes.{no_class, class_a, class_b}
@@ -108,7 +108,7 @@ capacity_passed H b t =
 
 -- only a local overflows, and its status is no result
 overflow_as : (line h : ℕ) (s : ℤ) (over : Bool) (k : Result)
-    → found line 11 0 (when (is_local_result k && not (eqb (above_zero (if is_status k then s else pos h)) 0) && over) (above_zero (if is_status k then s else pos h)))
+    → found line 11 0 (when (is_local_result k && not (eqb (above_zero (if_true is_status k then s else pos h)) 0) && over) (above_zero (if_true is_status k then s else pos h)))
     ≡ found line 11 0 (when (is_local_result k && not (eqb h 0) && over) h)
 overflow_as line h s over Result.Local = refl
 overflow_as line h s over Result.Global = refl

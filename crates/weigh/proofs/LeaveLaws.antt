@@ -3,7 +3,7 @@ use Prim.Native.Nat.{ℕ}
 use mathlib.Core.Path.{◌≡◌, refl, sym, ap, ◌∙◌}
 use mathlib.Core.Bool.{Bool, true, false, not, ◌&&◌, ◌||◌}
 use mathlib.Core.Option.{Option}
-use Rattle.words.specs.Choice.{if◌then◌else◌}
+use Rattle.words.specs.Choice.{if_true◌then◌else◌}
 use Rattle.facts.specs.declared.Place.TheVariants as Place
 use Rattle.history.specs.Items.{Item, is_native, is_attached}
 use Rattle.history.specs.Breaches.{place_rule}
@@ -17,10 +17,10 @@ use Rattle.weigh.proofs.CallLaws.{open_and, not_in, is_in}
 
 -- the item that is wanted is on top, or not
 module _ (closed wanted x : Bool) (e : x ≡ wanted) where
-  out_of_turn : (closed || not x) ≡ true → ◌≡◌ {A = ℕ} 4 (if not closed && wanted then 0 else 4)
+  out_of_turn : (closed || not x) ≡ true → ◌≡◌ {A = ℕ} 4 (if_true not closed && wanted then 0 else 4)
   out_of_turn n = rw (sym (open_and closed x wanted e) ∙ not_in closed x n) refl
 
-  in_turn : (closed || not x) ≡ false → ◌≡◌ {A = ℕ} 0 (if not closed && wanted then 0 else 4)
+  in_turn : (closed || not x) ≡ false → ◌≡◌ {A = ℕ} 0 (if_true not closed && wanted then 0 else 4)
   in_turn n = rw (sym (open_and closed x wanted e) ∙ is_in closed x n) refl
 
 module _ (closed : Bool) (top : Option Item) (x : Bool) where

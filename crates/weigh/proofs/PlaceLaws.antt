@@ -3,7 +3,7 @@ use Prim.Native.Nat.{ℕ, ◌%◌}
 use mathlib.Core.Path.{◌≡◌, refl, sym, ap, ◌∙◌}
 use mathlib.Core.Bool.{Bool, true, false, not}
 use borrow.Author.Tests.{eq-eqb, ne_eqb, not-true, not-false}
-use Rattle.words.specs.Choice.{if◌then◌else◌}
+use Rattle.words.specs.Choice.{if_true◌then◌else◌}
 use Rattle.answers.specs.Listed.{rule_number}
 use Rattle.facts.specs.Results.{is_handle_place, is_identity_place}
 use Rattle.facts.specs.declared.Place.{Place}
@@ -94,7 +94,7 @@ module _ (h : ℕ) (there fits : Bool) where
 
   -- a class is judged only at a handle's place, what may be taken only at an identity's
   pub judged_there : (take : Bool) (p : Place)
-      → place_rule p h there (if is_handle_place p then fits else if is_identity_place p then take else true) ≡ place_rule p h there (if is_identity_place p then take else fits)
+      → place_rule p h there (if_true is_handle_place p then fits else if_true is_identity_place p then take else true) ≡ place_rule p h there (if_true is_identity_place p then take else fits)
   unfolding place_rule
   judged_there take Place.Handle = refl
   judged_there take Place.HandleOrNull = refl

@@ -10,7 +10,7 @@ use borrow.Author.Tests.{eq-eqb, lt-ltb, le-ltb, lt-leb, le-leb}
 use lib.Dec.{eqb, leb, ltb}
 use lib.IntN.{ℤ}
 use lib.ListN.{length, length-map}
-use Rattle.words.specs.Choice.{if◌then◌else◌}
+use Rattle.words.specs.Choice.{if_true◌then◌else◌}
 use Rattle.words.specs.Lists.{any}
 use Rattle.facts.specs.Named.{PopLocalFrame}
 use Rattle.lines.specs.Line.{Statement, K, O, M, N, X, C, A, D, Z, states}
@@ -49,7 +49,7 @@ left_shorter [] = omega arith
 left_shorter (entered ∷ fs) = omega arith
 left_shorter (pushed ∷ fs) = omega (arith, left_shorter fs)
 
-popped_shorter : (pops : Bool) (fs : List Frame) → length (if pops then without_pushed fs else fs) ≤ length fs
+popped_shorter : (pops : Bool) (fs : List Frame) → length (if_true pops then without_pushed fs else fs) ≤ length fs
 popped_shorter true [] = omega arith
 popped_shorter true (entered ∷ fs) = omega arith
 popped_shorter true (pushed ∷ fs) = omega arith
@@ -73,7 +73,7 @@ leave_room T t r =
     nothing_made T (length (without_native (thread_in T.book t).frames))
     (omega (arith, left_shorter (thread_in T.book t).frames, frames_within T.book t))
 
-by_step : (step : Bool) → first_refusal step true true true true true ≡ (if step then 0 else 4)
+by_step : (step : Bool) → first_refusal step true true true true true ≡ (if_true step then 0 else 4)
 by_step true = refl
 by_step false = refl
 
@@ -100,14 +100,14 @@ detach_told T top many t =
 call_room : (T : Tables) (t env f a b c : ℕ) (n : ℤ) → rows_left (C t env f a b c n) T ≡ true
 unfolding rows_left made_by makes gets seen_in
 call_room T t env f a b c n =
-    nothing_made T (length (if eqb f PopLocalFrame then without_pushed (thread_in T.book t).frames else (thread_in T.book t).frames))
+    nothing_made T (length (if_true eqb f PopLocalFrame then without_pushed (thread_in T.book t).frames else (thread_in T.book t).frames))
     (omega (arith, popped_shorter (eqb f PopLocalFrame) (thread_in T.book t).frames, frames_within T.book t))
 
-by_items : (step : Bool) (many : ℕ) → first_refusal step true true true true (ltb many deepest) ≡ (if step then (if leb deepest many then 7 else 0) else 4)
+by_items : (step : Bool) (many : ℕ) → first_refusal step true true true true (ltb many deepest) ≡ (if_true step then (if_true leb deepest many then 7 else 0) else 4)
 by_items false many = refl
 by_items true many = go (dec_lt many deepest)
   where
-    go : Dec (many < deepest) → first_refusal true true true true true (ltb many deepest) ≡ (if leb deepest many then 7 else 0)
+    go : Dec (many < deepest) → first_refusal true true true true true (ltb many deepest) ≡ (if_true leb deepest many then 7 else 0)
     go (yes h) = rw (lt-ltb many deepest h, lt-leb deepest many h) refl
     go (no h) = let k : deepest ≤ many = omega (arith, h) in rw (le-ltb many deepest k, le-leb deepest many k) refl
 
@@ -124,11 +124,11 @@ end_room : (T : Tables) → rows_left Z T ≡ true
 unfolding rows_left made_by makes gets seen_in
 end_room T = nothing_made T (length (thread_in T.book 0).frames) (frames_within T.book 0)
 
-by_end : (over : Bool) → first_refusal (not over && true) true true true true true ≡ (if over then 4 else 0)
+by_end : (over : Bool) → first_refusal (not over && true) true true true true true ≡ (if_true over then 4 else 0)
 by_end true = refl
 by_end false = refl
 
-pub end_told : (T : Tables) (top : Option Item) (many : ℕ) → refusal_in Z top many T ≡ (if closed_in T.book then 4 else 0)
+pub end_told : (T : Tables) (top : Option Item) (many : ℕ) → refusal_in Z top many T ≡ (if_true closed_in T.book then 4 else 0)
 unfolding refusal_in place_left in_step env_right classes_right names_alive makes_anew made_by makes seen_in
 end_told T top many =
     ap (λ (o : Bool). first_refusal (not (closed_in T.book) && true) true true true true (o && true)) (end_room T) ∙ by_end (closed_in T.book)
@@ -139,7 +139,7 @@ statement_room : (T : Tables) (s : Statement) → rows_left (states s) T ≡ tru
 unfolding rows_left made_by makes gets seen_in
 statement_room T s = nothing_made T (length (thread_in T.book 0).frames) (frames_within T.book 0)
 
-by_declare : (over known under : Bool) → first_refusal (not over && true) true true (not known && under) true true ≡ (if over then 4 else if known || not under then 9 else 0)
+by_declare : (over known under : Bool) → first_refusal (not over && true) true true (not known && under) true true ≡ (if_true over then 4 else if_true known || not under then 9 else 0)
 by_declare true known under = refl
 by_declare false true under = refl
 by_declare false false true = refl
@@ -153,7 +153,7 @@ declare_told T top many c s =
     ap (λ (o : Bool). first_refusal (not (closed_in T.book) && true) true true (not known && under) true (o && true)) (statement_room T (K c s))
     ∙ by_declare (closed_in T.book) known under
 
-by_state : (over known alive : Bool) → first_refusal (not over && true) true true known alive true ≡ (if over then 4 else if not known then 9 else if not alive then 10 else 0)
+by_state : (over known alive : Bool) → first_refusal (not over && true) true true known alive true ≡ (if_true over then 4 else if_true not known then 9 else if_true not alive then 10 else 0)
 by_state true known alive = refl
 by_state false true true = refl
 by_state false true false = refl
@@ -166,7 +166,7 @@ state_told T top many t h c =
     ap (λ (o : Bool). first_refusal (not (closed_in T.book) && true) true true known (handle_alive t h (seen_in T)) (o && true)) (statement_room T (O t h c))
     ∙ by_state (closed_in T.book) known (handle_alive t h (seen_in T))
 
-by_identify : (over known fits : Bool) → first_refusal (not over && true) true true known true fits ≡ (if over then 4 else if not known then 9 else if not fits then 7 else 0)
+by_identify : (over known fits : Bool) → first_refusal (not over && true) true true known true fits ≡ (if_true over then 4 else if_true not known then 9 else if_true not fits then 7 else 0)
 by_identify true known fits = refl
 by_identify false false fits = refl
 by_identify false true true = refl
@@ -191,7 +191,7 @@ pub stated_alive : (closed : Bool) (s : StateSight) → state_refusal closed s �
 unfolding state_refusal
 stated_alive closed s = go closed s.known s.alive
   where
-    go : (over known alive : Bool) → ◌≡◌ {A = ℕ} (if over then 4 else if not known then 9 else if not alive then 10 else 0) 0 → alive ≡ true
+    go : (over known alive : Bool) → ◌≡◌ {A = ℕ} (if_true over then 4 else if_true not known then 9 else if_true not alive then 10 else 0) 0 → alive ≡ true
     go true known alive e = absurd (omega (arith, e))
     go false false alive e = absurd (omega (arith, e))
     go false true false e = absurd (omega (arith, e))
@@ -250,14 +250,14 @@ enter_fits T many t env hs =
     (ap (λ (n : ℕ). leb (n + alive references T.references) (room references T.references)) (length-map hs (local t (suc (length (thread_in T.book t).frames))))
     ∙ rows_more (room references T.references) (alive references T.references) (length hs) (alive_most references T.references))
 
-by_turn : (turn env anew room : Bool) → first_refusal turn env anew true true room ≡ (if turn then first_refusal true env anew true true room else 4)
+by_turn : (turn env anew room : Bool) → first_refusal turn env anew true true room ≡ (if_true turn then first_refusal true env anew true true room else 4)
 by_turn true env anew room = refl
 by_turn false env anew room = refl
 
 -- of N in its turn, or out of it
 opened_told : (T : Tables) (turn : Bool) (many t env : ℕ) (hs : List ℕ)
     → first_refusal turn (env_right (N t env hs) (seen_in T)) (makes_anew (N t env hs) (seen_in T)) true true (rows_left (N t env hs) T && ltb many deepest)
-    ≡ (if turn then enter_refusal many env hs (enter_sight T t env hs) else 4)
+    ≡ (if_true turn then enter_refusal many env hs (enter_sight T t env hs) else 4)
 unfolding enter_refusal env_right env_elsewhere enter_sight seen_in
 opened_told T turn many t env hs =
     let fits : Bool = env_fits env (enter_sight T t env hs) in
@@ -265,12 +265,12 @@ opened_told T turn many t env hs =
     ∙ by_turn turn fits (not (some_alive T.references t hs || named_twice hs)) (enter_room many (length hs) (enter_sight T t env hs))
 
 pub enter_told : (T : Tables) (top : Option Item) (many t env : ℕ) (hs : List ℕ)
-    → refusal_in (N t env hs) top many T ≡ (if enter_turn (closed_in T.book) top then enter_refusal many env hs (enter_sight T t env hs) else 4)
+    → refusal_in (N t env hs) top many T ≡ (if_true enter_turn (closed_in T.book) top then enter_refusal many env hs (enter_sight T t env hs) else 4)
 unfolding refusal_in place_left in_step classes_right names_alive seen_in
 enter_told T top many t env hs = opened_told T (not (closed_in T.book) && (is_empty top || is_call top)) many t env hs
 
 -- A is told as N with no handles
 pub attach_told : (T : Tables) (top : Option Item) (many t env : ℕ)
-    → refusal_in (A t env) top many T ≡ (if attach_turn (closed_in T.book) top then enter_refusal many env [] (enter_sight T t env []) else 4)
+    → refusal_in (A t env) top many T ≡ (if_true attach_turn (closed_in T.book) top then enter_refusal many env [] (enter_sight T t env []) else 4)
 unfolding refusal_in place_left in_step env_right makes_anew made_by makes rows_left gets classes_right names_alive seen_in
 attach_told T top many t env = opened_told T (not (closed_in T.book) && is_empty top) many t env []

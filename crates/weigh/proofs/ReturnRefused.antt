@@ -10,7 +10,7 @@ use borrow.Author.Tests.{lt-ltb, le-ltb, lt-leb, le-leb, eqb-true}
 use lib.Dec.{eqb, leb, ltb}
 use lib.IntN.{ℤ, pos}
 use lib.ListN.{length}
-use Rattle.words.specs.Choice.{if◌then◌else◌}
+use Rattle.words.specs.Choice.{if_true◌then◌else◌}
 use Rattle.words.specs.Lists.{any}
 use Rattle.facts.specs.Table.{table as fact_table, fact_of}
 use Rattle.facts.specs.Named.{PushLocalFrame}
@@ -46,9 +46,9 @@ anew test xs = not (any test xs) && not (twice xs)
 
 -- what is made, unless the result is null
 abbrev unless_null : Bool → Made → Made
-unless_null null m = if null then nothing_made else m
+unless_null null m = if_true null then nothing_made else m
 
-one_anew : (test : Alive → Bool) (null : Bool) (x : Alive) (m : Made) → test x ≡ m.alive → anew test (if null then [] else x ∷ []) ≡ not (unless_null null m).alive
+one_anew : (test : Alive → Bool) (null : Bool) (x : Alive) (m : Made) → test x ≡ m.alive → anew test (if_true null then [] else x ∷ []) ≡ not (unless_null null m).alive
 one_anew test true x m e = refl
 one_anew test false x m e = go (test x) ∙ ap not e
   where
@@ -56,7 +56,7 @@ one_anew test false x m e = go (test x) ∙ ap not e
     go true = refl
     go false = refl
 
-none_anew : (test : Alive → Bool) (a b : Bool) (m : Made) → m.alive ≡ false → anew test (if a then [] else []) ≡ not (unless_null b m).alive
+none_anew : (test : Alive → Bool) (a b : Bool) (m : Made) → m.alive ≡ false → anew test (if_true a then [] else []) ≡ not (unless_null b m).alive
 none_anew test true true m e = refl
 none_anew test true false m e = ap not (sym e)
 none_anew test false true m e = refl
@@ -64,12 +64,12 @@ none_anew test false false m e = ap not (sym e)
 
 module _ (H P : Table) (t d h : ℕ) (s : ℤ) where
   abbrev line_result : Result → ℤ
-  line_result k = if is_status k then s else pos h
+  line_result k = if_true is_status k then s else pos h
 
   abbrev lives : Alive → Bool
   lives x = ltb 0 (handles_in H (same_handle x))
 
-  anew_as : (k : Result) → anew lives (if eqb (above_zero (line_result k)) 0 then [] else result_made k t d (above_zero (line_result k))) ≡ not (made_sight H P k t h).alive
+  anew_as : (k : Result) → anew lives (if_true eqb (above_zero (line_result k)) 0 then [] else result_made k t d (above_zero (line_result k))) ≡ not (made_sight H P k t h).alive
   unfolding made_sight handle_made buffer_made
   anew_as Result.Local = one_anew lives (eqb h 0) (local t d h) (handle_made true H t h) refl
   anew_as Result.Global = one_anew lives (eqb h 0) (shared h) (handle_made false H t h) refl
@@ -113,24 +113,24 @@ module _ (H P : Table) (t f d h : ℕ) (s : ℤ) where
   none_more = ap₂ ◌&&◌ (none_fits references H) (none_fits pins P)
 
   handle_more : (null : Bool) (x : Alive) (m : Made) → m.fits ≡ ltb (free_row references H) (room references H)
-      → both_fit (if null then [] else x ∷ []) [] ≡ (unless_null null m).fits
+      → both_fit (if_true null then [] else x ∷ []) [] ≡ (unless_null null m).fits
   handle_more true x m e = none_more
   handle_more false x m e = ap₂ ◌&&◌ (one_fits references H ∙ sym e) (none_fits pins P) ∙ and_true m.fits
 
   buffer_more : (null : Bool) (m : Made) → m.fits ≡ ltb (free_row pins P) (room pins P)
-      → both_fit (if null then [] else []) (if not null then pin t f h ∷ [] else []) ≡ (unless_null null m).fits
+      → both_fit (if_true null then [] else []) (if_true not null then pin t f h ∷ [] else []) ≡ (unless_null null m).fits
   buffer_more true m e = none_more
   buffer_more false m e = ap₂ ◌&&◌ (none_fits references H) (one_fits pins P ∙ sym e)
 
-  nothing_more : (a b : Bool) → both_fit (if a then [] else []) [] ≡ (unless_null b nothing_made).fits
+  nothing_more : (a b : Bool) → both_fit (if_true a then [] else []) [] ≡ (unless_null b nothing_made).fits
   nothing_more true true = none_more
   nothing_more true false = none_more
   nothing_more false true = none_more
   nothing_more false false = none_more
 
   fit_as : (k : Result)
-      → both_fit (if eqb (above_zero (line_result H P t d h s k)) 0 then [] else result_made k t d (above_zero (line_result H P t d h s k)))
-      (if is_buffer_result k && not (eqb (above_zero (line_result H P t d h s k)) 0) then pin t f (above_zero (line_result H P t d h s k)) ∷ [] else [])
+      → both_fit (if_true eqb (above_zero (line_result H P t d h s k)) 0 then [] else result_made k t d (above_zero (line_result H P t d h s k)))
+      (if_true is_buffer_result k && not (eqb (above_zero (line_result H P t d h s k)) 0) then pin t f (above_zero (line_result H P t d h s k)) ∷ [] else [])
       ≡ (made_sight H P k t h).fits
   unfolding made_sight handle_made buffer_made
   fit_as Result.Local = handle_more (eqb h 0) (local t d h) (handle_made true H t h) refl
@@ -150,7 +150,7 @@ push_acts f h s = go (eqb f PushLocalFrame) refl
     go false e = refl
     go true e = ap (λ (g : ℕ). is_zero (result_in_line g h s)) (eqb-true f PushLocalFrame e)
 
-frame_fits : (fs : List Frame) (more : Bool) → length fs ≤ deepest → leb (length (if more then pushed ∷ fs else fs)) deepest ≡ (not more || ltb (length fs) deepest)
+frame_fits : (fs : List Frame) (more : Bool) → length fs ≤ deepest → leb (length (if_true more then pushed ∷ fs else fs)) deepest ≡ (not more || ltb (length fs) deepest)
 frame_fits fs true h = refl
 frame_fits fs false h = le-leb (length fs) deepest h
 
@@ -161,12 +161,12 @@ unfolding rows_left made_by makes gets seen_in
 return_fits T t f h p s =
     ap₂ ◌&&◌
     (fit_as T.references T.pins t f (length (thread_in T.book t).frames) h s (fact_of f).result)
-    (ap (λ (more : Bool). leb (length (if more then pushed ∷ (thread_in T.book t).frames else (thread_in T.book t).frames)) deepest) (push_acts f h s)
+    (ap (λ (more : Bool). leb (length (if_true more then pushed ∷ (thread_in T.book t).frames else (thread_in T.book t).frames)) deepest) (push_acts f h s)
     ∙ frame_fits (thread_in T.book t).frames (eqb f PushLocalFrame && is_zero s) (frames_within T.book t))
 
 -- ---- the number
 
-by_turn : (turn again fits : Bool) → first_refusal turn true (not again) true true (fits && true) ≡ (if turn then (if again then 6 else if fits then 0 else 7) else 4)
+by_turn : (turn again fits : Bool) → first_refusal turn true (not again) true true (fits && true) ≡ (if_true turn then (if_true again then 6 else if_true fits then 0 else 7) else 4)
 by_turn false again fits = refl
 by_turn true true fits = refl
 by_turn true false true = refl
@@ -174,7 +174,7 @@ by_turn true false false = refl
 
 pub return_told : (T : Tables) (top : Option Item) (many t f h p : ℕ) (s : ℤ)
     → refusal_in (R t f (result_in_line f h s) p) top many T
-    ≡ (if return_turn (closed_in T.book) f top then return_refusal f (is_zero s) (return_sight T t f h) else 4)
+    ≡ (if_true return_turn (closed_in T.book) f top then return_refusal f (is_zero s) (return_sight T t f h) else 4)
 unfolding refusal_in place_left return_refusal return_sight in_step env_right classes_right names_alive seen_in
 return_told T top many t f h p s =
     let new : Made = made_sight T.references T.pins (fact_of f).result t h in

@@ -1,7 +1,7 @@
 -- What is answered to C, from what it was told. Assumes nothing.
 use Rattle.std.specs.Prelude.{ℕ, Bool, not, ◌&&◌, eqb, leb}
 use Rattle.std.proofs.Math.Option.{Option}
-use Rattle.words.specs.Choice.{if◌then◌else◌}
+use Rattle.words.specs.Choice.{if_true◌then◌else◌}
 use Rattle.facts.specs.Table.{is_allowed_pending, is_allowed_critical}
 use Rattle.facts.specs.Named.{PopLocalFrame, MonitorExit}
 use Rattle.history.specs.Items.{Item, native_or_attached}
@@ -13,7 +13,7 @@ use Rattle.sight.specs.declared.call.CallSight.{CallSight}
 
 -- 0, 4 or 7
 unfoldable pub call_refusal : Bool → Option Item → ℕ → ℕ
-call_refusal closed top many = if not closed && native_or_attached top then (if leb deepest many then 7 else 0) else 4
+call_refusal closed top many = if_true not closed && native_or_attached top then (if_true leb deepest many then 7 else 0) else 4
 
 -- what is judged of line number `line`
 unfoldable pub judged_call : ℕ → ℕ → ℕ → ℕ → ℕ → ℕ → CallSight → Judged

@@ -1,7 +1,7 @@
 -- What is answered to X, from what it was told. Assumes nothing.
 use Rattle.std.specs.Prelude.{ℕ, Bool, false, not, ◌&&◌}
 use Rattle.std.proofs.Math.Option.{Option}
-use Rattle.words.specs.Choice.{if◌then◌else◌}
+use Rattle.words.specs.Choice.{if_true◌then◌else◌}
 use Rattle.facts.specs.declared.Place.TheVariants as Place
 use Rattle.history.specs.Items.{Item, is_native}
 use Rattle.history.specs.Breaches.{place_rule}
@@ -11,7 +11,7 @@ use Rattle.sight.specs.declared.leave.LeaveSight.{LeaveSight}
 
 -- 0 or 4
 unfoldable pub leave_refusal : Bool → Option Item → ℕ
-leave_refusal closed top = if not closed && is_native top then 0 else 4
+leave_refusal closed top = if_true not closed && is_native top then 0 else 4
 
 -- what is judged of line number `line`
 unfoldable pub judged_leave : ℕ → ℕ → LeaveSight → Judged

@@ -1,7 +1,7 @@
 -- What is answered to R, from what it was told. Assumes nothing.
 use Rattle.std.specs.Prelude.{ℕ, Bool, not, ◌&&◌, ◌||◌, List, eqb, ltb}
 use Rattle.std.proofs.Math.Option.{Option}
-use Rattle.words.specs.Choice.{if◌then◌else◌}
+use Rattle.words.specs.Choice.{if_true◌then◌else◌}
 use Rattle.facts.specs.Named.{PushLocalFrame}
 use Rattle.history.specs.Items.{Item, is_call_of}
 use Rattle.history.specs.Acceptance.{deepest}
@@ -20,8 +20,8 @@ frame_free f acts frames = not (eqb f PushLocalFrame && acts) || ltb frames deep
 -- of R in turn: 0, 6 or 7
 unfoldable pub return_refusal : ℕ → Bool → ReturnSight → ℕ
 return_refusal f acts s =
-    if s.made.alive then 6
-    else if s.made.fits && frame_free f acts s.frames then 0
+    if_true s.made.alive then 6
+    else if_true s.made.fits && frame_free f acts s.frames then 0
     else 7
 
 unfoldable pub found_return : ℕ → ℕ → ReturnSight → List Finding

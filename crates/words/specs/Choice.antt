@@ -1,10 +1,10 @@
 -- A choice by a test, and tests of one number. Assumes nothing.
 use Rattle.std.specs.Prelude.{ℕ, Bool, true, false, ◌&&◌, leb}
 
-infixr 1 if◌then◌else◌
-abbrev pub if◌then◌else◌ {ℓ} : {A : Type ℓ} → Bool → A → A → A
-if true then a else b = a
-if false then a else b = b
+infixr 1 if_true◌then◌else◌
+abbrev pub if_true◌then◌else◌ {ℓ} : {A : Type ℓ} → Bool → A → A → A
+if_true true then a else b = a
+if_true false then a else b = b
 
 -- 1 where the test holds, else 0
 abbrev pub one : Bool → ℕ

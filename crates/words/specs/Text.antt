@@ -2,7 +2,7 @@
 use Rattle.std.specs.Prelude.{ℕ, List, [], ◌∷◌, eqb}
 use Prim.Native.String.{String, [] as empty, ◌∷◌ as ◌then◌}
 use Prim.Native.Char.{code}
-use Rattle.words.specs.Choice.{if◌then◌else◌}
+use Rattle.words.specs.Choice.{if_true◌then◌else◌}
 
 abbrev pub bytes : String → List ℕ
 bytes empty = []
@@ -17,4 +17,4 @@ line_feed = 10
 
 abbrev pub with_tabs : List ℕ → List ℕ
 with_tabs [] = []
-with_tabs (b ∷ bs) = (if eqb b 32 then tab else b) ∷ with_tabs bs
+with_tabs (b ∷ bs) = (if_true eqb b 32 then tab else b) ∷ with_tabs bs

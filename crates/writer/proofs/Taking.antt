@@ -9,7 +9,7 @@ use lib.Dec.{eqb, leb}
 use lib.IntN.{ℤ, pos, negsuc, nat_abs}
 use lib.ListN.{length, get_or, take}
 use borrow.Author.Tests.{leb-true, ne_eqb}
-use Rattle.words.specs.Choice.{if◌then◌else◌}
+use Rattle.words.specs.Choice.{if_true◌then◌else◌}
 use Rattle.numbers.specs.Signed.{is_negative}
 use Rattle.lines.specs.Line.{K, O, M, Line, N, X, C, R, A, D, Z, states, is_allowed, is_zero, most_handles}
 use Rattle.lines.specs.Forms.{most_fields, of_letter}
@@ -42,9 +42,9 @@ slot_list =
 -- ---- the line of what was taken apart
 
 abbrev taken_line : Taken → Read
-taken_line t = if t.good then line_in t.letter t.count t.minus t.values else refused 3
+taken_line t = if_true t.good then line_in t.letter t.count t.minus t.values else refused 3
 
-split : (a : Bool) (e : Line) {x : Read} → (a ≡ true → if_allowed e ≡ x) → (if a && is_allowed e then says e else refused 3) ≡ (if a then x else refused 3)
+split : (a : Bool) (e : Line) {x : Read} → (a ≡ true → if_allowed e ≡ x) → (if_true a && is_allowed e then says e else refused 3) ≡ (if_true a then x else refused 3)
 split true e h = h refl
 split false e h = refl
 
@@ -62,25 +62,25 @@ call_meant t env f a b c (pos n) hs = split (are_empty 0 hs) (C t env f a b c (p
 call_meant t env f a b c (negsuc n) hs = split (are_empty 0 hs) (C t env f a b c (negsuc n)) (λ _. refl)
 
 status_meant : (t f r : ℕ) (s : ℤ) (p : ℕ) (hs : List ℕ)
-    → (if eqb r 0 then with_slots 0 hs (R t f s p) else refused 3)
-    ≡ (if eqb r 0 && are_empty 0 hs then line_in (code "R") 4 (is_negative s) (t ∷ f ∷ nat_abs s ∷ p ∷ 0 ∷ 0 ∷ 0 ∷ 0 ∷ 0 ∷ 0 ∷ []) else refused 3)
+    → (if_true eqb r 0 then with_slots 0 hs (R t f s p) else refused 3)
+    ≡ (if_true eqb r 0 && are_empty 0 hs then line_in (code "R") 4 (is_negative s) (t ∷ f ∷ nat_abs s ∷ p ∷ 0 ∷ 0 ∷ 0 ∷ 0 ∷ 0 ∷ 0 ∷ []) else refused 3)
 unfolding line_in line_of of_letter signed_at
 status_meant t f r s p hs = go (eqb r 0) s
   where
-    go : (z : Bool) (s : ℤ) → (if z then with_slots 0 hs (R t f s p) else refused 3)
-        ≡ (if z && are_empty 0 hs then line_in (code "R") 4 (is_negative s) (t ∷ f ∷ nat_abs s ∷ p ∷ 0 ∷ 0 ∷ 0 ∷ 0 ∷ 0 ∷ 0 ∷ []) else refused 3)
+    go : (z : Bool) (s : ℤ) → (if_true z then with_slots 0 hs (R t f s p) else refused 3)
+        ≡ (if_true z && are_empty 0 hs then line_in (code "R") 4 (is_negative s) (t ∷ f ∷ nat_abs s ∷ p ∷ 0 ∷ 0 ∷ 0 ∷ 0 ∷ 0 ∷ 0 ∷ []) else refused 3)
     go true (pos n) = split (are_empty 0 hs) (R t f (pos n) p) (λ _. refl)
     go true (negsuc n) = split (are_empty 0 hs) (R t f (negsuc n) p) (λ _. refl)
     go false s = refl
 
 result_meant : (t f r : ℕ) (s : ℤ) (p : ℕ) (hs : List ℕ)
-    → (if is_zero s then with_slots 0 hs (R t f (pos r) p) else refused 3)
-    ≡ (if is_zero s && are_empty 0 hs then line_in (code "R") 4 false (t ∷ f ∷ r ∷ p ∷ 0 ∷ 0 ∷ 0 ∷ 0 ∷ 0 ∷ 0 ∷ []) else refused 3)
+    → (if_true is_zero s then with_slots 0 hs (R t f (pos r) p) else refused 3)
+    ≡ (if_true is_zero s && are_empty 0 hs then line_in (code "R") 4 false (t ∷ f ∷ r ∷ p ∷ 0 ∷ 0 ∷ 0 ∷ 0 ∷ 0 ∷ 0 ∷ []) else refused 3)
 unfolding line_in line_of of_letter signed_at
 result_meant t f r s p hs = go (is_zero s)
   where
-    go : (z : Bool) → (if z then with_slots 0 hs (R t f (pos r) p) else refused 3)
-        ≡ (if z && are_empty 0 hs then line_in (code "R") 4 false (t ∷ f ∷ r ∷ p ∷ 0 ∷ 0 ∷ 0 ∷ 0 ∷ 0 ∷ 0 ∷ []) else refused 3)
+    go : (z : Bool) → (if_true z then with_slots 0 hs (R t f (pos r) p) else refused 3)
+        ≡ (if_true z && are_empty 0 hs then line_in (code "R") 4 false (t ∷ f ∷ r ∷ p ∷ 0 ∷ 0 ∷ 0 ∷ 0 ∷ 0 ∷ 0 ∷ []) else refused 3)
     go true = split (are_empty 0 hs) (R t f (pos r) p) (λ _. refl)
     go false = refl
 
@@ -111,10 +111,10 @@ module _ (e : Event) (hs : List ℕ) (l : length hs ≡ most_handles) {t : Taken
   as_taken = ap taken_line told ∙ sym (apart_meant e hs l)
 
   pub good_taken : t.good ≡ true → line_in t.letter t.count t.minus t.values ≡ meant e hs
-  good_taken g = sym (ap (λ (b : Bool). if b then line_in t.letter t.count t.minus t.values else refused 3) g) ∙ as_taken
+  good_taken g = sym (ap (λ (b : Bool). if_true b then line_in t.letter t.count t.minus t.values else refused 3) g) ∙ as_taken
 
   pub bad_taken : t.good ≡ false → refused 3 ≡ meant e hs
-  bad_taken g = sym (ap (λ (b : Bool). if b then line_in t.letter t.count t.minus t.values else refused 3) g) ∙ as_taken
+  bad_taken g = sym (ap (λ (b : Bool). if_true b then line_in t.letter t.count t.minus t.values else refused 3) g) ∙ as_taken
 
 -- ---- what is written of numbers
 

@@ -1,7 +1,7 @@
 -- The writer's own bookkeeping: an event taken apart into its letter and numbers; the law `apart_meant` (proofs/Taking.antt) ties it to what the event means. Assumes nothing.
 use Rattle.std.specs.Prelude.{ℕ, ◌+◌, Bool, false, not, ◌&&◌, List, [], ◌∷◌, eqb, leb, ℤ, nat_abs, drop}
 use Prim.Native.Char.{code}
-use Rattle.words.specs.Choice.{if◌then◌else◌}
+use Rattle.words.specs.Choice.{if_true◌then◌else◌}
 use Rattle.words.specs.Lists.{any}
 use Rattle.numbers.specs.Signed.{is_negative}
 use Rattle.lines.specs.Line.{is_zero, most_handles}
@@ -19,7 +19,7 @@ are_empty n hs = not (any not_zero (drop n hs))
 -- one of result and status is 0
 unfoldable pub apart_return : ℕ → ℕ → ℕ → ℤ → ℕ → Bool → Taken
 apart_return t f r s p empty =
-    if gives_status f then taken (code "R") 4 (is_negative s) (t ∷ f ∷ nat_abs s ∷ p ∷ 0 ∷ 0 ∷ 0 ∷ 0 ∷ 0 ∷ 0 ∷ []) (eqb r 0 && empty)
+    if_true gives_status f then taken (code "R") 4 (is_negative s) (t ∷ f ∷ nat_abs s ∷ p ∷ 0 ∷ 0 ∷ 0 ∷ 0 ∷ 0 ∷ 0 ∷ []) (eqb r 0 && empty)
     else taken (code "R") 4 false (t ∷ f ∷ r ∷ p ∷ 0 ∷ 0 ∷ 0 ∷ 0 ∷ 0 ∷ 0 ∷ []) (is_zero s && empty)
 
 abbrev pub apart : Event → List ℕ → Taken
