@@ -9,7 +9,7 @@ use lib.ListN.{length}
 use borrow.Author.Tests.{le-leb, lt-leb, leb-true, eqb-true}
 use Rattle.words.specs.Choice.{within}
 use Rattle.words.specs.Lists.{any, count, place_of}
-use Rattle.facts.specs.Table.{Span, only, ◌to◌, in_span, lists, first_function, last_function, is_function, Row, table, no_fact, find, fact_of, allowed_pending, is_allowed_pending, is_allowed_critical, Pair, ◌/◌, in_pair, families, family}
+use Rattle.facts.specs.Table.{Span, only, ◌to◌, in_span, lists, first_function, last_function, is_function, Row, table, no_fact, find, fact_of, allowed_pending, is_allowed_pending, is_allowed_critical, Pair, ◌released_by◌, in_pair, families, family}
 use Rattle.facts.specs.Classes.{no_class, class_a, class_b}
 use Rattle.facts.specs.Identities.{wanted_of, writes_field}
 use Rattle.facts.specs.Letters.{no_family}
@@ -64,14 +64,14 @@ abbrev row_of_functions : Row → Bool
 row_of_functions r = all_of of_functions r.numbers
 
 abbrev pair_of_functions : Pair → Bool
-pair_of_functions (get / release) = is_function get && is_function release
+pair_of_functions (get released_by release) = is_function get && is_function release
 
 -- f is the first of a pair, or the second
 abbrev pub gets : ℕ → Pair → Bool
-gets f (get / release) = eqb f get
+gets f (get released_by release) = eqb f get
 
 abbrev pub releases : ℕ → Pair → Bool
-releases f (get / release) = eqb f release
+releases f (get released_by release) = eqb f release
 
 module _ (f : ℕ) (none : is_function f ≡ false) where
   other : (n : ℕ) → is_function n ≡ true → eqb f n ≡ false
@@ -101,13 +101,13 @@ module _ (f : ℕ) (none : is_function f ≡ false) where
       rw (not_listed x.numbers p.0) (not_found xs p.1)
 
   not_first : (x : Pair) → pair_of_functions x ≡ true → gets f x ≡ false
-  not_first (get / release) h = other get (both_true (is_function get) (is_function release) h).0
+  not_first (get released_by release) h = other get (both_true (is_function get) (is_function release) h).0
 
   not_second : (x : Pair) → pair_of_functions x ≡ true → releases f x ≡ false
-  not_second (get / release) h = other release (both_true (is_function get) (is_function release) h).1
+  not_second (get released_by release) h = other release (both_true (is_function get) (is_function release) h).1
 
   not_in_pair : (x : Pair) → pair_of_functions x ≡ true → in_pair f x ≡ false
-  not_in_pair (get / release) h = either_false (not_first (get / release) h) (not_second (get / release) h)
+  not_in_pair (get released_by release) h = either_false (not_first (get released_by release) h) (not_second (get released_by release) h)
 
   -- ---- the tables of document 01, each tested once
 

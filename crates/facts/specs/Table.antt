@@ -138,27 +138,27 @@ is_allowed_critical = lists (222 to 225 ∷ [])
 
 -- ---- buffer families, get/release
 
-infix 80 ◌/◌
+infix 80 ◌released_by◌
 pub data Pair : Type 0 where
-  ◌/◌ : ℕ → ℕ → Pair
+  ◌released_by◌ : ℕ → ℕ → Pair
 
 abbrev pub in_pair : ℕ → Pair → Bool
-in_pair f (get / release) = eqb f get || eqb f release
+in_pair f (get released_by release) = eqb f get || eqb f release
 
 abbrev pub families : List Pair
 families =
-    165 / 166
-    ∷ 169 / 170
-    ∷ 183 / 191
-    ∷ 184 / 192
-    ∷ 185 / 193
-    ∷ 186 / 194
-    ∷ 187 / 195
-    ∷ 188 / 196
-    ∷ 189 / 197
-    ∷ 190 / 198
-    ∷ 222 / 223
-    ∷ 224 / 225
+    165 released_by 166
+    ∷ 169 released_by 170
+    ∷ 183 released_by 191
+    ∷ 184 released_by 192
+    ∷ 185 released_by 193
+    ∷ 186 released_by 194
+    ∷ 187 released_by 195
+    ∷ 188 released_by 196
+    ∷ 189 released_by 197
+    ∷ 190 released_by 198
+    ∷ 222 released_by 223
+    ∷ 224 released_by 225
     ∷ []
 
 -- the family of a getting or a releasing function, 0..11; 12 where f is neither

@@ -7,7 +7,7 @@ use native.Mathlib.Omega.{arith}
 use lib.Dec.{eqb, leb}
 use borrow.Author.Tests.{eqb-true, leb-true}
 use Rattle.words.specs.Lists.{any}
-use Rattle.facts.specs.Table.{Pair, ◌/◌, table, fact_of, is_function, families, family, is_critical}
+use Rattle.facts.specs.Table.{Pair, ◌released_by◌, table, fact_of, is_function, families, family, is_critical}
 use Rattle.facts.specs.Results.{is_buffer_result, is_buffer_place}
 use Rattle.history.specs.Buffers.{critical, pin}
 use Rattle.history.specs.Families.{is_get, is_release}
@@ -44,16 +44,16 @@ families_agree f h =
     )
 
 one_family : Pair → Bool
-one_family (get / release) = eqb (family get) (family release)
+one_family (get released_by release) = eqb (family get) (family release)
 
 all_paired : any (λ x. not (one_family x)) families ≡ false
 unfolding one_family family
 all_paired = refl
 
 -- a get and its release are of one family
-pub paired : (get release : ℕ) → Memᴰ (get / release) families → family get ≡ family release
+pub paired : (get release : ℕ) → Memᴰ (get released_by release) families → family get ≡ family release
 unfolding one_family
-paired get release m = eqb-true _ _ (all_pass one_family families (get / release) all_paired m)
+paired get release m = eqb-true _ _ (all_pass one_family families (get released_by release) all_paired m)
 
 -- an ordinary buffer belongs to no thread
 pub of_no_thread : (t s f b : ℕ) → is_critical (family f) ≡ false → pin t f b ≡ pin s f b

@@ -4,7 +4,7 @@ use mathlib.Core.List.{List, [], ◌∷◌, ◌++◌, map, tail, Memᴰ}
 use Rattle.std.proofs.Math.Option.{some}
 use Rattle.words.specs.Lists.{any, keep, count, joined}
 use Rattle.words.specs.Text.{bytes, line_feed}
-use Rattle.facts.specs.Table.{◌/◌, fact_of, is_function, families, family, is_critical}
+use Rattle.facts.specs.Table.{◌released_by◌, fact_of, is_function, families, family, is_critical}
 use Rattle.facts.specs.Classes.{object, class, string, throwable, no_class}
 use Rattle.facts.specs.Identities.{method, field, wanted_of, suits, writes_field}
 use Rattle.facts.specs.Named.{PushLocalFrame, PopLocalFrame, DeleteGlobalRef, DeleteLocalRef, EnsureLocalCapacity, GetObjectClass, MonitorEnter, MonitorExit, DeleteWeakGlobalRef}
@@ -92,7 +92,7 @@ pub record OnBuffers : Type 0 where
   -- a buffer is a result of the gets and a place of the releases, and of no other function
   pub families_agree : (f : ℕ) → is_function f ≡ true
       → (is_buffer_result (fact_of f).result ≡ any (is_get f) families) × (is_buffer_place (fact_of f).b ≡ any (is_release f) families)
-  pub paired : (get release : ℕ) → Memᴰ (get / release) families → family get ≡ family release
+  pub paired : (get release : ℕ) → Memᴰ (get released_by release) families → family get ≡ family release
   -- the last two are critical and belong to the getting thread; the others belong to no thread
   pub of_its_thread : (t f b : ℕ) → is_critical (family f) ≡ true → pin t f b ≡ critical t (family f) b
   pub of_no_thread : (t s f b : ℕ) → is_critical (family f) ≡ false → pin t f b ≡ pin s f b
