@@ -6,17 +6,20 @@ import pathlib, re
 
 CRATES = pathlib.Path(__file__).resolve().parent.parent / 'crates'
 STATIC = re.findall(r'^(\w+) staticlib:', (CRATES.parent / 'crates.txt').read_text(), re.M)
-FUNCTION = re.compile(r'^\s*pub fn (\w+)', re.M)
+FUNCTION = re.compile(r'^impl(?:<[^>]*>)? (\w+)|^(\s*)pub fn (\w+)', re.M)
 MODULE = re.compile(r'^\s*pub mod (\w+);', re.M)
 PROMISE = re.compile(r'^pub fn (\w+)(\(.*?)^\{$', re.M | re.S)
 EXPORT = re.compile(r'^#\[unsafe\(no_mangle\)\]\npub extern "C" fn (\w+)(\(.*?)^\{\n(.*?)^\}$', re.M | re.S)
 
 
 def functions_of(file, folder, path):
-    """The path, a tuple, of each `pub fn` of the file and of the public modules below it."""
-    text = file.read_text()
-    for name in FUNCTION.findall(text):
-        yield path + (name,)
+    """The path, a tuple, of each `pub fn` of the file, of a type's after the type, and of the public modules below it."""
+    text, owner = file.read_text(), ()
+    for owned_by, indent, name in FUNCTION.findall(text):
+        if owned_by:
+            owner = (owned_by,)
+        else:
+            yield path + (owner if indent else ()) + (name,)
     for name in MODULE.findall(text):
         yield from functions_of(folder / f'{name}.rt', folder / name, path + (name,))
 

@@ -38,14 +38,6 @@ module _ (T : Table) (f a row : ℕ) (b : Bool) (e : b ≡ is_delete f a) where
 
 -- ---- the top frame
 
-module _ (b : List ℕ) (t f : ℕ) where
-  pub other_function : (f ≡ PopLocalFrame → ⊥) → false ≡ (eqb f PopLocalFrame && top_pushed (thread_in b t).frames)
-  other_function h = sym (ap (λ (x : Bool). x && top_pushed (thread_in b t).frames) (ne_eqb f PopLocalFrame h))
-
-  pub its_function : (y : Bool) → f ≡ PopLocalFrame → y ≡ top_pushed (thread_in b t).frames
-      → y ≡ (eqb f PopLocalFrame && top_pushed (thread_in b t).frames)
-  its_function y h e = e ∙ sym (ap (λ (x : Bool). x && top_pushed (thread_in b t).frames) (eq-eqb f PopLocalFrame h))
-
 module _ (T : Table) (b : List ℕ) (t f : ℕ) (y : Bool) (e : y ≡ (eqb f PopLocalFrame && top_pushed (thread_in b t).frames)) where
   pub frame_ended : (T' : Table) (d : ℕ) → y ≡ true → d ≡ length (thread_in b t).frames → T' ≡ ended_all references (from_frame t d) T
       → T' ≡ top_ended T b t f

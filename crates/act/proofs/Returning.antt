@@ -3,7 +3,7 @@ use Prim.Native.Nat.{ℕ, ◌+◌}
 use mathlib.Core.Path.{◌≡◌, refl, sym, ap, ap₂, ◌∙◌}
 use mathlib.Core.Bool.{Bool, true, false, not, ◌&&◌, false≢true}
 use mathlib.Core.List.{List, [], ◌∷◌, map}
-use borrow.Author.Tests.{eq-eqb, ne_eqb}
+use borrow.Author.Tests.{ne_eqb}
 use lib.Dec.{eqb}
 use lib.IntN.{ℤ, pos, negsuc}
 use lib.ListN.{length}
@@ -16,7 +16,6 @@ use Rattle.facts.specs.Named.{PushLocalFrame, EnsureLocalCapacity, MonitorEnter,
 use Rattle.facts.specs.Classes.{class_made}
 use Rattle.facts.specs.declared.Result.{Result}
 use Rattle.facts.specs.Results.{is_buffer_result, is_handle_result, is_local_result}
-use Rattle.facts.specs.declared.Result.TheVariants as Result
 use Rattle.lines.specs.Line.{R, is_zero, above_zero}
 use Rattle.lines.specs.Events.{is_status, gives_status, result_in_line}
 use Rattle.rows.specs.Table.{Table, table, free_row, stored, taken}
@@ -27,7 +26,7 @@ use Rattle.history.specs.Handles.{Alive, local, shared, result_made, makes}
 use Rattle.history.specs.Buffers.{ordinary, critical, pin, gets}
 use Rattle.history.specs.Acceptance.{made_by}
 use Rattle.book.specs.Threads.{thread_in}
-use Rattle.book.specs.Moves.{frame_pushed, capacity_raised, pending_set, monitor_added, monitor_taken, line_counted}
+use Rattle.book.specs.Moves.{capacity_raised, pending_set, line_counted}
 use Rattle.tables.specs.Tables.{Tables, tables, reference_of, pin_row_of, seen_in}
 use Rattle.tables.specs.Acting.{all_taken, pin_owner, status_acted, references_after, pins_after, book_after, classes_after, acted}
 use Rattle.act.specs.Returns.{result_row, made, got, held, status_taken, returned_book, returned}
@@ -77,22 +76,7 @@ module _ (P : Table) (line : ℕ) (k : Result) (t f h row : ℕ) (y : Bool) (e :
 
 -- ---- the book
 
-module _ (b b' : List ℕ) (t f held n : ℕ) where
-  pub frame_more : f ≡ PushLocalFrame → b' ≡ frame_pushed b t n true → b' ≡ status_acted b t f held n
-  frame_more h e = rw (eq-eqb f PushLocalFrame h) e
-
-  pub capacity_more : (f ≡ PushLocalFrame → ⊥) → f ≡ EnsureLocalCapacity → b' ≡ capacity_raised b t (held + n) → b' ≡ status_acted b t f held n
-  capacity_more h1 h e = rw (ne_eqb f PushLocalFrame h1, eq-eqb f EnsureLocalCapacity h) e
-
-  pub monitor_more : (f ≡ PushLocalFrame → ⊥) → (f ≡ EnsureLocalCapacity → ⊥) → f ≡ MonitorEnter → b' ≡ monitor_added b t → b' ≡ status_acted b t f held n
-  monitor_more h1 h2 h e = rw (ne_eqb f PushLocalFrame h1, ne_eqb f EnsureLocalCapacity h2, eq-eqb f MonitorEnter h) e
-
-  pub monitor_fewer : (f ≡ PushLocalFrame → ⊥) → (f ≡ EnsureLocalCapacity → ⊥) → (f ≡ MonitorEnter → ⊥) → f ≡ MonitorExit → b' ≡ monitor_taken b t
-      → b' ≡ status_acted b t f held n
-  monitor_fewer h1 h2 h3 h e =
-      rw (ne_eqb f PushLocalFrame h1, ne_eqb f EnsureLocalCapacity h2, ne_eqb f MonitorEnter h3, eq-eqb f MonitorExit h) e
-
-pub status_idle : (b : List ℕ) (t f held n : ℕ) → (f ≡ PushLocalFrame → ⊥) → (f ≡ EnsureLocalCapacity → ⊥) → (f ≡ MonitorEnter → ⊥) → (f ≡ MonitorExit → ⊥)
+status_idle : (b : List ℕ) (t f held n : ℕ) → (f ≡ PushLocalFrame → ⊥) → (f ≡ EnsureLocalCapacity → ⊥) → (f ≡ MonitorEnter → ⊥) → (f ≡ MonitorExit → ⊥)
     → b ≡ status_acted b t f held n
 status_idle b t f held n h1 h2 h3 h4 =
     rw (ne_eqb f PushLocalFrame h1, ne_eqb f EnsureLocalCapacity h2, ne_eqb f MonitorEnter h3, ne_eqb f MonitorExit h4) refl

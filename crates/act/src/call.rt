@@ -39,11 +39,7 @@ fn delete(rows: &mut [Number], marks: &mut [u64], f: u32, a: Handle, row: usize)
 pub fn pops(book: &[u64], t: u32, f: u32) -> bool
     ensures { result ≡ (eqb f PopLocalFrame && top_pushed (thread_in book.now t).frames) }
 {
-    if f == POP_LOCAL_FRAME {
-        book::top_pushed(book, t)
-    } else {
-        false
-    }
+    f == POP_LOCAL_FRAME && book::top_pushed(book, t)
 }
 
 fn end_top(rows: &mut [Number], marks: &mut [u64], book: &[u64], t: u32, f: u32)

@@ -20,20 +20,18 @@ const NEW_LOCALS: u64 = 16;
 fn take_all(rows: &mut [Number], marks: &mut [u64], line: u32, t: u32, d: u32, hs: &[Handle])
     ensures { table rows.new marks.new ≡ all_taken references (table rows.old marks.old) (locals line t d hs.now) }
 {
-    let mut i = 0;
-    while i < hs.len() {
+    for h in hs {
         rows::references::take(
             rows,
             marks,
             Reference {
                 thread: t as Number,
-                handle: hs[i],
+                handle: *h,
                 frame: d as Number,
                 line: line as Number,
                 class: NO_CLASS as Number,
             },
         );
-        i += 1;
     }
 }
 

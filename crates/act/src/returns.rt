@@ -22,22 +22,17 @@ use words::Handle;
 pub fn row_of(line: u32, kind: Result, t: u32, d: u32, h: Handle, class: u32) -> Reference
     ensures { result ≡ result_row line kind t d h class }
 {
-    if is_local_result(kind) {
-        Reference {
-            thread: t as Number,
-            handle: h,
-            frame: d as Number,
-            line: line as Number,
-            class: class as Number,
-        }
+    let (thread, frame) = if is_local_result(kind) {
+        (t, d)
     } else {
-        Reference {
-            thread: 0,
-            handle: h,
-            frame: 0,
-            line: line as Number,
-            class: class as Number,
-        }
+        (0, 0)
+    };
+    Reference {
+        thread: thread as Number,
+        handle: h,
+        frame: frame as Number,
+        line: line as Number,
+        class: class as Number,
     }
 }
 
@@ -107,20 +102,12 @@ fn ensure_capacity(rows: &[Number], marks: &[u64], book: &mut [u64], t: u32, n: 
 fn succeed(rows: &[Number], marks: &[u64], book: &mut [u64], t: u32, f: u32, n: u32)
     ensures { book.new ≡ status_acted book.old t f (held (table rows.now marks.now) book.old t) n }
 {
-    if f == PUSH_LOCAL_FRAME {
-        book::push_frame(book, t, n as u64, true);
-        return;
-    }
-    if f == ENSURE_LOCAL_CAPACITY {
-        ensure_capacity(rows, marks, book, t, n);
-        return;
-    }
-    if f == MONITOR_ENTER {
-        book::add_monitor(book, t);
-        return;
-    }
-    if f == MONITOR_EXIT {
-        book::take_monitor(book, t);
+    match f {
+        PUSH_LOCAL_FRAME => book::push_frame(book, t, n as u64, true),
+        ENSURE_LOCAL_CAPACITY => ensure_capacity(rows, marks, book, t, n),
+        MONITOR_ENTER => book::add_monitor(book, t),
+        MONITOR_EXIT => book::take_monitor(book, t),
+        _ => {}
     }
 }
 

@@ -3,11 +3,10 @@ use Prim.Native.Nat.{ℕ, suc}
 use mathlib.Core.Path.{◌≡◌, refl, ◌∙◌}
 use mathlib.Core.Bool.{Bool, true, false, not, ◌&&◌, ◌||◌, false≢true}
 use mathlib.Core.List.{List, [], ◌++◌, append-nil}
-use mathlib.Core.Option.{Option, none, some}
-use native.Mathlib.Omega.{arith}
-use borrow.Author.Tests.{ne_eqb, eqb-true, not-true}
-use lib.Dec.{eqb}
+use Rattle.std.specs.Prelude.{Option, None, Some}
+use borrow.Author.Tests.{not-true}
 use lib.IntN.{ℤ}
+use Rattle.std.specs.Option.{is_none}
 use Rattle.words.specs.Lists.{joined}
 use Rattle.lines.specs.Line.{N, R, A, D, Z, above_zero}
 use Rattle.history.specs.Handles.{global_or_weak}
@@ -17,7 +16,7 @@ use Rattle.history.specs.Breaches.{when, is_rule, some_of, place_rule, rule_at, 
 use Rattle.history.specs.Findings.{rules, found, of_line}
 use Rattle.history.specs.declared.Finding.{Finding}
 use Rattle.answers.specs.declared.Judged.{Judged}
-use Rattle.answers.specs.Listed.{rule_number, listed, is_clean}
+use Rattle.answers.specs.Listed.{listed, is_clean}
 
 -- a rule is one of eleven
 pub by_rules : (f g : ℕ → List Finding) → f 1 ≡ g 1 → f 2 ≡ g 2 → f 3 ≡ g 3 → f 4 ≡ g 4 → f 5 ≡ g 5 → f 6 ≡ g 6 → f 7 ≡ g 7 → f 8 ≡ g 8 → f 9 ≡ g 9 → f 10 ≡ g 10 → f 11 ≡ g 11
@@ -25,33 +24,13 @@ pub by_rules : (f g : ℕ → List Finding) → f 1 ≡ g 1 → f 2 ≡ g 2 → 
 by_rules f g p1 p2 p3 p4 p5 p6 p7 p8 p9 p10 p11 i =
     p1 i ++ (p2 i ++ (p3 i ++ (p4 i ++ (p5 i ++ (p6 i ++ (p7 i ++ (p8 i ++ (p9 i ++ (p10 i ++ (p11 i ++ []))))))))))
 
--- a rule and its number
-is_rule_number : (k : ℕ) (o : Option ℕ) → eqb (suc k) (rule_number o) ≡ is_rule (suc k) o
-is_rule_number k none = ne_eqb (suc k) 0 (λ q. absurd (omega (arith, q)))
-is_rule_number k (some r) = refl
-
--- the findings of one rule, where the whole line and the three places are as judged
-module _ (line : ℕ) (k : ℕ) (w : Option ℕ) (o1 o2 o3 : Option ℕ) (a b c : ℕ) where
-  abbrev pub as_seen : List Finding
-  as_seen =
-      found line (suc k) 0 w
-      ++ (found line (suc k) 1 (when (is_rule (suc k) o1) a)
-      ++ (found line (suc k) 2 (when (is_rule (suc k) o2) b)
-      ++ (found line (suc k) 3 (when (is_rule (suc k) o3) c) ++ [])))
-
-  abbrev pub as_judged : List Finding
-  as_judged =
-      found line (suc k) 0 w
-      ++ (found line (suc k) 1 (when (eqb (suc k) (rule_number o1)) a)
-      ++ (found line (suc k) 2 (when (eqb (suc k) (rule_number o2)) b)
-      ++ (found line (suc k) 3 (when (eqb (suc k) (rule_number o3)) c) ++ [])))
-
-  pub same_of_rule : as_judged ≡ as_seen
-  same_of_rule i =
-      found line (suc k) 0 w
-      ++ (found line (suc k) 1 (when (is_rule_number k o1 i) a)
-      ++ (found line (suc k) 2 (when (is_rule_number k o2 i) b)
-      ++ (found line (suc k) 3 (when (is_rule_number k o3 i) c) ++ [])))
+-- the findings of one rule, where the whole line and the three places are as seen
+abbrev pub as_seen : ℕ → ℕ → Option ℕ → Option ℕ → Option ℕ → Option ℕ → ℕ → ℕ → ℕ → List Finding
+as_seen line k w o1 o2 o3 a b c =
+    found line (suc k) 0 w
+    ++ (found line (suc k) 1 (when (is_rule (suc k) o1) a)
+    ++ (found line (suc k) 2 (when (is_rule (suc k) o2) b)
+    ++ (found line (suc k) 3 (when (is_rule (suc k) o3) c) ++ [])))
 
 pub return_listed : (line t f p : ℕ) (r : ℤ) (v : Seen) → of_line line (R t f r p) v ≡ found line 11 0 (when (overflows t f (above_zero r) v) (above_zero r))
 unfolding of_line breach rule_at line_rule place_rule
@@ -103,20 +82,24 @@ both_false : (a b : Bool) → not (a || b) ≡ true → (not a ≡ true) × (b �
 both_false true b h = absurd (false≢true h)
 both_false false b h = (refl, not-true b h)
 
+none_is : (o : Option ℕ) → is_none o ≡ true → o ≡ None
+none_is None h = refl
+none_is (Some r) h = absurd (false≢true h)
+
 pub clean_listed : (x : Judged) → is_clean x ≡ true → listed x ≡ []
 unfolding listed
 clean_listed x h =
-    let c3 = both_true (not (x.foreign || x.pending || x.critical || x.unheld || x.unpushed) && eqb x.rule1 0 && eqb x.rule2 0) (eqb x.rule3 0) h in
-    let c2 = both_true (not (x.foreign || x.pending || x.critical || x.unheld || x.unpushed) && eqb x.rule1 0) (eqb x.rule2 0) c3.0 in
-    let c1 = both_true (not (x.foreign || x.pending || x.critical || x.unheld || x.unpushed)) (eqb x.rule1 0) c2.0 in
+    let c3 = both_true (not (x.foreign || x.pending || x.critical || x.unheld || x.unpushed) && is_none x.rule1 && is_none x.rule2) (is_none x.rule3) h in
+    let c2 = both_true (not (x.foreign || x.pending || x.critical || x.unheld || x.unpushed) && is_none x.rule1) (is_none x.rule2) c3.0 in
+    let c1 = both_true (not (x.foreign || x.pending || x.critical || x.unheld || x.unpushed)) (is_none x.rule1) c2.0 in
     let w5 = both_false (x.foreign || x.pending || x.critical || x.unheld) x.unpushed c1.0 in
     let w4 = both_false (x.foreign || x.pending || x.critical) x.unheld w5.0 in
     let w3 = both_false (x.foreign || x.pending) x.critical w4.0 in
     let w2 = both_false x.foreign x.pending w3.0 in
     let w1 = not-true x.foreign w2.0 in
-    let p1 = eqb-true x.rule1 0 c1.1 in
-    let p2 = eqb-true x.rule2 0 c2.1 in
-    let p3 = eqb-true x.rule3 0 c3.1 in
+    let p1 = none_is x.rule1 c1.1 in
+    let p2 = none_is x.rule2 c2.1 in
+    let p3 = none_is x.rule3 c3.1 in
     λ i.
     listed
     (record {

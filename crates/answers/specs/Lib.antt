@@ -1,4 +1,4 @@
 -- believed
 pub mod Answer
--- computed: answers::findings, weigh: call_found
+-- computed: answers::Judged::findings, weigh: call_found
 pub mod Listed

@@ -31,22 +31,8 @@ rest_more t h =
     rw (e, f, g)
 
 -- ---- a test
-or_false : (x : Bool) → (x || false) ≡ x
-or_false true = refl
-or_false false = refl
-
-or_assoc : (x y z : Bool) → ((x || y) || z) ≡ (x || (y || z))
-or_assoc true y z = refl
-or_assoc false y z = refl
-
 pub any_first : (p : ℕ → Bool) (r : Bool) → (r || any p all_threads) ≡ (r || any p (rest 1))
 any_first p r = rw rest_all
-
-pub any_next : (p : ℕ → Bool) (t : ℕ) (r x : Bool) → t ≤ threads → x ≡ p t → (r || any p (rest t)) ≡ ((r || x) || any p (rest (t + 1)))
-any_next p t r x h e = rw (rest_more t h, e) (sym (or_assoc r (p t) (any p (rest (t + 1)))))
-
-pub any_last : (p : ℕ → Bool) (t : ℕ) (r : Bool) → threads < t → r ≡ (r || any p (rest t))
-any_last p t r h = rw (rest_none t h) (sym (or_false r))
 
 -- by each thread
 pub or_left : (x y : Bool) → (x || y) ≡ false → x ≡ false
@@ -83,15 +69,6 @@ pub any_each : (p : ℕ → Bool) (t : ℕ) → any p all_threads ≡ false → 
 any_each p t h a b = each_from p 1 threads t h a (omega arith)
 
 -- ---- a sum
-pub sum_first : (f : ℕ → ℕ) → sum f all_threads ≡ 0 + sum f (rest 1)
-sum_first f = rw rest_all (omega arith)
-
-pub sum_next : (f : ℕ → ℕ) (t n x : ℕ) → t ≤ threads → x ≡ f t → n + sum f (rest t) ≡ (n + x) + sum f (rest (t + 1))
-sum_next f t n x h e = rw (rest_more t h, e) (omega arith)
-
-pub sum_last : (f : ℕ → ℕ) (t n : ℕ) → threads < t → n ≡ n + sum f (rest t)
-sum_last f t n h = rw (rest_none t h) (omega arith)
-
 sums_from : (f g : ℕ → ℕ) (t n : ℕ) → ((s : ℕ) → t ≤ s → s < t + n → f s ≡ g s) → sum f (from t n) ≡ sum g (from t n)
 sums_from f g t zero h = refl
 sums_from f g t (suc n) h = ap₂ (λ x y. x + y) (h t (omega arith) (omega arith)) (sums_from f g (suc t) n (λ s a b. h s (omega arith) (omega arith)))

@@ -9,7 +9,8 @@ use Rattle.history.specs.Acceptance.{deepest}
 use Rattle.history.specs.Replies.{most_lines}
 use Rattle.book.specs.Layout.{width, lines_at, closed_at, env_at, pending_at, monitors_at, frames_at, capacity_at, items_at, natives_at, cell, Write, into, wrote, Stands}
 use Rattle.book.specs.Threads.{Row, Thread, thread_of, thread_in, frame_is, top_capacity, no_function, attached_function, item_bound, item_is, items_of, items_in, top_is, lines_in, closed_in}
-use Rattle.book.specs.declared.Top.{Top}
+use Rattle.std.specs.Prelude.{Option, None, Some}
+use Rattle.book.specs.declared.Item.{Item as Open}
 use Rattle.book.specs.Moves.{push_frame, frame_pushed, leave_native, native_left, frames_ended, pop_frame, frame_popped, raise_capacity, capacity_raised, push_item, item_pushed, pop_item, item_popped, env_set, pending_set, monitor_added, monitor_taken, monitors_dropped}
 use Rattle.book.specs.Unfit.{overdone_in}
 use Rattle.book.specs.Changes.{with_frame, cut_to, with_raised, with_pending, with_monitors, with_env, pushed_item, stay, Kept, Changes}
@@ -218,24 +219,24 @@ pushed_call f n z a b =
     rw (ne_eqb f no_function (λ q. absurd (omega arith)), ne_eqb f attached_function (λ q. absurd (omega arith)), x, y)
 
 -- ---- the top item has one form in the code
-pub one_top : (x y : Top) → top_is x ≡ top_is y → x ≡ y
+pub one_top : (x y : Option Open) → top_is x ≡ top_is y → x ≡ y
 unfolding top_is
-one_top Top.Nothing Top.Nothing e = refl
-one_top Top.Nothing Top.Native e = cc
-one_top Top.Nothing Top.Attached e = cc
-one_top Top.Nothing (Top.Call g m) e = cc
-one_top Top.Native Top.Nothing e = cc
-one_top Top.Native Top.Native e = refl
-one_top Top.Native Top.Attached e = cc
-one_top Top.Native (Top.Call g m) e = cc
-one_top Top.Attached Top.Nothing e = cc
-one_top Top.Attached Top.Native e = cc
-one_top Top.Attached Top.Attached e = refl
-one_top Top.Attached (Top.Call g m) e = cc
-one_top (Top.Call f n) Top.Nothing e = cc
-one_top (Top.Call f n) Top.Native e = cc
-one_top (Top.Call f n) Top.Attached e = cc
-one_top (Top.Call f n) (Top.Call g m) e = cc
+one_top None None e = refl
+one_top None (Some Open.Native) e = cc
+one_top None (Some Open.Attached) e = cc
+one_top None (Some (Open.Call g m)) e = cc
+one_top (Some Open.Native) None e = cc
+one_top (Some Open.Native) (Some Open.Native) e = refl
+one_top (Some Open.Native) (Some Open.Attached) e = cc
+one_top (Some Open.Native) (Some (Open.Call g m)) e = cc
+one_top (Some Open.Attached) None e = cc
+one_top (Some Open.Attached) (Some Open.Native) e = cc
+one_top (Some Open.Attached) (Some Open.Attached) e = refl
+one_top (Some Open.Attached) (Some (Open.Call g m)) e = cc
+one_top (Some (Open.Call f n)) None e = cc
+one_top (Some (Open.Call f n)) (Some Open.Native) e = cc
+one_top (Some (Open.Call f n)) (Some Open.Attached) e = cc
+one_top (Some (Open.Call f n)) (Some (Open.Call g m)) e = cc
 
 -- ---- one move after another
 pub and_then : {b d e : List ℕ} {t : ℕ} {f g : Thread → Thread} {p q : List Item → List Item} → Changes b d t f p → Changes d e t g q

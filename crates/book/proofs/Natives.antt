@@ -1,7 +1,8 @@
 -- How many open items are natives, by their marks. Assumes nothing.
-use Rattle.std.proofs.Common.{◌≡◌, ℕ, zero, suc, ◌+◌, ◌-◌, ◌*◌, ◌/◌, ◌%◌, ◌<◌, ◌≤◌, min, Bool, true, false, ◌&&◌, eqb, List, ◌∷◌, sym, refl, ap, ◌∙◌, arith}
+use Rattle.std.proofs.Common.{◌≡◌, ℕ, zero, suc, ◌+◌, ◌-◌, ◌*◌, ◌/◌, ◌%◌, ◌<◌, ◌≤◌, min, Bool, true, false, ◌&&◌, eqb, List, ◌∷◌, length, cond, sym, refl, ap, ◌∙◌, arith}
 use native.Mathlib.Decide.{ℕ_discrete}
 use lib.Bits.{bit_and, bit_or}
+use Rattle.std.specs.List.{range_with_len, filter}
 use Rattle.words.specs.Choice.{if_true◌then◌else◌, one}
 use Rattle.history.specs.Items.{Item, in_native, attached}
 use Rattle.history.specs.Acceptance.{deepest}
@@ -14,6 +15,22 @@ use Rattle.book.specs.Threads.{Row, stack, opened, attached_function, item_is, i
 use Rattle.book.specs.Turns.{ByTurns}
 use Rattle.book.proofs.AllThreads.{or_left, or_right}
 use Rattle.book.proofs.Items.{item_in}
+
+-- ---- how many pass, one after another
+passing_from : (p q : ℕ → Bool) (a n : ℕ) → ((k : ℕ) → p (a + k) ≡ q k) → length (filter p (range_with_len a n)) ≡ how_many q n
+unfolding how_many
+passing_from p q a zero h = refl
+passing_from p q a (suc n) h =
+    let z : a ≡ a + 0 = omega arith in
+    go (p a) (ap p z ∙ h 0) (passing_from p (λ k. q (suc k)) (a + 1) n (λ k. let e : a + 1 + k ≡ a + suc k = omega arith in ap p e ∙ h (suc k)))
+  where
+    go : (b : Bool) → b ≡ q 0 → length (filter p (range_with_len (a + 1) n)) ≡ how_many (λ k. q (suc k)) n
+        → length (cond b (a ∷ filter p (range_with_len (a + 1) n)) (filter p (range_with_len (a + 1) n))) ≡ one (q 0) + how_many (λ k. q (suc k)) n
+    go true e i = omega (arith, ap one e, i)
+    go false e i = omega (arith, ap one e, i)
+
+pub passing : (p : ℕ → Bool) (n : ℕ) → length (filter p (range_with_len 0 n)) ≡ how_many p n
+passing p n = passing_from p p 0 n (λ k. let z : 0 + k ≡ k = omega arith in ap p z)
 
 -- ---- a count of marks
 native_more : (p : Bool) (f n : ℕ) (is : List Item) → natives (item_is p f n ∷ is) ≡ natives is + one p

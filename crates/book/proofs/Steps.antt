@@ -1,27 +1,27 @@
 -- From what the code did to the words of the definitions: one law for each return. Assumes nothing.
-use Rattle.std.proofs.Common.{◌≡◌, ℕ, zero, suc, pred, ◌+◌, ◌-◌, ◌*◌, ◌/◌, ◌%◌, ◌^◌, ◌<◌, ◌≤◌, min, max, Bool, true, false, not, ◌&&◌, ◌||◌, eqb, ltb, List, [], ◌∷◌, ◌++◌, length, get_or, drop, set, replicate, sym, refl, ap, ◌∙◌, ap₂, append-nil, le_of_suc-le-suc, not-suc-le-zero, arith, ltb-false, le-ltb, lt-ltb, ne_eqb, eqb-true}
-use mathlib.Core.Option.{Option, some}
-use borrow.Author.Fill.{fill_none, fill_more}
+use Rattle.std.proofs.Common.{◌≡◌, ℕ, zero, suc, pred, ◌+◌, ◌-◌, ◌*◌, ◌/◌, ◌%◌, ◌^◌, ◌<◌, ◌≤◌, min, max, Bool, true, false, not, ◌||◌, eqb, ltb, List, [], ◌∷◌, length, get_or, set, sym, refl, ap, ◌∙◌, ap₂, le_of_suc-le-suc, not-suc-le-zero, arith, ltb-false, le-ltb, lt-ltb, ne_eqb, eqb-true}
+use Rattle.std.specs.Prelude.{Option, None, Some}
+use Rattle.std.specs.Int.{from_bool}
+use Rattle.std.specs.List.{range_with_len, sum_by}
 use borrow.Author.Tests.{not-true, not-false}
-use lib.ListN.{get_or-eq_default}
-use lib.Seq.{drop-length}
 use lib.Bits.{bit_and, bit_or}
 use Rattle.words.specs.Choice.{one}
 use Rattle.words.specs.Lists.{any, sum}
 use Rattle.lines.specs.Line.{threads}
 use Rattle.history.specs.Items.{Item, top_of}
 use Rattle.history.specs.Frames.{Frame, entered, pushed, top_pushed, without_native, without_pushed}
+use Rattle.history.specs.Thread.{all_threads}
 use Rattle.history.specs.Acceptance.{deepest}
 use Rattle.history.specs.Replies.{most_lines}
 use Rattle.rows.specs.Scan.{how_many}
 use Rattle.rows.specs.Marks.{bit}
 use Rattle.book.specs.Layout.{width, whole, lines_at, closed_at, env_at, pending_at, monitors_at, frames_at, capacity_at, pushed_at, items_at, natives_at, function_at, asked_at, cell, put, wrote}
-use Rattle.book.specs.Threads.{stack, depth, frame_is, is_pushed, thread_of, thread_in, top_capacity, opened, attached_function, marked_function, item_bound, item_is, items_of, items_in, natives, top_is, lines_in, closed_in, env_elsewhere, all_monitors}
-use Rattle.book.specs.declared.Top.{Top}
-use Rattle.book.specs.Moves.{push_frame, frame_pushed, leave_native, native_left, frames_ended, pop_frame, frame_popped, raise_capacity, capacity_raised, with_mark, push_item, item_pushed, pop_item, item_popped, env_set, pending_set, monitor_added, monitor_taken, monitors_dropped, line_counted, closed_set, cleared}
+use Rattle.book.specs.Threads.{stack, depth, frame_is, is_pushed, thread_of, thread_in, top_capacity, opened, attached_function, marked_function, item_bound, item_is, items_of, items_in, natives, top_is, lines_in, closed_in, all_monitors}
+use Rattle.book.specs.declared.Item.{Item as Open}
+use Rattle.book.specs.Moves.{push_frame, frame_pushed, leave_native, native_left, frames_ended, pop_frame, frame_popped, raise_capacity, capacity_raised, with_mark, push_item, item_pushed, pop_item, item_popped, env_set, pending_set, monitor_added, monitor_taken, monitors_dropped, line_counted, closed_set}
 use Rattle.book.specs.Turns.{ByTurns}
 use Rattle.book.specs.Unfit.{overdone, overdone_in, unfit}
-use Rattle.book.proofs.AllThreads.{rest, rest_none, rest_more, or_left, or_right, any_first, any_next, any_last, sum_first, sum_next, sum_last}
+use Rattle.book.proofs.AllThreads.{rest, rest_none, rest_more, or_left, or_right, any_first}
 use Rattle.book.proofs.Stacks.{length_stack}
 use Rattle.book.proofs.Frames.{frame_in, length_frames}
 use Rattle.book.proofs.Items.{item_in, same_item, length_items, length_tail}
@@ -29,10 +29,6 @@ use Rattle.book.proofs.Fitness.{not_overdone}
 use Rattle.book.proofs.Natives.{natives_are, all_calls, in_turn, turns_left, turns_right, half_of, half_at_most}
 
 -- ---- a number of the book
-pub number_past : (b : List ℕ) (t j : ℕ) → length b ≤ t * width + j → 0 ≡ cell b t j
-unfolding cell
-number_past b t j h = sym (get_or-eq_default b 0 h)
-
 set_past : (l : List ℕ) (i v : ℕ) → length l ≤ i → l ≡ set l i v
 set_past [] i v h = refl
 set_past (x ∷ l) zero v h = absurd (not-suc-le-zero h)
@@ -64,26 +60,27 @@ pub pushed_is : (b : List ℕ) (t i v : ℕ) → v ≡ cell b t (pushed_at i) �
 unfolding is_pushed
 pushed_is b t i v e = rw e
 
-pub capacity_none : (b : List ℕ) (t d : ℕ) → d ≡ length (thread_in b t).frames → d ≡ 0 → 0 ≡ top_capacity (thread_in b t).capacities
-capacity_none b t d e z = rw (capacities_stand b t d e, z)
+pub capacity_none : (b : List ℕ) (t d : ℕ) → d ≡ length (thread_in b t).frames → (1 ≤ d → ⊥) → 0 ≡ top_capacity (thread_in b t).capacities
+capacity_none b t d e n = let z : d ≡ 0 = omega (arith, n) in rw (capacities_stand b t d e, z)
 
-pub capacity_some : (b : List ℕ) (t d r : ℕ) → d ≡ length (thread_in b t).frames → (d ≡ 0 → ⊥) → r ≡ cell b t (capacity_at (d - 1))
+pub capacity_some : (b : List ℕ) (t d top r : ℕ) → d ≡ length (thread_in b t).frames → (1 ≤ d) × (top ≡ d - 1) → r ≡ cell b t (capacity_at top)
     → r ≡ top_capacity (thread_in b t).capacities
-capacity_some b t zero r e z p = absurd (z refl)
-capacity_some b t (suc d) r e z p = let n : suc d - 1 ≡ d = omega arith in rw (capacities_stand b t (suc d) e) (p ∙ ap (λ (i : ℕ). cell b t (capacity_at i)) n)
+capacity_some b t zero top r e s p = absurd (omega (arith, s.0))
+capacity_some b t (suc d) top r e s p =
+    let n : top ≡ d = omega (arith, s.1) in rw (capacities_stand b t (suc d) e) (p ∙ ap (λ (i : ℕ). cell b t (capacity_at i)) n)
 
 is_top : (p : Bool) (fs : List Frame) → p ≡ top_pushed (frame_is p ∷ fs)
 is_top true fs = refl
 is_top false fs = refl
 
-pub pushed_none : (b : List ℕ) (t d : ℕ) → d ≡ length (thread_in b t).frames → d ≡ 0 → false ≡ top_pushed (thread_in b t).frames
-pushed_none b t d e z = rw (frames_stand b t d e, z)
+pub pushed_none : (b : List ℕ) (t d : ℕ) → d ≡ length (thread_in b t).frames → (1 ≤ d → ⊥) → false ≡ top_pushed (thread_in b t).frames
+pushed_none b t d e n = let z : d ≡ 0 = omega (arith, n) in rw (frames_stand b t d e, z)
 
-pub pushed_some : (b : List ℕ) (t d : ℕ) (r : Bool) → d ≡ length (thread_in b t).frames → (d ≡ 0 → ⊥) → r ≡ is_pushed (cell b t) (d - 1)
+pub pushed_some : (b : List ℕ) (t d top : ℕ) (r : Bool) → d ≡ length (thread_in b t).frames → (1 ≤ d) × (top ≡ d - 1) → r ≡ is_pushed (cell b t) top
     → r ≡ top_pushed (thread_in b t).frames
-pushed_some b t zero r e z p = absurd (z refl)
-pushed_some b t (suc d) r e z p =
-    let n : suc d - 1 ≡ d = omega arith in
+pushed_some b t zero top r e s p = absurd (omega (arith, s.0))
+pushed_some b t (suc d) top r e s p =
+    let n : top ≡ d = omega (arith, s.1) in
     rw (frames_stand b t (suc d) e) (p ∙ ap (is_pushed (cell b t)) n ∙ is_top (is_pushed (cell b t) d) (stack (frame_in (cell b t)) d))
 
 -- what X leaves of the lowest d frames
@@ -114,14 +111,18 @@ unfolding left_of
 left_none b t zero i h = sym i
 left_none b t (suc d) i h = absurd (omega arith)
 
+pub one_is : (p : Bool) → from_bool p ≡ one p
+one_is true = refl
+one_is false = refl
+
 pub push_full : (b : List ℕ) (t n d : ℕ) (p : Bool) → d ≡ length (thread_in b t).frames → deepest ≤ d → b ≡ frame_pushed b t n p
 unfolding frame_pushed push_frame wrote
 push_full b t n d p e h = rw (le-ltb (length (thread_in b t).frames) deepest (omega arith))
 
-pub push_room : (b b₁ b₂ b₃ : List ℕ) (t n d m : ℕ) (p : Bool) → d ≡ length (thread_in b t).frames → d < deepest → m ≡ one p → b₁ ≡ put b t (capacity_at d) n
+pub push_room : (b b₁ b₂ b₃ : List ℕ) (t n d m : ℕ) (p : Bool) → d ≡ length (thread_in b t).frames → d < deepest → m ≡ from_bool p → b₁ ≡ put b t (capacity_at d) n
     → b₂ ≡ put b₁ t (pushed_at d) m → b₃ ≡ put b₂ t frames_at (d + 1) → b₃ ≡ frame_pushed b t n p
 unfolding frame_pushed push_frame wrote
-push_room b b₁ b₂ b₃ t n d m p e h o x y z = rw (lt-ltb (length (thread_in b t).frames) deepest (omega arith), ← e, ← o) (cc)
+push_room b b₁ b₂ b₃ t n d m p e h o x y z = rw (lt-ltb (length (thread_in b t).frames) deepest (omega arith), ← e, ← (o ∙ one_is p)) (cc)
 
 pub leave_all : (b b₁ : List ℕ) (t d : ℕ) → d ≡ length (without_native (thread_in b t).frames) → b₁ ≡ put b t frames_at d → b₁ ≡ native_left b t
 unfolding native_left leave_native wrote
@@ -136,19 +137,19 @@ length_popped [] = omega arith
 length_popped (entered ∷ fs) = omega arith
 length_popped (pushed ∷ fs) = omega arith
 
-pub pop_top : (b b₁ : List ℕ) (t d m v : ℕ) (r : Bool) → d ≡ length (thread_in b t).frames → r ≡ top_pushed (thread_in b t).frames → m ≡ one r → v ≡ d - m
+pub pop_top : (b b₁ : List ℕ) (t d m v : ℕ) (r : Bool) → d ≡ length (thread_in b t).frames → r ≡ top_pushed (thread_in b t).frames → m ≡ from_bool r → v ≡ d - m
     → b₁ ≡ put b t frames_at v → b₁ ≡ frame_popped b t
 unfolding frame_popped pop_frame wrote
-pop_top b b₁ t d m v r e p o g x = rw (length_popped (thread_in b t).frames, ← e, ← p, ← o, ← g) x
+pop_top b b₁ t d m v r e p o g x = rw (length_popped (thread_in b t).frames, ← e, ← p, ← (o ∙ one_is r), ← g) x
 
-pub raise_none : (b : List ℕ) (t k d : ℕ) → d ≡ length (thread_in b t).frames → d ≡ 0 → b ≡ capacity_raised b t k
+pub raise_none : (b : List ℕ) (t k d : ℕ) → d ≡ length (thread_in b t).frames → (1 ≤ d → ⊥) → b ≡ capacity_raised b t k
 unfolding capacity_raised raise_capacity wrote
-raise_none b t k d e z = rw (le-ltb 0 (length (thread_in b t).frames) (omega arith))
+raise_none b t k d e n = let z : d ≡ 0 = omega (arith, n) in rw (le-ltb 0 (length (thread_in b t).frames) (omega arith))
 
-pub raise_some : (b b₁ : List ℕ) (t k d c m : ℕ) → d ≡ length (thread_in b t).frames → (d ≡ 0 → ⊥) → c ≡ top_capacity (thread_in b t).capacities → m ≡ max c k
-    → b₁ ≡ put b t (capacity_at (d - 1)) m → b₁ ≡ capacity_raised b t k
+pub raise_some : (b b₁ : List ℕ) (t k d top c m : ℕ) → d ≡ length (thread_in b t).frames → (1 ≤ d) × (top ≡ d - 1) → c ≡ top_capacity (thread_in b t).capacities → m ≡ max c k
+    → b₁ ≡ put b t (capacity_at top) m → b₁ ≡ capacity_raised b t k
 unfolding capacity_raised raise_capacity wrote
-raise_some b b₁ t k d c m e z p q x = rw (lt-ltb 0 (length (thread_in b t).frames) (omega arith), ← e, ← p, ← q) x
+raise_some b b₁ t k d top c m e s p q x = rw (lt-ltb 0 (length (thread_in b t).frames) (omega (arith, s.0)), ← e, ← (s.1), ← p, ← q) x
 
 -- ---- open items
 pub items_are : (b : List ℕ) (t k d : ℕ) → k ≡ cell b t items_at → d ≡ min k deepest → d ≡ length (items_in b t)
@@ -159,29 +160,29 @@ items_stand : (b : List ℕ) (t d : ℕ) → d ≡ length (items_in b t) → ite
 unfolding items_in items_of
 items_stand b t d e = ap (stack (item_in (cell b t))) (sym (e ∙ unfold items_in items_of in length_items (cell b t)))
 
-pub item_none : (b : List ℕ) (t d : ℕ) → d ≡ length (items_in b t) → d ≡ 0 → top_is Top.Nothing ≡ top_of (items_in b t)
+pub item_none : (b : List ℕ) (t d : ℕ) → d ≡ length (items_in b t) → (1 ≤ d → ⊥) → top_is None ≡ top_of (items_in b t)
 unfolding top_is
-item_none b t d e z = rw (items_stand b t d e, z)
+item_none b t d e n = let z : d ≡ 0 = omega (arith, n) in rw (items_stand b t d e, z)
 
-pub item_some : (b : List ℕ) (t d w f n : ℕ) (p : Bool) (r : Top) → d ≡ length (items_in b t) → (d ≡ 0 → ⊥) → w ≡ cell b t natives_at → p ≡ bit w (d - 1)
-    → f ≡ cell b t (function_at (d - 1)) → n ≡ cell b t (asked_at (d - 1)) → top_is r ≡ some (item_is p f n) → top_is r ≡ top_of (items_in b t)
-item_some b t zero w f n p r e z m o x y i = absurd (z refl)
-item_some b t (suc d) w f n p r e z m o x y i =
-    let k : suc d - 1 ≡ d = omega arith in
+pub item_some : (b : List ℕ) (t d top w f n : ℕ) (p : Bool) (r : Open) → d ≡ length (items_in b t) → (1 ≤ d) × (top ≡ d - 1) → w ≡ cell b t natives_at → p ≡ bit w top
+    → f ≡ cell b t (function_at top) → n ≡ cell b t (asked_at top) → top_is (Some r) ≡ Some (item_is p f n) → top_is (Some r) ≡ top_of (items_in b t)
+item_some b t zero top w f n p r e s m o x y i = absurd (omega (arith, s.0))
+item_some b t (suc d) top w f n p r e s m o x y i =
+    let k : top ≡ d = omega (arith, s.1) in
     rw (items_stand b t (suc d) e)
-    (i ∙ ap {B = Option Item} (λ x. some x)
+    (i ∙ ap {B = Option Item} (λ x. Some x)
     (same_item (o ∙ ap₂ bit m k) (x ∙ ap (λ (j : ℕ). cell b t (function_at j)) k) (y ∙ ap (λ (j : ℕ). cell b t (asked_at j)) k)))
 
 -- an item by its mark and its function
-pub item_attached : (f n : ℕ) (p : Bool) → p ≡ true → f ≡ attached_function → top_is Top.Attached ≡ some (item_is p f n)
+pub item_attached : (f n : ℕ) (p : Bool) → p ≡ true → f ≡ attached_function → top_is (Some Open.Attached) ≡ Some (item_is p f n)
 unfolding top_is item_is
 item_attached f n p m e = rw (m, e)
 
-pub item_native : (f n : ℕ) (p : Bool) → p ≡ true → (f ≡ attached_function → ⊥) → top_is Top.Native ≡ some (item_is p f n)
+pub item_native : (f n : ℕ) (p : Bool) → p ≡ true → (f ≡ attached_function → ⊥) → top_is (Some Open.Native) ≡ Some (item_is p f n)
 unfolding top_is item_is
 item_native f n p m d = rw (m, ne_eqb f attached_function d)
 
-pub item_call : (f n g m : ℕ) (p : Bool) → p ≡ false → g ≡ f % item_bound → m ≡ n % item_bound → top_is (Top.Call g m) ≡ some (item_is p f n)
+pub item_call : (f n g m : ℕ) (p : Bool) → p ≡ false → g ≡ f % item_bound → m ≡ n % item_bound → top_is (Some (Open.Call g m)) ≡ Some (item_is p f n)
 unfolding top_is item_is
 item_call f n g m p c x y = rw (c, x, y)
 
@@ -223,40 +224,19 @@ pub all_dropped : (b b₁ : List ℕ) (t : ℕ) → b₁ ≡ put b t monitors_at
 unfolding monitors_dropped wrote
 all_dropped b b₁ t x = x
 
--- another thread's env, looked for from thread s on
-unfoldable pub elsewhere_from : List ℕ → ℕ → ℕ → ℕ → Bool
-elsewhere_from b t e s = any (λ (s : ℕ). not (eqb s t) && eqb (thread_in b s).env e) (rest s)
+-- monitors of all threads, added up from the first
+pub added_up : (f : ℕ → ℕ) → sum_by f (range_with_len 1 16) ≡ sum f all_threads
+added_up f = omega arith
 
-pub elsewhere_first : (b : List ℕ) (t e : ℕ) → env_elsewhere b t e ≡ (false || elsewhere_from b t e 1)
-unfolding env_elsewhere elsewhere_from
-elsewhere_first b t e = any_first (λ (s : ℕ). not (eqb s t) && eqb (thread_in b s).env e) false
+pub monitors_added : (b : List ℕ) (r : ℕ) → r ≡ sum_by (λ (t : ℕ). min (thread_in b t).monitors most_lines) (range_with_len 1 16) → r ≡ all_monitors b
+unfolding all_monitors
+monitors_added b r e = e ∙ added_up (λ (t : ℕ). min (thread_in b t).monitors most_lines)
 
-pub elsewhere_next : (b : List ℕ) (t e s v : ℕ) (r : Bool) → env_elsewhere b t e ≡ (r || elsewhere_from b t e s) → s ≤ threads → v ≡ (thread_in b s).env
-    → env_elsewhere b t e ≡ ((r || (not (eqb s t) && eqb v e)) || elsewhere_from b t e (s + 1))
-unfolding elsewhere_from
-elsewhere_next b t e s v r i h p =
-    i ∙ any_next (λ (s : ℕ). not (eqb s t) && eqb (thread_in b s).env e) s r (not (eqb s t) && eqb v e) h (rw p)
+added_few : (f : ℕ → ℕ) → ((t : ℕ) → f t ≤ most_lines) → sum_by f (range_with_len 1 16) < 2 ^ 64
+added_few f h = omega (arith, h 1, h 2, h 3, h 4, h 5, h 6, h 7, h 8, h 9, h 10, h 11, h 12, h 13, h 14, h 15, h 16)
 
-pub elsewhere_last : (b : List ℕ) (t e s : ℕ) (r : Bool) → env_elsewhere b t e ≡ (r || elsewhere_from b t e s) → threads < s → r ≡ env_elsewhere b t e
-unfolding elsewhere_from
-elsewhere_last b t e s r i h = any_last (λ (s : ℕ). not (eqb s t) && eqb (thread_in b s).env e) s r h ∙ sym i
-
--- monitors, from thread t on
-unfoldable pub monitors_from : List ℕ → ℕ → ℕ
-monitors_from b t = sum (λ (s : ℕ). min (thread_in b s).monitors most_lines) (rest t)
-
-pub monitors_first : (b : List ℕ) → all_monitors b ≡ 0 + monitors_from b 1
-unfolding all_monitors monitors_from
-monitors_first b = sum_first (λ (s : ℕ). min (thread_in b s).monitors most_lines)
-
-pub monitors_next : (b : List ℕ) (t n m v : ℕ) → all_monitors b ≡ n + monitors_from b t → t ≤ threads → m ≡ (thread_in b t).monitors → v ≡ min m most_lines
-    → all_monitors b ≡ (n + v) + monitors_from b (t + 1)
-unfolding monitors_from
-monitors_next b t n m v i h p q = i ∙ sum_next (λ (s : ℕ). min (thread_in b s).monitors most_lines) t n v h (rw (q, p))
-
-pub monitors_last : (b : List ℕ) (t n : ℕ) → all_monitors b ≡ n + monitors_from b t → threads < t → n ≡ all_monitors b
-unfolding monitors_from
-monitors_last b t n i h = sum_last (λ (s : ℕ). min (thread_in b s).monitors most_lines) t n h ∙ sym i
+pub monitors_fit : (b : List ℕ) → sum_by (λ (t : ℕ). min (thread_in b t).monitors most_lines) (range_with_len 1 16) < 2 ^ 64
+monitors_fit b = added_few (λ (t : ℕ). min (thread_in b t).monitors most_lines) (λ t. omega arith)
 
 -- ---- the trace
 pub line_added : (b b₁ : List ℕ) (k m : ℕ) → k ≡ lines_in b → m ≡ min k most_lines → b₁ ≡ put b 0 lines_at (m + 1) → b₁ ≡ line_counted b
@@ -300,11 +280,6 @@ module _ (b : List ℕ) (t items frames monitors : ℕ) (r : Bool) where
   unfolding overdone_in items_in
   by_numbers marks i f w m e = e ∙ rw (natives_are (cell b t), ← i, ← f, ← w, ← m)
 
-  pub row_overdone : (marks : ℕ) → items ≡ get_or b (t * width + items_at) 0 → frames ≡ get_or b (t * width + frames_at) 0
-      → marks ≡ get_or b (t * width + natives_at) 0 → monitors ≡ get_or b (t * width + monitors_at) 0
-      → r ≡ overdone items frames (how_many (bit marks) (min items deepest)) monitors → r ≡ overdone_in b t
-  row_overdone marks i f w m e = by_numbers marks (unfold cell in i) (unfold cell in f) (unfold cell in w) (unfold cell in m) e
-
   pub row_doubted : items ≡ get_or b (t * width + items_at) 0 → frames ≡ get_or b (t * width + frames_at) 0 → monitors ≡ get_or b (t * width + monitors_at) 0
       → (r ≡ false → (natives : ℕ) → natives ≤ items - items / 2 → overdone items frames natives monitors ≡ false)
       → r ≡ false → ByTurns (cell b t natives_at) → overdone_in b t ≡ false
@@ -327,13 +302,9 @@ pub unfit_first : (b : List ℕ) (k : ℕ) → whole ≤ length b → k ≡ get_
 unfolding unfit overdone_from cell
 unfit_first b k h e = rw (le-ltb (length b) whole h, e) (any_first (overdone_in b) (ltb most_lines (get_or b 0 0)))
 
-pub unfit_next : (b : List ℕ) (t : ℕ) (r x : Bool) → unfit b ≡ (r || overdone_from b t) → t ≤ threads → x ≡ overdone_in b t → unfit b ≡ ((r || x) || overdone_from b (t + 1))
-unfolding overdone_from
-unfit_next b t r x i h p = i ∙ any_next (overdone_in b) t r x h p
-
-pub unfit_last : (b : List ℕ) (t : ℕ) (r : Bool) → unfit b ≡ (r || overdone_from b t) → threads < t → r ≡ unfit b
-unfolding overdone_from
-unfit_last b t r i h = any_last (overdone_in b) t r h ∙ sym i
+pub unfit_by : (b : List ℕ) (k : ℕ) (r : Bool) → whole ≤ length b → k ≡ lines_in b → r ≡ any (overdone_in b) all_threads → (ltb most_lines k || r) ≡ unfit b
+unfolding unfit lines_in
+unfit_by b k r h e f = rw (le-ltb (length b) whole h, e, f)
 
 -- where no thread before t is in doubt, by the marks of these threads together
 pub doubt_first : (b : List ℕ) (k w : ℕ) → whole ≤ length b → k ≡ get_or b 0 0 → ltb most_lines k ≡ false → ByTurns w → unfit b ≡ overdone_from b 1
@@ -351,21 +322,3 @@ pub doubt_none : (b : List ℕ) (t w : ℕ) (r : Bool) → (r ≡ false → ByTu
 unfolding overdone_from
 doubt_none b t w r i h e =
     sym (i (or_left r (not (eqb (bit_and w all_calls) 0)) e) (told_by_turns w r e) ∙ rw (rest_none t h))
-
--- ---- a list filled from the front
-unfoldable pub filled : List ℕ → ℕ → ℕ → List ℕ
-filled a₀ n v = replicate n v ++ drop n a₀
-
-pub fill_first : (a₀ : List ℕ) (v : ℕ) → a₀ ≡ filled a₀ 0 v
-unfolding filled
-fill_first a₀ v = fill_none a₀ v
-
-pub fill_next : (a a₀ : List ℕ) (n v : ℕ) → n < length a → length a ≡ length a₀ → a ≡ filled a₀ n v → set a n v ≡ filled a₀ (n + 1) v
-unfolding filled
-fill_next a a₀ n v l g e = ap (λ (x : List ℕ). set x n v) e ∙ fill_more n v a₀ (omega arith)
-
-pub fill_all : (a a₀ : List ℕ) (n : ℕ) → a ≡ filled a₀ n 0 → length a ≡ length a₀ → n ≤ length a₀ → length a ≤ n → a ≡ cleared a₀
-unfolding filled cleared
-fill_all a a₀ n e k l g =
-    let h : n ≡ length a₀ = omega arith in
-    e ∙ ap (λ (k : ℕ). replicate k 0 ++ drop k a₀) h ∙ ap (λ (x : List ℕ). replicate (length a₀) 0 ++ x) (drop-length a₀) ∙ append-nil (replicate (length a₀) 0)

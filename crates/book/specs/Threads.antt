@@ -1,6 +1,5 @@
 -- What the book stands for: each thread and its open items, and the trace's own numbers. Assumes nothing.
-use Rattle.std.specs.Prelude.{ℕ, zero, suc, ◌%◌, min, Bool, true, false, not, ◌&&◌, ◌||◌, eqb, List, [], ◌∷◌, ◌==◌}
-use Rattle.std.proofs.Math.Option.{Option, none, some}
+use Rattle.std.specs.Prelude.{ℕ, zero, suc, ◌%◌, min, Bool, true, false, not, ◌&&◌, ◌||◌, eqb, List, [], ◌∷◌, ◌==◌, Option, None, Some}
 use Rattle.words.specs.Choice.{if_true◌then◌else◌}
 use Rattle.words.specs.Lists.{any, count, sum}
 use Rattle.history.specs.Items.{Item, in_native, in_call, attached, native_or_attached}
@@ -10,7 +9,7 @@ use Rattle.history.specs.Replies.{most_lines}
 use Rattle.history.specs.Thread.{all_threads}
 use Rattle.rows.specs.Marks.{bit}
 use Rattle.book.specs.Layout.{lines_at, closed_at, env_at, pending_at, monitors_at, frames_at, capacity_at, pushed_at, items_at, natives_at, function_at, asked_at, cell}
-use Rattle.book.specs.declared.Top.{Top}
+use Rattle.book.specs.declared.Item.{Item as Open}
 
 -- the numbers of a row by their columns
 abbrev pub Row : Type 0
@@ -97,14 +96,14 @@ items_in b t = items_of (cell b t)
 
 -- how many of them are natives, attached items counted as such
 abbrev pub natives : List Item → ℕ
-natives is = count (λ (i : Item). native_or_attached (some i)) is
+natives is = count (λ (i : Item). native_or_attached (Some i)) is
 
 -- the top item as the code has it
-unfoldable pub top_is : Top → Option Item
-top_is Top.Nothing = none
-top_is Top.Native = some in_native
-top_is Top.Attached = some attached
-top_is (Top.Call f n) = some (in_call f n)
+unfoldable pub top_is : Option Open → Option Item
+top_is None = None
+top_is (Some Open.Native) = Some in_native
+top_is (Some Open.Attached) = Some attached
+top_is (Some (Open.Call f n)) = Some (in_call f n)
 
 -- ---- the trace
 

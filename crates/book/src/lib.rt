@@ -1,8 +1,7 @@
 // The lent thread book: a row of numbers for each thread, and row 0 for the trace itself. Every function takes any contents, any thread and a short book too.
 #![tactic(auto)]
 
-ghost use Rattle.std.specs.Prelude.{◌≡◌, ℕ, ◌-◌, ◌/◌, ◌<◌, ◌≤◌, min, max, false, length};
-ghost use Rattle.std.proofs.Math.Option.{some};
+ghost use Rattle.std.specs.Prelude.{◌≡◌, ℕ, ◌-◌, ◌/◌, ◌<◌, ◌≤◌, min, max, false, length, Some};
 ghost use Rattle.words.specs.Choice.{one};
 ghost use Rattle.lines.specs.Line.{threads};
 ghost use Rattle.history.specs.Items.{top_of};
@@ -19,14 +18,16 @@ ghost use Rattle.book.specs.Unfit.{overdone, overdone_in, unfit};
 use lines::ranges::THREADS;
 use words::Handle;
 
-// The top of a thread's open items. A call has its function, and max(n,0) of its C.
+// An open item of a thread. A call has its function, and max(n,0) of its C.
 #[derive(Clone, Copy)]
-pub enum Top {
-    Nothing,
+pub enum Item {
     Native,
     Attached,
     Call(u32, u32),
 }
+
+// The top of a thread's open items.
+pub type Top = Option<Item>;
 
 // Numbers to a row, and to a book.
 const WIDTH: usize = 264;
@@ -40,6 +41,7 @@ pub const DEEPEST: u64 = 64;
 pub const MOST_LINES: u64 = 1000000;
 
 // The columns of a row. The first two are of row 0 alone, the last four of open items.
+// Numbers and no structs: C lends the book so, and `specs/Layout`, which may not change, says where each stands.
 const LINES: usize = 0;
 
 const CLOSED: usize = 1;
@@ -70,7 +72,7 @@ const ITEM_BOUND: u64 = 4294967296;
 // The marks of every second item: lines open natives and calls by turns, and these are the calls' places.
 const AT_CALLS: u64 = 12297829382473034410;
 
-// The function of a native, and of an attached item, to push one.
+// The function of a native, and of an attached item, to push one. No `Item` is pushed: `push_item` takes any function, and may not narrow that.
 pub const NO_FUNCTION: u32 = 0;
 
 pub const ATTACHED_FUNCTION: u32 = 1;
@@ -82,11 +84,7 @@ fn number(book: &[u64], t: u32, j: usize) -> u64
     requires { j < width }
     ensures { result ≡ cell book.now t j }
 {
-    let at = t as usize * WIDTH + j;
-    if book.len() <= at {
-        return 0;
-    }
-    book[at]
+    book.get(t as usize * WIDTH + j).copied().unwrap_or(0)
 }
 
 // Past the end nothing is written.
@@ -94,36 +92,11 @@ fn store(book: &mut [u64], t: u32, j: usize, v: u64)
     requires { j < width }
     ensures { book.new ≡ put book.old t j v }
 {
+    // Not by `get_mut`: tried, and once its borrow is over a proof knows the book's length alone, so `put` did not close.
     let at = t as usize * WIDTH + j;
-    if book.len() <= at {
-        return;
+    if at < book.len() {
+        book[at] = v;
     }
-    book[at] = v;
-}
-
-fn lesser(a: u64, b: u64) -> u64
-    ensures { result ≡ min a b }
-{
-    if a < b { a } else { b }
-}
-
-fn greater(a: u64, b: u64) -> u64
-    ensures { result ≡ max a b }
-{
-    if a < b { b } else { a }
-}
-
-// What is left of a when b is taken.
-fn less(a: u64, b: u64) -> u64
-    ensures { result ≡ a - b }
-{
-    if a < b { 0 } else { a - b }
-}
-
-fn one_if(b: bool) -> u64
-    ensures { (result ≡ one b) × (result ≤ 1) }
-{
-    if b { 1 } else { 0 }
 }
 
 // ---- a thread's env, pending exception and monitors
@@ -138,13 +111,7 @@ pub fn env_of(book: &[u64], t: u32) -> Handle
 pub fn env_elsewhere(book: &[u64], t: u32, env: Handle) -> bool
     ensures { result ≡ env_elsewhere book.now t env }
 {
-    let mut found = false;
-    let mut s = 1;
-    while s <= THREADS {
-        found = found | ((s != t) & (env_of(book, s) == env));
-        s += 1;
-    }
-    found
+    (1..THREADS + 1).any(|s| (s != t) & (env_of(book, s) == env))
 }
 
 pub fn set_env(book: &mut [u64], t: u32, env: Handle)
@@ -175,19 +142,15 @@ pub fn monitors_of(book: &[u64], t: u32) -> u64
 pub fn all_monitors(book: &[u64]) -> u64
     ensures { result ≡ all_monitors book.now }
 {
-    let mut sum = 0;
-    let mut t = 1;
-    while t <= THREADS {
-        sum += lesser(monitors_of(book, t), MOST_LINES);
-        t += 1;
-    }
-    sum
+    (1..THREADS + 1)
+        .map(|t| monitors_of(book, t).min(MOST_LINES))
+        .sum()
 }
 
 pub fn add_monitor(book: &mut [u64], t: u32)
     ensures { book.new ≡ monitor_added book.old t }
 {
-    let m = lesser(monitors_of(book, t), MOST_LINES);
+    let m = monitors_of(book, t).min(MOST_LINES);
     store(book, t, MONITORS, m + 1);
 }
 
@@ -195,7 +158,7 @@ pub fn add_monitor(book: &mut [u64], t: u32)
 pub fn take_monitor(book: &mut [u64], t: u32)
     ensures { book.new ≡ monitor_taken book.old t }
 {
-    let m = less(monitors_of(book, t), 1);
+    let m = monitors_of(book, t).saturating_sub(1);
     store(book, t, MONITORS, m);
 }
 
@@ -211,17 +174,16 @@ pub fn drop_monitors(book: &mut [u64], t: u32)
 pub fn frames_of(book: &[u64], t: u32) -> u32
     ensures { (result ≡ length (thread_in book.now t).frames) × (result ≤ deepest) }
 {
-    lesser(number(book, t, FRAMES), DEEPEST) as u32
+    number(book, t, FRAMES).min(DEEPEST) as u32
 }
 
 pub fn top_capacity(book: &[u64], t: u32) -> u64
     ensures { result ≡ top_capacity (thread_in book.now t).capacities }
 {
-    let d = frames_of(book, t);
-    if d == 0 {
+    let Some(top) = frames_of(book, t).checked_sub(1) else {
         return 0;
-    }
-    number(book, t, CAPACITIES + (d - 1) as usize)
+    };
+    number(book, t, CAPACITIES + top as usize)
 }
 
 // Frame i was pushed; frames are counted from 0 here.
@@ -235,24 +197,20 @@ fn frame_pushed(book: &[u64], t: u32, i: u32) -> bool
 pub fn top_pushed(book: &[u64], t: u32) -> bool
     ensures { result ≡ top_pushed (thread_in book.now t).frames }
 {
-    let d = frames_of(book, t);
-    if d == 0 {
+    let Some(top) = frames_of(book, t).checked_sub(1) else {
         return false;
-    }
-    frame_pushed(book, t, d - 1)
+    };
+    frame_pushed(book, t, top)
 }
 
 // How many frames X leaves.
 pub fn frames_left(book: &[u64], t: u32) -> u32
     ensures { (result ≡ length (without_native (thread_in book.now t).frames)) × (result ≤ deepest) }
 {
-    let mut d = frames_of(book, t);
-    while 0 < d {
-        let e = d - 1;
-        if !frame_pushed(book, t, e) {
-            return e;
+    for i in (0..frames_of(book, t)).rev() {
+        if !frame_pushed(book, t, i) {
+            return i;
         }
-        d = e;
     }
     0
 }
@@ -265,7 +223,7 @@ pub fn push_frame(book: &mut [u64], t: u32, capacity: u64, pushed: bool)
     if DEEPEST as u32 <= d {
         return;
     }
-    let mark = one_if(pushed);
+    let mark = u64::from(pushed);
     store(book, t, CAPACITIES + d as usize, capacity);
     store(book, t, PUSHED + d as usize, mark);
     store(book, t, FRAMES, d as u64 + 1);
@@ -291,20 +249,19 @@ pub fn pop_frame(book: &mut [u64], t: u32)
     ensures { book.new ≡ frame_popped book.old t }
 {
     let d = frames_of(book, t);
-    let gone = one_if(top_pushed(book, t));
-    store(book, t, FRAMES, less(d as u64, gone));
+    let gone = u64::from(top_pushed(book, t));
+    store(book, t, FRAMES, (d as u64).saturating_sub(gone));
 }
 
 // R of 26: the top frame's capacity is k at least.
 pub fn raise_capacity(book: &mut [u64], t: u32, k: u64)
     ensures { book.new ≡ capacity_raised book.old t k }
 {
-    let d = frames_of(book, t);
-    if d == 0 {
+    let Some(top) = frames_of(book, t).checked_sub(1) else {
         return;
-    }
-    let c = greater(top_capacity(book, t), k);
-    store(book, t, CAPACITIES + (d - 1) as usize, c);
+    };
+    let c = top_capacity(book, t).max(k);
+    store(book, t, CAPACITIES + top as usize, c);
 }
 
 // ---- its open items: no other function touches their columns
@@ -312,7 +269,7 @@ pub fn raise_capacity(book: &mut [u64], t: u32, k: u64)
 pub fn items_of(book: &[u64], t: u32) -> u32
     ensures { (result ≡ length (items_in book.now t)) × (result ≤ deepest) }
 {
-    lesser(number(book, t, ITEMS), DEEPEST) as u32
+    number(book, t, ITEMS).min(DEEPEST) as u32
 }
 
 // Item i is a native, or attached.
@@ -323,30 +280,27 @@ fn is_marked(marks: u64, i: u32) -> bool
     (marks >> i) % 2 == 1
 }
 
-fn item_is(marked: bool, f: u64, n: u64) -> Top
-    ensures { top_is result ≡ some (item_is marked f n) }
+fn item_is(marked: bool, f: u64, n: u64) -> Item
+    ensures { top_is (Some result) ≡ Some (item_is marked f n) }
 {
     if marked {
         if f == ATTACHED_FUNCTION as u64 {
-            return Top::Attached;
+            return Item::Attached;
         }
-        return Top::Native;
+        return Item::Native;
     }
-    Top::Call((f % ITEM_BOUND) as u32, (n % ITEM_BOUND) as u32)
+    Item::Call((f % ITEM_BOUND) as u32, (n % ITEM_BOUND) as u32)
 }
 
 pub fn top_item(book: &[u64], t: u32) -> Top
     ensures { top_is result ≡ top_of (items_in book.now t) }
 {
-    let d = items_of(book, t);
-    if d == 0 {
-        return Top::Nothing;
-    }
-    item_is(
-        is_marked(number(book, t, NATIVES), d - 1),
-        number(book, t, FUNCTIONS + (d - 1) as usize),
-        number(book, t, ASKED + (d - 1) as usize),
-    )
+    let top = items_of(book, t).checked_sub(1)?;
+    Some(item_is(
+        is_marked(number(book, t, NATIVES), top),
+        number(book, t, FUNCTIONS + top as usize),
+        number(book, t, ASKED + top as usize),
+    ))
 }
 
 // An item of this function is marked.
@@ -387,7 +341,7 @@ pub fn pop_item(book: &mut [u64], t: u32)
     ensures { book.new ≡ item_popped book.old t }
 {
     let d = items_of(book, t);
-    store(book, t, ITEMS, less(d as u64, 1));
+    store(book, t, ITEMS, (d as u64).saturating_sub(1));
 }
 
 // ---- the trace and the whole book
@@ -401,7 +355,7 @@ pub fn lines_of(book: &[u64]) -> u64
 pub fn count_line(book: &mut [u64])
     ensures { book.new ≡ line_counted book.old }
 {
-    let n = lesser(lines_of(book), MOST_LINES);
+    let n = lines_of(book).min(MOST_LINES);
     store(book, 0, LINES, n + 1);
 }
 
@@ -423,13 +377,7 @@ fn natives_below(marks: u64, n: u32) -> u64
     requires { n ≤ deepest }
     ensures { result ≡ how_many (bit marks) n }
 {
-    let mut natives = 0;
-    let mut d = 0;
-    while d < n {
-        natives += one_if(is_marked(marks, d));
-        d += 1;
-    }
-    natives
+    (0..n).filter(|i| is_marked(marks, *i)).count() as u64
 }
 
 fn overdone(items: u64, frames: u64, natives: u64, monitors: u64) -> bool
@@ -446,9 +394,7 @@ fn overdone(items: u64, frames: u64, natives: u64, monitors: u64) -> bool
 fn doubtful(items: u64, frames: u64, monitors: u64) -> bool
     ensures { result ≡ false → (natives : ℕ) → natives ≤ items - items / 2 → overdone items frames natives monitors ≡ false }
 {
-    (DEEPEST < greater(items, frames))
-        | (std::num::wrapping_add_u64(frames, frames) < items)
-        | (MOST_LINES < monitors)
+    (DEEPEST < items.max(frames)) | (frames.wrapping_add(frames) < items) | (MOST_LINES < monitors)
 }
 
 // A thread of these numbers is overdone. Natives are counted only where it is in doubt, or one stands in a call's place.
@@ -456,7 +402,7 @@ fn overdone_by(items: u64, frames: u64, marks: u64, monitors: u64) -> bool
     ensures { result ≡ overdone items frames (how_many (bit marks) (min items deepest)) monitors }
 {
     if doubtful(items, frames, monitors) | (marks & AT_CALLS != 0) {
-        let natives = natives_below(marks, lesser(items, DEEPEST) as u32);
+        let natives = natives_below(marks, items.min(DEEPEST) as u32);
         return overdone(items, frames, natives, monitors);
     }
     false
@@ -474,32 +420,12 @@ pub fn is_overdone(book: &[u64], t: u32) -> bool
     )
 }
 
-// Thread t of a book that is not short.
-fn row_overdone(book: &[u64], t: u32) -> bool
-    requires { (t ≤ threads) × (whole ≤ length book.now) }
-    ensures { result ≡ overdone_in book.now t }
-{
-    let row = t as usize * WIDTH;
-    overdone_by(
-        book[row + ITEMS],
-        book[row + FRAMES],
-        book[row + NATIVES],
-        book[row + MONITORS],
-    )
-}
-
 // A thread of a book that is not short, or its line count.
 fn some_overdone(book: &[u64]) -> bool
     requires { whole ≤ length book.now }
     ensures { result ≡ unfit book.now }
 {
-    let mut found = MOST_LINES < book[LINES];
-    let mut t = 1;
-    while t <= THREADS {
-        found = found | row_overdone(book, t);
-        t += 1;
-    }
-    found
+    (MOST_LINES < lines_of(book)) | (1..THREADS + 1).any(|t| is_overdone(book, t))
 }
 
 // Thread t of a book that is not short may be overdone.
@@ -520,11 +446,9 @@ pub fn unfit(book: &[u64]) -> bool
     }
     let mut doubt = MOST_LINES < book[LINES];
     let mut marks = 0;
-    let mut t = 1;
-    while t <= THREADS {
-        doubt = doubt | in_doubt(book, t);
-        marks = marks | book[t as usize * WIDTH + NATIVES];
-        t += 1;
+    for t in 1..THREADS + 1 {
+        doubt |= in_doubt(book, t);
+        marks |= book[t as usize * WIDTH + NATIVES];
     }
     if doubt | (marks & AT_CALLS != 0) {
         return some_overdone(book);
@@ -536,9 +460,5 @@ pub fn unfit(book: &[u64]) -> bool
 pub fn clear(book: &mut [u64])
     ensures { book.new ≡ cleared book.old }
 {
-    let mut i = 0;
-    while i < book.len() {
-        book[i] = 0;
-        i += 1;
-    }
+    book.fill(0);
 }

@@ -7,12 +7,13 @@ use native.Mathlib.Nat.{add-zero, sub-zero, mod-lt}
 use native.Mathlib.Omega.{arith}
 use borrow.Author.Tests.{lt-ltb, le-ltb, eq-eqb, ne_eqb}
 use lib.Dec.{eqb, ltb}
+use Rattle.std.specs.Prelude.{Option, Some, unwrap_or}
 use lib.ListN.{get_or, set}
 use Rattle.lines.specs.Line.{classes}
 use Rattle.lines.proofs.Tests.{and_false}
 use Rattle.history.specs.Identities.{not_stated}
-use Rattle.classes.specs.Identities.{identity_room, is_for, first_from, first_around, place_of, identity_in, with_identity}
-use Rattle.classes.proofs.Places.{search_hit, search_on, around_behind, around_before, around_none}
+use Rattle.classes.specs.Identities.{identity_room, before, is_for, first_from, first_around, place_of, identity_in, with_identity}
+use Rattle.classes.proofs.Places.{search_hit, search_on, either_before}
 
 -- ---- the first place for an identity
 
@@ -35,28 +36,24 @@ own_within y many more =
     let h : 0 < many = omega arith in
     omega (arith, mod-lt y h)
 
-pub own_in_room : (y many room : ℕ) → many ≡ room → (many ≡ 0 → ⊥) → y % many ≤ room
-own_in_room y many room e more = omega (arith, own_within y many more)
-
 module _ (cs : List ℕ) (x many : ℕ) (e : many ≡ identity_room cs) where
   pub no_places : many ≡ 0 → 0 ≡ place_of cs x
   unfolding place_of first_around first_from
   no_places z = rw (sym e ∙ z) refl
 
-  module _ (more : many ≡ 0 → ⊥) (behind : ℕ) (f : behind ≡ first_from (is_for cs x) ((x / 4) % many) (many - (x / 4) % many)) where
+  module _ (more : many ≡ 0 → ⊥) where
     around_own : first_around (is_for cs x) many ((x / 4) % many) ≡ place_of cs x
     unfolding place_of
     around_own = rw (← e, ne_eqb many 0 more) refl
 
-    pub place_behind : behind < many → behind ≡ place_of cs x
-    place_behind l = around_behind (is_for cs x) many ((x / 4) % many) behind f l ∙ around_own
+    pub place_by : (r s : Option ℕ) → r ≡ before many (first_from (is_for cs x) ((x / 4) % many) (many - (x / 4) % many))
+        → s ≡ before ((x / 4) % many) (first_from (is_for cs x) 0 ((x / 4) % many - 0))
+        → unwrap_or r (unwrap_or s many) ≡ place_of cs x
+    unfolding first_around
+    place_by r s f g = either_before r s _ _ ((x / 4) % many) many f (rw sub-zero at g) ∙ around_own
 
-    module _ (over : many ≤ behind) (before : ℕ) (g : before ≡ first_from (is_for cs x) 0 ((x / 4) % many - 0)) where
-      pub place_before : before < (x / 4) % many → before ≡ place_of cs x
-      place_before l = around_before (is_for cs x) many ((x / 4) % many) behind f over before (rw sub-zero at g) l ∙ around_own
-
-      pub place_none : (x / 4) % many ≤ before → many ≡ place_of cs x
-      place_none l = around_none (is_for cs x) many ((x / 4) % many) behind f over before (rw sub-zero at g) l ∙ around_own
+    pub place_found : (i : ℕ) → Some i ≡ before many (first_from (is_for cs x) ((x / 4) % many) (many - (x / 4) % many)) → i ≡ place_of cs x
+    place_found i f = place_by (Some i) (before ((x / 4) % many) (first_from (is_for cs x) 0 ((x / 4) % many - 0))) f refl
 
 -- ---- what is stated
 

@@ -6,7 +6,28 @@ use native.Mathlib.Decide.{dec_lt}
 use native.Mathlib.Omega.{arith}
 use borrow.Author.Tests.{lt-ltb, le-ltb}
 use Rattle.words.specs.Choice.{if_true◌then◌else◌}
-use Rattle.classes.specs.Identities.{first_from, first_around}
+use Rattle.classes.specs.Identities.{before as before_place, first_from, first_around}
+use Rattle.std.specs.Prelude.{Option, None, Some, unwrap_or}
+use lib.Dec.{ltb}
+
+-- ---- a place before `to`, or none
+
+module _ (i n to : ℕ) where
+  pub seen_before : i < to → i ≡ n → Some i ≡ before_place to n
+  seen_before l e = rw (← e, lt-ltb i to l) refl
+
+  pub none_before : to ≤ i → i ≡ n → None ≡ before_place to n
+  none_before l e = rw (← e, le-ltb i to l) refl
+
+-- the first of two that is there, or the room
+pub either_before : (r s : Option ℕ) (m n own room : ℕ) → r ≡ before_place room m → s ≡ before_place own n
+    → unwrap_or r (unwrap_or s room) ≡ (if_true ltb m room then m else if_true ltb n own then n else room)
+either_before r s m n own room e f = rw (e, f) (go (ltb m room) (ltb n own))
+  where
+    go : (p q : Bool) → unwrap_or (if_true p then Some m else None) (unwrap_or (if_true q then Some n else None) room) ≡ (if_true p then m else if_true q then n else room)
+    go true q = refl
+    go false true = refl
+    go false false = refl
 
 module _ (test : ℕ → Bool) where
   -- ---- a search that goes up: from place i to place `to`

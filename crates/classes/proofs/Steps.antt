@@ -1,21 +1,19 @@
 -- From what the code did to the words of the definitions: one law for each return. Assumes nothing.
-use Prim.Native.Nat.{ℕ, zero, suc, ◌+◌, ◌-◌, ◌≤◌, ◌<◌}
-use mathlib.Core.Path.{◌≡◌, refl, sym, ap, ap₂, ◌∙◌}
+use Prim.Native.Nat.{ℕ, zero, suc, ◌-◌, ◌≤◌, ◌<◌}
+use mathlib.Core.Path.{◌≡◌, refl, ap₂}
 use mathlib.Core.Bool.{Bool, true, false, not, ◌&&◌, ◌||◌}
-use mathlib.Core.List.{List, ◌++◌, append-nil}
+use mathlib.Core.List.{List}
 use native.Mathlib.Nat.{not-suc-le-zero}
 use native.Mathlib.Omega.{arith}
-use borrow.Author.Fill.{fill_none, fill_more}
 use borrow.Author.Tests.{leb-true, eq-eqb, ne_eqb}
 use lib.Dec.{eqb, leb}
-use lib.ListN.{length, get_or, set, replicate, drop, get_or-eq_default}
-use lib.Seq.{drop-length}
+use lib.ListN.{length, get_or, set}
 use Rattle.words.specs.Choice.{within}
 use Rattle.facts.specs.Classes.{object, is_reserved}
 use Rattle.lines.specs.Line.{classes, is_class}
 use Rattle.lines.proofs.Tests.{both}
 use Rattle.history.specs.Classes.{is_known, super, leads, most_looks, class_fits}
-use Rattle.classes.specs.Supers.{super_in, with_super, classes_cleared}
+use Rattle.classes.specs.Supers.{super_in, with_super}
 
 pub from_one : (n c : ℕ) → within 1 n c ≡ true → 1 ≤ c
 from_one n c h = leb-true 1 c (both (leb 1 c) (leb c n) h).0
@@ -37,9 +35,6 @@ module _ (cs : List ℕ) (c : ℕ) where
   unfolding super_in
   super_there y = rw y refl
 
-  pub super_past : is_class c ≡ true → length cs ≤ c - 1 → 0 ≡ super_in cs c
-  super_past y h = sym (get_or-eq_default cs 0 h) ∙ super_there y
-
   pub no_super : is_class c ≡ false → 0 ≡ super_in cs c
   unfolding super_in
   no_super n = rw n refl
@@ -54,25 +49,6 @@ module _ (cs : List ℕ) (c : ℕ) where
   pub super_not_set : (s : ℕ) → (is_class c && leb c (length cs)) ≡ false → cs ≡ with_super cs c s
   unfolding with_super
   super_not_set s n = rw n refl
-
--- ---- a list filled from the front
-
-unfoldable pub filled : List ℕ → ℕ → ℕ → List ℕ
-filled a₀ n v = replicate n v ++ drop n a₀
-
-pub fill_first : (a₀ : List ℕ) (v : ℕ) → a₀ ≡ filled a₀ 0 v
-unfolding filled
-fill_first a₀ v = fill_none a₀ v
-
-pub fill_next : (a a₀ : List ℕ) (n v : ℕ) → n < length a → length a ≡ length a₀ → a ≡ filled a₀ n v → set a n v ≡ filled a₀ (n + 1) v
-unfolding filled
-fill_next a a₀ n v l g e = ap (λ (x : List ℕ). set x n v) e ∙ fill_more n v a₀ (omega arith)
-
-pub fill_all : (a a₀ : List ℕ) (n : ℕ) → a ≡ filled a₀ n 0 → length a ≡ length a₀ → n ≤ length a₀ → length a ≤ n → a ≡ classes_cleared a₀
-unfolding filled
-fill_all a a₀ n e k l g =
-    let h : n ≡ length a₀ = omega arith in
-    e ∙ ap (λ (k : ℕ). replicate k 0 ++ drop k a₀) h ∙ ap (λ (x : List ℕ). replicate (length a₀) 0 ++ x) (drop-length a₀) ∙ append-nil (replicate (length a₀) 0)
 
 -- ---- a chain of supers, whoever declared them
 

@@ -1,5 +1,5 @@
 -- The identities in the lent class table, behind its classes: four numbers to a place, identity (0 where the place is free), sort, static, final. Assumes nothing.
-use Rattle.std.specs.Prelude.{ℕ, zero, suc, ◌+◌, ◌-◌, ◌*◌, ◌/◌, ◌%◌, Bool, not, ◌&&◌, ◌||◌, List, eqb, ltb, length, get_or, set}
+use Rattle.std.specs.Prelude.{ℕ, zero, suc, ◌+◌, ◌-◌, ◌*◌, ◌/◌, ◌%◌, Bool, not, ◌&&◌, ◌||◌, List, eqb, ltb, length, get_or, set, Option, None, Some}
 use Rattle.words.specs.Choice.{if_true◌then◌else◌}
 use Rattle.lines.specs.Line.{classes}
 use Rattle.rows.specs.Scan.{how_many}
@@ -27,6 +27,10 @@ identity_number cs i k = get_or cs (identity_from i + k) 0
 unfoldable pub first_from : (ℕ → Bool) → ℕ → ℕ → ℕ
 first_from test i zero = i
 first_from test i (suc n) = if_true test i then i else first_from test (suc i) n
+
+-- a place, where it is before `to`
+abbrev pub before : ℕ → ℕ → Option ℕ
+before to i = if_true ltb i to then Some i else None
 
 -- from its own place to the last, then from the first to its own; the room where none passes
 unfoldable pub first_around : (ℕ → Bool) → ℕ → ℕ → ℕ

@@ -1,7 +1,7 @@
 // The identities in the lent class table, behind its classes: four numbers to a place, identity (0 where the place is free), sort, static, final.
 ghost use Rattle.std.specs.Prelude.{◌≡◌, ◌-◌, ◌≤◌};
 ghost use Rattle.history.specs.Identities.{not_stated};
-ghost use Rattle.classes.specs.Identities.{identity_room, first_from, is_for, place_of, identity_in, with_identity};
+ghost use Rattle.classes.specs.Identities.{identity_room, before, first_from, is_for, place_of, identity_in, with_identity};
 
 use facts::handles::KINDS;
 use history::Identity;
@@ -25,20 +25,18 @@ pub fn room(table: &[Number]) -> usize
     (table.len() - FROM) / NUMBERS
 }
 
-// The first place from `from` on, before `to`, that is free or has identity x, or `to`.
-fn first(table: &[Number], x: Handle, from: usize, to: usize) -> usize
+// The first place from `from` on, before `to`, that is free or has identity x.
+fn first(table: &[Number], x: Handle, from: usize, to: usize) -> Option<usize>
     requires { (from ≤ to) × (to ≤ identity_room table.now) }
-    ensures { result ≡ first_from (is_for table.now x) from (to - from) }
+    ensures { result ≡ before to (first_from (is_for table.now x) from (to - from)) }
 {
-    let mut i = from;
-    while i < to {
+    for i in from..to {
         let at = table[FROM + i * NUMBERS];
         if (at == 0) | (at == x) {
-            return i;
+            return Some(i);
         }
-        i += 1;
     }
-    i
+    None
 }
 
 // Where identity x stands, or can be put: looked for from its own place to the last, then from the first; the room where it is nowhere and no place is free.
@@ -50,12 +48,10 @@ pub fn place_of(table: &[Number], x: Handle) -> usize
         return 0;
     }
     let own = (x / KINDS) as usize % many;
-    let behind = first(table, x, own, many);
-    if behind < many {
-        return behind;
+    match first(table, x, own, many) {
+        Some(i) => i,
+        None => first(table, x, 0, own).unwrap_or(many),
     }
-    let before = first(table, x, 0, own);
-    if before < own { before } else { many }
 }
 
 // What is stated of identity x.
@@ -73,6 +69,7 @@ pub fn stated(table: &[Number], x: Handle) -> Identity
             };
         }
     }
+    // Sort 0 and no Option where nothing is stated: `history::not_stated`, a definition that may not change, says it so.
     Identity {
         sort: 0,
         isstatic: 0,

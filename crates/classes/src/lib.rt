@@ -11,7 +11,7 @@ use facts::classes::{NO_CLASS, OBJECT, THROWABLE, is_reserved};
 use lines::ranges::CLASSES;
 use rows::Number;
 
-// The classes that have a name, as wide as the table's numbers.
+// The classes that have a name, as wide as the table's numbers. NONE is no Option: so C lends the table, and `Supers.super_in` may not change.
 const NONE: Number = NO_CLASS as Number;
 
 const ROOT: Number = OBJECT as Number;
@@ -35,11 +35,7 @@ fn super_of(table: &[Number], c: Number) -> Number
     ensures { result ≡ super_in table.now c }
 {
     if (1 <= c) & (c <= LAST) {
-        let at = c as usize - 1;
-        if at < table.len() {
-            return table[at];
-        }
-        return NONE;
+        return table.get(c as usize - 1).copied().unwrap_or(NONE);
     }
     NONE
 }
@@ -66,8 +62,7 @@ fn leads(table: &[Number], c: Number, k: Number) -> bool
     ensures { result ≡ leads (super_in table.now) most_looks c k }
 {
     let mut at = c;
-    let mut left = MOST_LOOKS;
-    while 0 < left {
+    for _ in 0..MOST_LOOKS {
         if at == k {
             return true;
         }
@@ -75,7 +70,6 @@ fn leads(table: &[Number], c: Number, k: Number) -> bool
             return false;
         }
         at = above(table, at);
-        left -= 1;
     }
     false
 }
@@ -103,9 +97,5 @@ pub fn declare(table: &mut [Number], c: u32, superclass: u32)
 pub fn clear(table: &mut [Number])
     ensures { table.new ≡ classes_cleared table.old }
 {
-    let mut i = 0;
-    while i < table.len() {
-        table[i] = 0;
-        i += 1;
-    }
+    table.fill(0);
 }

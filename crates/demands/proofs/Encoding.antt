@@ -3,7 +3,7 @@ use Prim.Native.Nat.{ℕ, zero, suc, ◌≤◌}
 use mathlib.Core.Path.{◌≡◌, refl, sym, ap, ap₂, ◌∙◌}
 use mathlib.Core.Bool.{Bool, true, false, ◌&&◌, and_comm, and_assoc, and-true, and-false}
 use mathlib.Core.List.{List, [], ◌∷◌, map}
-use mathlib.Core.Option.{Option, none, some}
+use Rattle.std.specs.Prelude.{Option, None, Some}
 use native.Mathlib.Omega.{arith}
 use lib.Dec.{eqb, leb}
 use lib.ListN.{length, replicate}
@@ -29,80 +29,80 @@ use Rattle.demands.specs.Tied.{encoded}
 -- encoded alike, where none of those that may differ is held
 pub encoded_same : {A B : Type 0} (f g : B → A) (p : B → Bool) → ((x : B) → p x ≡ false → f x ≡ g x) → (s : List (Option B)) → count p (held s) ≡ 0 → encoded f s ≡ encoded g s
 encoded_same f g p same [] none_held = refl
-encoded_same {A} f g p same (none ∷ s) none_held = ap (λ (r : List (Option A)). none ∷ r) (encoded_same f g p same s none_held)
-encoded_same {A} {B} f g p same (some x ∷ s) none_held = go (p x) refl none_held (λ h. encoded_same f g p same s h)
+encoded_same {A} f g p same (None ∷ s) none_held = ap (λ (r : List (Option A)). None ∷ r) (encoded_same f g p same s none_held)
+encoded_same {A} {B} f g p same (Some x ∷ s) none_held = go (p x) refl none_held (λ h. encoded_same f g p same s h)
   where
     go : (b : Bool) → p x ≡ b → (if_true b then suc (count p (held s)) else count p (held s)) ≡ 0 → (count p (held s) ≡ 0 → encoded f s ≡ encoded g s)
-        → encoded f (some x ∷ s) ≡ encoded g (some x ∷ s)
+        → encoded f (Some x ∷ s) ≡ encoded g (Some x ∷ s)
     go true e none_held ih = absurd (omega (arith, none_held))
-    go false e none_held ih = ap₂ (λ (y : A) (r : List (Option A)). some y ∷ r) (same x e) (ih none_held)
+    go false e none_held ih = ap₂ (λ (y : A) (r : List (Option A)). Some y ∷ r) (same x e) (ih none_held)
 
 module _ {A B : Type 0} (f : B → A) where
   length_encoded : (s : List (Option B)) → length (encoded f s) ≡ length s
   length_encoded [] = refl
-  length_encoded (none ∷ s) = ap suc (length_encoded s)
-  length_encoded (some x ∷ s) = ap suc (length_encoded s)
+  length_encoded (None ∷ s) = ap suc (length_encoded s)
+  length_encoded (Some x ∷ s) = ap suc (length_encoded s)
 
   held_encoded : (s : List (Option B)) → length (held (encoded f s)) ≡ length (held s)
   held_encoded [] = refl
-  held_encoded (none ∷ s) = held_encoded s
-  held_encoded (some x ∷ s) = ap suc (held_encoded s)
+  held_encoded (None ∷ s) = held_encoded s
+  held_encoded (Some x ∷ s) = ap suc (held_encoded s)
 
   count_encoded : (p : A → Bool) (s : List (Option B)) → count p (held (encoded f s)) ≡ count (λ x. p (f x)) (held s)
   count_encoded p [] = refl
-  count_encoded p (none ∷ s) = count_encoded p s
-  count_encoded p (some x ∷ s) = ap (λ (n : ℕ). if_true p (f x) then suc n else n) (count_encoded p s)
+  count_encoded p (None ∷ s) = count_encoded p s
+  count_encoded p (Some x ∷ s) = ap (λ (n : ℕ). if_true p (f x) then suc n else n) (count_encoded p s)
 
   of_first_encoded : (q : A → Bool) (say : A → ℕ) (s : List (Option B)) → of_first q say (held (encoded f s)) ≡ of_first (λ x. q (f x)) (λ x. say (f x)) (held s)
   of_first_encoded q say [] = refl
-  of_first_encoded q say (none ∷ s) = of_first_encoded q say s
-  of_first_encoded q say (some x ∷ s) = ap (λ (n : ℕ). if_true q (f x) then say (f x) else n) (of_first_encoded q say s)
+  of_first_encoded q say (None ∷ s) = of_first_encoded q say s
+  of_first_encoded q say (Some x ∷ s) = ap (λ (n : ℕ). if_true q (f x) then say (f x) else n) (of_first_encoded q say s)
 
   put_encoded : (x : B) (s : List (Option B)) → put (f x) (encoded f s) ≡ encoded f (put x s)
   put_encoded x [] = refl
-  put_encoded x (none ∷ s) = refl
-  put_encoded x (some y ∷ s) = ap (λ (r : List (Option A)). some (f y) ∷ r) (put_encoded x s)
+  put_encoded x (None ∷ s) = refl
+  put_encoded x (Some y ∷ s) = ap (λ (r : List (Option A)). Some (f y) ∷ r) (put_encoded x s)
 
   wipe_encoded : (p : A → Bool) (s : List (Option B)) → wipe p (encoded f s) ≡ encoded f (wipe (λ x. p (f x)) s)
   wipe_encoded p [] = refl
-  wipe_encoded p (none ∷ s) = ap (λ (r : List (Option A)). none ∷ r) (wipe_encoded p s)
-  wipe_encoded p (some x ∷ s) = go (p (f x)) (wipe_encoded p s)
+  wipe_encoded p (None ∷ s) = ap (λ (r : List (Option A)). None ∷ r) (wipe_encoded p s)
+  wipe_encoded p (Some x ∷ s) = go (p (f x)) (wipe_encoded p s)
     where
       go : (b : Bool) → wipe p (encoded f s) ≡ encoded f (wipe (λ x. p (f x)) s)
-          → (if_true b then none else some (f x)) ∷ wipe p (encoded f s) ≡ encoded f ((if_true b then none else some x) ∷ wipe (λ x. p (f x)) s)
-      go true ih = ap (λ (r : List (Option A)). none ∷ r) ih
-      go false ih = ap (λ (r : List (Option A)). some (f x) ∷ r) ih
+          → (if_true b then None else Some (f x)) ∷ wipe p (encoded f s) ≡ encoded f ((if_true b then None else Some x) ∷ wipe (λ x. p (f x)) s)
+      go true ih = ap (λ (r : List (Option A)). None ∷ r) ih
+      go false ih = ap (λ (r : List (Option A)). Some (f x) ∷ r) ih
 
   wipe_first_encoded : (p : A → Bool) (s : List (Option B)) → wipe_first p (encoded f s) ≡ encoded f (wipe_first (λ x. p (f x)) s)
   wipe_first_encoded p [] = refl
-  wipe_first_encoded p (none ∷ s) = ap (λ (r : List (Option A)). none ∷ r) (wipe_first_encoded p s)
-  wipe_first_encoded p (some x ∷ s) = go (p (f x)) (wipe_first_encoded p s)
+  wipe_first_encoded p (None ∷ s) = ap (λ (r : List (Option A)). None ∷ r) (wipe_first_encoded p s)
+  wipe_first_encoded p (Some x ∷ s) = go (p (f x)) (wipe_first_encoded p s)
     where
       go : (b : Bool) → wipe_first p (encoded f s) ≡ encoded f (wipe_first (λ x. p (f x)) s)
-          → (if_true b then none ∷ encoded f s else some (f x) ∷ wipe_first p (encoded f s)) ≡ encoded f (if_true b then none ∷ s else some x ∷ wipe_first (λ x. p (f x)) s)
+          → (if_true b then None ∷ encoded f s else Some (f x) ∷ wipe_first p (encoded f s)) ≡ encoded f (if_true b then None ∷ s else Some x ∷ wipe_first (λ x. p (f x)) s)
       go true ih = refl
-      go false ih = ap (λ (r : List (Option A)). some (f x) ∷ r) ih
+      go false ih = ap (λ (r : List (Option A)). Some (f x) ∷ r) ih
 
   -- of the slots held none is such that q and p may differ on it
   change_first_encoded : (g : B → A) (bad p : B → Bool) (q : A → Bool) (change : A → A) → ((x : B) → bad x ≡ false → q (f x) ≡ p x) → ((x : B) → p x ≡ true → change (f x) ≡ g x)
       → ((x : B) → p x ≡ false → f x ≡ g x) → (s : List (Option B)) → count bad (held s) ≡ 0 → count p (held s) ≤ 1 → change_first q change (encoded f s) ≡ encoded g s
   change_first_encoded g bad p q change same this other [] fine few = refl
-  change_first_encoded g bad p q change same this other (none ∷ s) fine few = ap (λ (r : List (Option A)). none ∷ r) (change_first_encoded g bad p q change same this other s fine few)
-  change_first_encoded g bad p q change same this other (some x ∷ s) fine few = good (bad x) refl fine (λ k h. change_first_encoded g bad p q change same this other s k h)
+  change_first_encoded g bad p q change same this other (None ∷ s) fine few = ap (λ (r : List (Option A)). None ∷ r) (change_first_encoded g bad p q change same this other s fine few)
+  change_first_encoded g bad p q change same this other (Some x ∷ s) fine few = good (bad x) refl fine (λ k h. change_first_encoded g bad p q change same this other s k h)
     where
       go : (b : Bool) → p x ≡ b → (if_true b then suc (count p (held s)) else count p (held s)) ≤ 1 → (count p (held s) ≤ 1 → change_first q change (encoded f s) ≡ encoded g s)
-          → (if_true b then some (change (f x)) ∷ encoded f s else some (f x) ∷ change_first q change (encoded f s)) ≡ encoded g (some x ∷ s)
-      go true e few ih = ap₂ (λ (y : A) (r : List (Option A)). some y ∷ r) (this x e) (encoded_same f g p other s (omega (arith, few)))
-      go false e few ih = ap₂ (λ (y : A) (r : List (Option A)). some y ∷ r) (other x e) (ih few)
+          → (if_true b then Some (change (f x)) ∷ encoded f s else Some (f x) ∷ change_first q change (encoded f s)) ≡ encoded g (Some x ∷ s)
+      go true e few ih = ap₂ (λ (y : A) (r : List (Option A)). Some y ∷ r) (this x e) (encoded_same f g p other s (omega (arith, few)))
+      go false e few ih = ap₂ (λ (y : A) (r : List (Option A)). Some y ∷ r) (other x e) (ih few)
 
       good : (b : Bool) → bad x ≡ b → (if_true b then suc (count bad (held s)) else count bad (held s)) ≡ 0
-          → (count bad (held s) ≡ 0 → count p (held s) ≤ 1 → change_first q change (encoded f s) ≡ encoded g s) → change_first q change (encoded f (some x ∷ s)) ≡ encoded g (some x ∷ s)
+          → (count bad (held s) ≡ 0 → count p (held s) ≤ 1 → change_first q change (encoded f s) ≡ encoded g s) → change_first q change (encoded f (Some x ∷ s)) ≡ encoded g (Some x ∷ s)
       good true e k ih = absurd (omega (arith, k))
       good false e k ih = rw (same x e) (go (p x) refl few (ih k))
 
-  free_encoded : (n : ℕ) → replicate n none ≡ encoded f (padded n [])
+  free_encoded : (n : ℕ) → replicate n None ≡ encoded f (padded n [])
   free_encoded zero = refl
-  free_encoded (suc n) = ap (λ (r : List (Option A)). none ∷ r) (free_encoded n)
+  free_encoded (suc n) = ap (λ (r : List (Option A)). None ∷ r) (free_encoded n)
 
 -- ---- a lent table, of any layout
 

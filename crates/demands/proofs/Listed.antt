@@ -4,7 +4,7 @@ use mathlib.Core.Path.{◌≡◌, refl, sym, ap, ap₂, ◌∙◌}
 use mathlib.Core.Logic.{◌⊎◌, inl, inr, ◌↔◌}
 use mathlib.Core.Bool.{Bool, true, false, not}
 use mathlib.Core.List.{List, [], ◌∷◌, ◌++◌, map, map-map, Memᴰ}
-use mathlib.Core.Option.{Option, none, some}
+use Rattle.std.specs.Prelude.{Option, None, Some}
 use native.Mathlib.Omega.{arith}
 use lib.Dec.{ltb}
 use lib.ListN.{length, drop, length-append}
@@ -48,8 +48,8 @@ use Rattle.demands.proofs.Started.{fit_book}
 module _ {A B : Type 0} where
   held_encoded_is : (f : B → A) (s : List (Option B)) → held (encoded f s) ≡ map f (held s)
   held_encoded_is f [] = refl
-  held_encoded_is f (none ∷ s) = held_encoded_is f s
-  held_encoded_is f (some x ∷ s) = ap (λ (l : List A). f x ∷ l) (held_encoded_is f s)
+  held_encoded_is f (None ∷ s) = held_encoded_is f s
+  held_encoded_is f (Some x ∷ s) = ap (λ (l : List A). f x ∷ l) (held_encoded_is f s)
 
 -- what gives back all but what nothing in the list is
 map_back : {A : Type 0} (g : A → Bool) (f : A → A) → ((x : A) → g x ≡ false → f x ≡ x) → (l : List A) → count g l ≡ 0 → map f l ≡ l

@@ -1,6 +1,5 @@
 -- The lent tables hold what the accepted lines say, and nothing besides. Assumes nothing.
-use Rattle.std.specs.Prelude.{ℕ, ◌≤◌, ◌≡◌, List, [], ◌∷◌, length, replicate}
-use Rattle.std.proofs.Math.Option.{Option, none, some}
+use Rattle.std.specs.Prelude.{ℕ, ◌≤◌, ◌≡◌, List, [], ◌∷◌, length, replicate, Option, None, Some}
 use Rattle.lines.specs.Line.{classes}
 use Rattle.rows.specs.View.{view}
 use Rattle.rows.specs.References.{references}
@@ -29,8 +28,8 @@ module _ {A B : Type 0} where
   -- what each used slot holds, as a row
   abbrev pub encoded : (B → A) → List (Option B) → List (Option A)
   encoded f [] = []
-  encoded f (none ∷ s) = none ∷ encoded f s
-  encoded f (some x ∷ s) = some (f x) ∷ encoded f s
+  encoded f (None ∷ s) = None ∷ encoded f s
+  encoded f (Some x ∷ s) = Some (f x) ∷ encoded f s
 
 -- what was made, as a row, with the class stated of it so far
 abbrev pub reference_row : History → Made Alive → Reference

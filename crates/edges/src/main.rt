@@ -2,7 +2,7 @@
 // event, or the event's letter and numbers. An N has its count and all eight slots; an R has its result, then its status.
 #![tactic(auto)]
 
-ghost use Rattle.std.specs.Prelude.{◌≡◌, ◌<◌, ◌≤◌, length, take, IfOk};
+ghost use Rattle.std.specs.Prelude.{◌<◌, ◌≤◌, length, IfSome, IfOk};
 
 use lines::{Event, LINE_FEED, TAB};
 use std::io;
@@ -19,19 +19,14 @@ const LF_SPELLED: u8 = b'$';
 
 const ESCAPE: u8 = b'\\';
 
-// Given instead of a digit, or more instead of a byte.
-const NONE: u32 = 256;
-
 fn put_number(rt: &impl Print, n: Handle) -> io::Result<()> {
     print!(rt; " {n}")
 }
 
 fn put_numbers(rt: &impl Print, letter: &[u8], n: &[Handle]) -> io::Result<()> {
     rt.write_all(letter)?;
-    let mut i = 0;
-    while i < n.len() {
-        put_number(rt, n[i])?;
-        i += 1;
+    for x in n {
+        put_number(rt, *x)?;
     }
     Ok(())
 }
@@ -104,101 +99,81 @@ fn put_event(rt: &impl Print, e: Event, h: &[Handle; 8]) -> io::Result<()> {
             ],
         ),
         Event::End => rt.write_all(b" Z"),
-        Event::Refused(k) => put_number(rt, k as Handle),
     }
 }
 
 // A hexadecimal digit.
-fn digit(b: u8) -> u32
-    ensures { result ≤ 256 }
+fn digit(b: u8) -> Option<u8>
+    ensures { IfSome result (λ d. d < 16) }
 {
     match b {
-        b'0'..=b'9' => (b - b'0') as u32,
-        b'a'..=b'f' => (b - b'a' + 10) as u32,
-        _ => NONE,
+        b'0'..=b'9' => Some(b - b'0'),
+        b'a'..=b'f' => Some(b - b'a' + 10),
+        _ => None,
     }
 }
 
 // The byte that b alone spells.
-fn byte_of(b: u8) -> u32 {
+fn byte_of(b: u8) -> Option<u8> {
     match b {
-        TAB_SPELLED => TAB as u32,
-        LF_SPELLED => LINE_FEED as u32,
-        ESCAPE => NONE,
-        _ => b as u32,
+        TAB_SPELLED => Some(TAB),
+        LF_SPELLED => Some(LINE_FEED),
+        ESCAPE => None,
+        _ => Some(b),
     }
 }
 
 // The byte that s spells first.
-fn first_byte(s: &[u8]) -> u32
+fn first_byte(s: &[u8]) -> Option<u8>
     requires { 0 < length s.now }
 {
     if 2 < s.len() && s[0] == ESCAPE {
-        return digit(s[1]) * 16 + digit(s[2]);
+        return Some(digit(s[1])? * 16 + digit(s[2])?);
     }
     byte_of(s[0])
 }
 
-// Puts the bytes that s spells after its tab into line and answers how many, or line's length where there is no tab, s is too long or
+// Puts the bytes that s spells after its tab into line and answers how many; none where there is no tab, s is too long or
 // a byte is badly written.
-fn decode(s: &[u8], line: &mut [u8]) -> usize
+fn decode(s: &[u8], line: &mut [u8]) -> Option<usize>
     requires { length line.old ≤ 4096 }
-    ensures bound { result ≤ length line.new }
-    ensures value { result ≡ length (take result line.new) }
+    ensures { IfSome result (λ n. n ≤ length line.new) }
 {
-    let most = line.len();
-    if s.len() == 0 || most < s.len() {
-        return most;
+    if s.len() == 0 || line.len() < s.len() {
+        return None;
     }
     let mut from = 1;
     let mut n = 0;
+    // No chain is plainer: one byte is spelled by one or by three.
     while from < s.len() {
-        let b = first_byte(&s[from..]);
-        if NONE <= b {
-            return most;
-        }
-        line[n] = b as u8;
+        line[n] = first_byte(&s[from..])?;
         n += 1;
         if s[from] == ESCAPE {
             from += 2;
         }
         from += 1;
     }
-    n
+    Some(n)
 }
 
 // The slots are filled beforehand, so that what the reader leaves in them shows.
 fn put_answer(rt: &impl Print, s: &[u8]) -> io::Result<()> {
     let mut line = [0; 4096];
-    let n = decode(s, &mut line);
-    if n == line.len() {
+    let Some(n) = decode(s, &mut line) else {
         return rt.write_all(b" badly written or too long");
-    }
+    };
     let mut h = [7; 8];
-    let e = lines::read_line(&line[..n], &mut h);
-    put_event(rt, e, &h)
-}
-
-// The place of the first byte b, or the length.
-fn place_of(b: u8, s: &[u8]) -> usize
-    ensures bound { result ≤ length s.now }
-    ensures value { result ≡ length (take result s.now) }
-{
-    let mut i = 0;
-    while i < s.len() {
-        if s[i] == b {
-            return i;
-        }
-        i += 1;
+    match lines::read_line(&line[..n], &mut h) {
+        Ok(e) => put_event(rt, e, &h),
+        Err(k) => put_number(rt, Handle::from(k.number())),
     }
-    i
 }
 
 fn show(rt: &impl Print, s: &[u8]) -> io::Result<()> {
-    if s.len() == 0 || s[0] == COMMENT {
+    if matches!(s.first(), None | Some(&COMMENT)) {
         return Ok(());
     }
-    let to = place_of(TAB, s);
+    let to = s.iter().position(|b| *b == TAB).unwrap_or(s.len());
     rt.write_all(&s[..to])?;
     rt.write_all(b":")?;
     put_answer(rt, &s[to..])?;
@@ -208,11 +183,8 @@ fn show(rt: &impl Print, s: &[u8]) -> io::Result<()> {
 fn show_all(rt: &impl Print, s: &[u8]) -> io::Result<()>
     requires { length s.now < 65536 }
 {
-    let mut from = 0;
-    while from < s.len() {
-        let to = from + place_of(LINE_FEED, &s[from..]);
-        show(rt, &s[from..to])?;
-        from = to + 1;
+    for case in s.split(|b| *b == LINE_FEED) {
+        show(rt, case)?;
     }
     Ok(())
 }
@@ -222,6 +194,7 @@ fn read_full(mut stdin: Stdin, buf: &mut [u8]) -> io::Result<usize>
     ensures { IfOk result (λ n. n ≤ length buf.new) }
 {
     let mut done = 0;
+    // No chain is plainer: a read may give less than is asked for, and there is no heap for `read_to_end`.
     while done < buf.len() {
         let n = stdin.read(&mut buf[done..])?;
         if n == 0 {

@@ -1,4 +1,5 @@
--- A signed number's sign and zero, by its bits. Assumes nothing.
+-- A signed number's sign and zero, by its bits; what an item asked for that is no call. Assumes nothing.
+use Prim.Native.Nat.{ℕ}
 use mathlib.Core.Path.{◌≡◌, refl, sym, subst, ◌∙◌}
 use mathlib.Core.Bool.{true, false}
 use native.Mathlib.Decide.{ℕ_discrete}
@@ -10,6 +11,10 @@ use lib.Signed.{lt_z, non_neg}
 use mir.Syntax.{w32}
 use mir.Val.{Fits, SFits, of_z}
 use Rattle.lines.specs.Line.{is_zero, above_zero}
+use Rattle.std.specs.Prelude.{Some}
+use Rattle.history.specs.Items.{asked}
+use Rattle.book.specs.Threads.{top_is}
+use Rattle.book.specs.declared.Item.{Item}
 use Rattle.act.proofs.Returning.{zero_status, other_status}
 
 pub below_zero : (n : ℤ) {z : ℤ} → z ≡ n → lt_z z (pos 0) ≡ true → 0 ≡ above_zero n
@@ -30,3 +35,10 @@ zero_bits s f = go (ℕ_discrete (of_z w32 s) 0)
     go : Dec (of_z w32 s ≡ 0) → eqb (of_z w32 s) 0 ≡ is_zero s
     go (yes e) = eq-eqb (of_z w32 s) 0 e ∙ sym (zero_status s f e)
     go (no e) = ne_eqb (of_z w32 s) 0 e ∙ sym (other_status s e)
+
+-- an item that is no call asked for none
+pub no_call : (i : Item) → ((f k : ℕ) → i ≡ Item.Call f k → ⊥) → 0 ≡ asked (top_is (Some i))
+unfolding top_is
+no_call Item.Native n = refl
+no_call Item.Attached n = refl
+no_call (Item.Call f k) n = absurd (n f k refl)

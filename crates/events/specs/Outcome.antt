@@ -1,11 +1,9 @@
 -- What a line is answered and what it leaves, all but the open items. Assumes nothing.
-use Rattle.std.specs.Prelude.{ℕ}
-use Rattle.std.proofs.Math.Option.{Option}
+use Rattle.std.specs.Prelude.{ℕ, Option}
 use Rattle.lines.specs.Line.{Line}
 use Rattle.history.specs.Items.{Item, asked}
 use Rattle.history.specs.Replies.{Reply, accepted, not_accepted}
-use Rattle.answers.specs.declared.Answer.{Answer}
-use Rattle.answers.specs.Answer.{refused_with, answer_of}
+use Rattle.answers.specs.Answer.{Answer, refused_with, answer_of}
 use Rattle.tables.specs.Tables.{Tables}
 use Rattle.tables.specs.Weighing.{weighed_in}
 use Rattle.tables.specs.Acting.{acted}

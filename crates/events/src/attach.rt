@@ -5,8 +5,9 @@ ghost use Rattle.book.specs.Threads.{top_is};
 ghost use Rattle.tables.specs.Tables.{tables};
 ghost use Rattle.events.specs.Outcome.{leaves, line_outcome};
 
-use answers::Answer;
+use answers::{Answer, Findings};
 use book::Top;
+use lines::refusal::Refusal;
 use rows::Number;
 use words::Handle;
 
@@ -24,13 +25,10 @@ pub fn attach(
     ensures { (ps ns cs : List ℕ) → leaves result (tables rows.new marks.new ps ns book.new cs) ≡ line_outcome line (line_A t env) (top_is top) many (tables rows.old marks.old ps ns book.old cs) }
 {
     if !weigh::attach::in_turn(book::is_closed(book), top) {
-        return answers::refused(4);
+        return Err(Refusal::OutOfStep);
     }
     let seen = sight::enter::enter(rows, marks, &[], book, t, env, &[]);
-    let k = weigh::enter::refusal(seen, many, env, &[]);
-    if k != 0 {
-        return answers::refused(k);
-    }
+    weigh::enter::allows(seen, many, env, &[])?;
     act::enter::enter(rows, marks, book, line, t, env, &[]);
-    answers::nothing()
+    Ok(Findings::none())
 }

@@ -30,10 +30,7 @@ pub fn call(
 ) -> Answer
     ensures { (n : ℤ) → leaves result (tables rows.new marks.new pins.new pinmarks.new book.new classes.now) ≡ line_outcome line (C t env f a b c n) (top_is top) many (tables rows.old marks.old pins.old pinmarks.old book.old classes.now) }
 {
-    let k = weigh::call::refusal(book::is_closed(book), top, many);
-    if k != 0 {
-        return answers::refused(k);
-    }
+    weigh::call::allows(book::is_closed(book), top, many)?;
     let seen = sight::call::call(
         rows,
         marks,
@@ -53,5 +50,5 @@ pub fn call(
     let y = seen.b;
     let p = seen.pb;
     act::call::call(rows, marks, pins, pinmarks, book, t, f, a, x.row, p, y.row);
-    weigh::call::findings(seen, line, env, f, a, b, c)
+    Ok(weigh::call::findings(seen, line, env, f, a, b, c))
 }

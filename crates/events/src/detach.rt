@@ -22,11 +22,8 @@ pub fn detach(
 ) -> Answer
     ensures { (cs : List ℕ) (many : ℕ) → leaves result (tables rows.new marks.new pins.now pinmarks.now book.new cs) ≡ line_outcome line (D t) (top_is top) many (tables rows.old marks.old pins.now pinmarks.now book.old cs) }
 {
-    let k = weigh::detach::refusal(book::is_closed(book), top);
-    if k != 0 {
-        return answers::refused(k);
-    }
+    weigh::detach::allows(book::is_closed(book), top)?;
     let seen = sight::detach::detach(pins, pinmarks, &[], book, t);
     act::detach::detach(rows, marks, book, t);
-    weigh::detach::findings(seen, line)
+    Ok(weigh::detach::findings(seen, line))
 }

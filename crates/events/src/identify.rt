@@ -1,12 +1,11 @@
 // M: weighed; where it is accepted, what its identity is is stated.
-ghost use Rattle.std.specs.Prelude.{◌≡◌, List, ℕ};
-ghost use Rattle.std.proofs.Math.Option.{Option};
+ghost use Rattle.std.specs.Prelude.{◌≡◌, List, ℕ, Option};
 ghost use Rattle.lines.specs.Line.{M as line_M, states};
 ghost use Rattle.history.specs.Items.{Item};
 ghost use Rattle.tables.specs.Tables.{tables};
 ghost use Rattle.events.specs.Outcome.{leaves, line_outcome};
 
-use answers::Answer;
+use answers::{Answer, Findings};
 use rows::Number;
 use words::Handle;
 
@@ -22,10 +21,7 @@ pub fn identify(
     ensures { (rs ms ps ns : List ℕ) (line : ℕ) (top : Option Item) (many : ℕ) → leaves result (tables rs ms ps ns book.new classes.new) ≡ line_outcome line (states (line_M x sort c isstatic isfinal)) top many (tables rs ms ps ns book.old classes.old) }
 {
     let seen = sight::identify::identify(classes, x, c);
-    let k = weigh::identify::refusal(book::is_closed(book), seen);
-    if k != 0 {
-        return answers::refused(k);
-    }
+    weigh::identify::allows(book::is_closed(book), seen)?;
     act::identify::identify(book, classes, seen.place, x, sort, isstatic, isfinal);
-    answers::nothing()
+    Ok(Findings::none())
 }

@@ -24,11 +24,8 @@ pub fn leave(
 ) -> Answer
     ensures { (cs : List ℕ) (many : ℕ) → leaves result (tables rows.new marks.new pins.now pinmarks.now book.new cs) ≡ line_outcome line (X t res) (top_is top) many (tables rows.old marks.old pins.now pinmarks.now book.old cs) }
 {
-    let k = weigh::leave::refusal(book::is_closed(book), top);
-    if k != 0 {
-        return answers::refused(k);
-    }
+    weigh::leave::allows(book::is_closed(book), top)?;
     let seen = sight::leave::leave(rows, marks, &[], pins, pinmarks, &[], t, res);
     act::leave::leave(rows, marks, book, t);
-    weigh::leave::findings(seen, line, res)
+    Ok(weigh::leave::findings(seen, line, res))
 }

@@ -8,7 +8,8 @@ ghost use Rattle.tables.specs.Tables.{tables};
 ghost use Rattle.events.specs.Outcome.{leaves, line_outcome};
 
 use answers::Answer;
-use book::Top;
+use book::{Item, Top};
+use lines::refusal::Refusal;
 use rows::Number;
 use words::Handle;
 
@@ -16,12 +17,11 @@ use words::Handle;
 pub fn capacity_asked(top: Top) -> u32
     ensures { result ≡ asked (top_is top) }
 {
-    match top {
-        Top::Nothing => 0,
-        Top::Native => 0,
-        Top::Attached => 0,
-        Top::Call(_, n) => n,
+    let Some(item) = top else { return 0 };
+    if let Item::Call(_, n) = item {
+        return n;
     }
+    0
 }
 
 // Line number `line`; `top` is on top of the thread's open items.
@@ -42,13 +42,10 @@ pub fn returns(
     ensures { (cs : List ℕ) (many : ℕ) → leaves result (tables rows.new marks.new pins.new pinmarks.new book.new cs) ≡ line_outcome line (R t f (result_in_line f res status) pending) (top_is top) many (tables rows.old marks.old pins.old pinmarks.old book.old cs) }
 {
     if !weigh::returns::in_turn(book::is_closed(book), f, top) {
-        return answers::refused(4);
+        return Err(Refusal::OutOfStep);
     }
     let seen = sight::returns::returns(rows, marks, &[], pins, pinmarks, book, t, f, res);
-    let k = weigh::returns::refusal(seen, f, status == 0);
-    if k != 0 {
-        return answers::refused(k);
-    }
+    weigh::returns::allows(seen, f, status == 0)?;
     let kind = seen.kind;
     let new = seen.made;
     act::returns::returns(
@@ -67,5 +64,5 @@ pub fn returns(
         pending,
         capacity_asked(top),
     );
-    weigh::returns::findings(seen, line, res)
+    Ok(weigh::returns::findings(seen, line, res))
 }

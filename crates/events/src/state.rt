@@ -1,12 +1,11 @@
 // O: weighed; where it is accepted, the class of its handle is stated.
-ghost use Rattle.std.specs.Prelude.{◌≡◌, List, ℕ};
-ghost use Rattle.std.proofs.Math.Option.{Option};
+ghost use Rattle.std.specs.Prelude.{◌≡◌, List, ℕ, Option};
 ghost use Rattle.lines.specs.Line.{O, states};
 ghost use Rattle.history.specs.Items.{Item};
 ghost use Rattle.tables.specs.Tables.{tables};
 ghost use Rattle.events.specs.Outcome.{leaves, line_outcome};
 
-use answers::Answer;
+use answers::{Answer, Findings};
 use rows::Number;
 use words::Handle;
 
@@ -22,10 +21,7 @@ pub fn state(
     ensures { (ps ns : List ℕ) (line : ℕ) (top : Option Item) (many : ℕ) → leaves result (tables rows.new marks.now ps ns book.new classes.now) ≡ line_outcome line (states (O t h c)) top many (tables rows.old marks.now ps ns book.old classes.now) }
 {
     let seen = sight::state::state(rows, marks, &[], classes, t, h, c);
-    let k = weigh::state::refusal(book::is_closed(book), seen);
-    if k != 0 {
-        return answers::refused(k);
-    }
+    weigh::state::allows(book::is_closed(book), seen)?;
     act::state::state(rows, marks, book, seen.row, c);
-    answers::nothing()
+    Ok(Findings::none())
 }

@@ -2,6 +2,7 @@
 use Prim.Native.Nat.{ℕ, ◌+◌, ◌≤◌, ◌<◌}
 use mathlib.Core.Path.{◌≡◌, refl, ap, ◌∙◌}
 use mathlib.Core.List.{List, []}
+use Rattle.std.specs.Prelude.{Result}
 use native.Mathlib.Omega.{arith}
 use native.Mathlib.Decide.{dec_lt}
 use borrow.Author.Tests.{lt-ltb, le-ltb, le-leb, lt-leb}
@@ -14,11 +15,11 @@ use Rattle.lines.specs.Line.{classes}
 use Rattle.book.specs.Layout.{whole}
 use Rattle.tables.specs.Tables.{Tables}
 use Rattle.demands.specs.Calls.{room_of, Long}
-use Rattle.trace.specs.declared.Reported.{Reported}
+use Rattle.trace.specs.declared.Unreported.{Unreported}
 use Rattle.trace.specs.Whole.{Outcome, leaves, whole_outcome}
 use Rattle.exported.specs.Judged.{judges, length_told, judged, Apart}
 
-pub judging_told : {r : Reported} {T : Tables} {bs : List ℕ} {o : Outcome} {n : ℕ} → leaves r T bs ≡ o → n ≡ length_told r → judges n T bs ≡ judged o
+pub judging_told : {r : Result ℕ Unreported} {T : Tables} {bs : List ℕ} {o : Outcome} {n : ℕ} → leaves r T bs ≡ o → n ≡ length_told r → judges n T bs ≡ judged o
 unfolding judged
 judging_told {r} {T} {bs} {o} {n} e h = ap (λ (m : ℕ). judges m T bs) h ∙ ap judged e
 

@@ -3,15 +3,15 @@ use Prim.Native.Nat.{ℕ, ◌+◌, ◌/◌, ◌≤◌}
 use mathlib.Core.Path.{◌≡◌, sym, ap, subst, ◌∙◌}
 use mathlib.Core.Bool.{Bool, true, false, not}
 use mathlib.Core.List.{List, ◌++◌}
+use Rattle.std.specs.Prelude.{Result, Ok, Err}
 use native.Mathlib.Omega.{arith}
 use lib.Dec.{ltb}
-use lib.IntN.{ℤ, pos, ◌-ℤ◌}
+use lib.IntN.{ℤ, pos}
 use lib.ListN.{length, drop}
 use mir.Syntax.{w32}
-use mir.Val.{SFits, to_z, of_z}
-use mir.ValLaws.{to_z_pos, to_z-of_z}
+use mir.Val.{SFits, to_z}
+use mir.ValLaws.{to_z_pos}
 use borrow.Author.Rules.{sfits_of}
-use Rattle.numbers.proofs.Minus.{minus_is, minus_fits}
 use Rattle.words.specs.Choice.{if_true◌then◌else◌}
 use Rattle.words.specs.Lists.{joined}
 use Rattle.rows.specs.Table.{most}
@@ -20,22 +20,18 @@ use Rattle.book.specs.Unfit.{unfit}
 use Rattle.tables.specs.Tables.{Tables}
 use Rattle.tables.specs.Listing.{leaks_in, leak_numbers, numbers_of, written, not_written, Listing, lists, list_into, list_of}
 use Rattle.tables.proofs.Leaking.{leaks_within}
-use Rattle.leaks.specs.declared.Listed.{Listed}
-use Rattle.leaks.specs.declared.Listed.TheVariants as Listed
+use Rattle.lines.specs.declared.refusal.Refusal.{Refusal}
 use Rattle.leaks.specs.Reply.{reply_of}
 use Rattle.exported.specs.Listed.{Few, tells_list, list_told, number_listed}
 
 -- ---- the number told
 
-module _ (l : Listed) (n : ℕ) where
-  pub count_fits : l ≡ Listed.Written n → Few l → SFits w32 (pos n)
+module _ (l : Result ℕ Refusal) (n : ℕ) where
+  pub count_fits : l ≡ Ok n → Few l → SFits w32 (pos n)
   count_fits e few = let h : n ≤ 2147483647 = subst Few e few in sfits_of (omega arith)
 
-  pub count_listed : l ≡ Listed.Written n → Few l → to_z w32 n ≡ number_listed l
+  pub count_listed : l ≡ Ok n → Few l → to_z w32 n ≡ number_listed l
   count_listed e few = to_z_pos w32 n (count_fits e few).sfits ∙ sym (ap number_listed e)
-
-  pub refusal_listed : l ≡ Listed.Refused n → SFits w32 (pos n) → to_z w32 (of_z w32 (pos 0 -ℤ to_z w32 n)) ≡ number_listed l
-  refusal_listed e f = to_z-of_z w32 (pos 0 -ℤ to_z w32 n) (minus_fits f) ∙ minus_is f ∙ sym (ap number_listed e)
 
 -- ---- how many there may be
 
@@ -62,13 +58,13 @@ written_few T ns n = go (unfit T.book) (not (closed_in T.book)) (ltb (length ns 
     go false false false h = omega (arith, written_as (length (leaks_in T)) n h, leaks_within T)
 
 module _ (T : Tables) (ns : List ℕ) where
-  pub few_listed : (r : Listed) {ns' : List ℕ} → lists (reply_of r) ns' ≡ list_of T ns → Few r
+  pub few_listed : (r : Result ℕ Refusal) {ns' : List ℕ} → lists (reply_of r) ns' ≡ list_of T ns → Few r
   few_listed r {ns'} e = go r (ap (λ (l : Listing). l.reply) e)
     where
-      go : (r : Listed) → reply_of r ≡ (list_of T ns).reply → Few r
-      go (Listed.Written n) h = omega (arith, written_few T ns n (sym h))
-      go (Listed.Refused k) h = tt
+      go : (r : Result ℕ Refusal) → reply_of r ≡ (list_of T ns).reply → Few r
+      go (Ok n) h = omega (arith, written_few T ns n (sym h))
+      go (Err k) h = tt
 
-  pub listing_told : (r : Listed) {ns' : List ℕ} {n : ℤ} → lists (reply_of r) ns' ≡ list_of T ns → n ≡ number_listed r → tells_list n ns' ≡ list_told (list_of T ns)
+  pub listing_told : (r : Result ℕ Refusal) {ns' : List ℕ} {n : ℤ} → lists (reply_of r) ns' ≡ list_of T ns → n ≡ number_listed r → tells_list n ns' ≡ list_told (list_of T ns)
   unfolding list_told
   listing_told r {ns'} {n} e h = ap (λ (m : ℤ). tells_list m ns') h ∙ ap list_told e

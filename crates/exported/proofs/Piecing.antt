@@ -1,26 +1,15 @@
 -- What is told of a piece of a trace. Assumes nothing.
 use Prim.Native.Nat.{ℕ, ◌≤◌, ◌<◌}
-use mathlib.Core.Path.{◌≡◌, refl, sym, ap, ◌∙◌}
+use mathlib.Core.Path.{◌≡◌, refl, ap, ◌∙◌}
 use mathlib.Core.List.{List, [], ◌∷◌}
 use native.Mathlib.Omega.{arith}
-use lib.IntN.{ℤ, pos, ◌-ℤ◌}
+use lib.IntN.{ℤ}
 use lib.ListN.{length, set}
-use mir.Syntax.{w32}
-use mir.Val.{SFits, to_z, of_z}
-use mir.ValLaws.{to_z-of_z}
 use borrow.Author.Tests.{lt-ltb, le-ltb}
-use Rattle.numbers.proofs.Minus.{minus_is, minus_fits}
 use Rattle.tables.specs.Tables.{Tables}
 use Rattle.run.specs.declared.Passed.{Passed}
-use Rattle.run.specs.declared.Stop.{Stop}
-use Rattle.run.specs.declared.Stop.TheVariants as Stop
 use Rattle.run.specs.Running.{Outcome, leaves, piece_outcome}
 use Rattle.exported.specs.Pieced.{tells_piece, stop_told, far_numbers, short_far, is_ended, far_put, pieced, piece_told}
-
--- ---- the number told
-
-pub refused_told : (stop : Stop) {k : ℕ} → stop ≡ Stop.Refused k → SFits w32 (pos k) → to_z w32 (of_z w32 (pos 0 -ℤ to_z w32 k)) ≡ stop_told stop
-refused_told stop {k} e f = to_z-of_z w32 (pos 0 -ℤ to_z w32 k) (minus_fits f) ∙ minus_is f ∙ sym (ap stop_told e)
 
 -- ---- the three numbers
 

@@ -1,9 +1,8 @@
 -- What C and Rust are told of the leaks: a number, and the numbers of the slice that are left. Assumes nothing.
-use Rattle.std.specs.Prelude.{ℕ, ◌≤◌, List, ℤ, pos, neg_ℤ}
+use Rattle.std.specs.Prelude.{ℕ, ◌≤◌, List, ℤ, pos, neg_ℤ, Result, IfOk}
 use Rattle.numbers.specs.Signed.{largest_i32}
 use Rattle.tables.specs.Listing.{Listed as Reply, written, not_written, Listing}
-use Rattle.leaks.specs.declared.Listed.{Listed}
-use Rattle.leaks.specs.declared.Listed.TheVariants as Listed
+use Rattle.lines.specs.declared.refusal.Refusal.{Refusal}
 use Rattle.leaks.specs.Reply.{reply_of}
 
 pub record ToldList : Type 0 where
@@ -23,10 +22,9 @@ list_told l = tells_list (reply_number l.reply) l.left
 
 -- ---- on the way there
 
-abbrev pub number_listed : Listed → ℤ
+abbrev pub number_listed : Result ℕ Refusal → ℤ
 number_listed l = reply_number (reply_of l)
 
 -- a number that can be told
-abbrev pub Few : Listed → Type 0
-Few (Listed.Written n) = n ≤ largest_i32
-Few (Listed.Refused k) = Unit {0}
+abbrev pub Few : Result ℕ Refusal → Type 0
+Few l = IfOk l (λ n. n ≤ largest_i32)

@@ -1,10 +1,10 @@
 -- What C and Rust are told of a piece of a trace: a number, the tables left, the bytes left, and the numbers of how far it came. Assumes nothing.
 use Rattle.std.specs.Prelude.{ℕ, zero, suc, Bool, not, List, [], ◌∷◌, eqb, ltb, ℤ, pos, negsuc, neg_ℤ, length}
 use Rattle.words.specs.Choice.{if_true◌then◌else◌}
+use Rattle.lines.specs.Numbered.{number_of, refusal_of}
 use Rattle.tables.specs.Tables.{Tables}
 use Rattle.run.specs.declared.Passed.{Passed}
 use Rattle.run.specs.declared.Stop.{Stop}
-use Rattle.run.specs.declared.Stop.TheVariants as Stop
 use Rattle.run.specs.Running.{Outcome, piece_outcome}
 use Rattle.exported.specs.Told.{over}
 
@@ -22,7 +22,7 @@ abbrev pub stop_told : Stop → ℤ
 stop_told Stop.More = pos 0
 stop_told Stop.Full = pos 1
 stop_told Stop.End = pos 2
-stop_told (Stop.Refused k) = neg_ℤ (pos k)
+stop_told (Stop.Refused k) = neg_ℤ (pos (number_of k))
 
 -- the bytes of the piece that were taken, the bytes of findings that were put, and how many findings these are
 abbrev pub far_of : Passed → List ℕ
@@ -55,4 +55,4 @@ unfoldable pub stop_of : ℤ → Stop
 stop_of (pos zero) = Stop.More
 stop_of (pos (suc zero)) = Stop.Full
 stop_of (pos (suc (suc n))) = Stop.End
-stop_of (negsuc k) = Stop.Refused (suc k)
+stop_of (negsuc k) = Stop.Refused (refusal_of (suc k))

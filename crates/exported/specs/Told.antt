@@ -1,10 +1,11 @@
 -- What C and Rust are told of a step: a number, the tables left, and the findings left as numbers. Assumes nothing.
-use Rattle.std.specs.Prelude.{ℕ, ◌*◌, List, [], ◌∷◌, ◌++◌, eqb, ltb, ℤ, pos, neg_ℤ, length, take, drop}
+use Rattle.std.specs.Prelude.{ℕ, ◌*◌, List, [], ◌∷◌, ◌++◌, ltb, ℤ, pos, neg_ℤ, length, take, drop, Ok, Err}
 use Rattle.std.proofs.lemmas.List.Edits.{sets}
 use Rattle.words.specs.Choice.{if_true◌then◌else◌}
 use Rattle.words.specs.Lists.{joined}
+use Rattle.lines.specs.Numbered.{number_of}
 use Rattle.history.specs.declared.Finding.{Finding}
-use Rattle.answers.specs.Answer.{most_found}
+use Rattle.answers.specs.Answer.{Answer, most_found}
 use Rattle.tables.specs.Tables.{Tables}
 use Rattle.events.specs.Outcome.{Outcome}
 use Rattle.judge.specs.Outcome.{step_outcome}
@@ -18,8 +19,14 @@ abbrev pub tells : ℤ → Tables → List ℕ → Told
 tells n T ns = record { number = n; left = T; found = ns }
 
 -- below zero the number given instead of the line, or how many findings it has
-abbrev pub number_told : ℕ → ℕ → ℤ
-number_told refusal count = if_true eqb refusal 0 then pos count else neg_ℤ (pos refusal)
+abbrev pub number_told : Answer → ℤ
+number_told (Ok f) = pos f.count
+number_told (Err k) = neg_ℤ (pos (number_of k))
+
+-- a refusal has none
+abbrev pub findings_in : Answer → List Finding
+findings_in (Ok f) = take f.count f.found
+findings_in (Err k) = []
 
 -- a finding is four numbers
 abbrev pub numbers : ℕ
@@ -43,13 +50,13 @@ over ms ns = ms ++ drop (length ms) ns
 unfoldable pub in_front : List Finding → List ℕ → List ℕ
 in_front fs ns = over (joined fs numbers_of) ns
 
--- of what a step answers and leaves; a refusal has no findings, so nothing is written for it
+-- of what a step answers and leaves; nothing is written for a refusal
 unfoldable pub told : Outcome → List ℕ → Told
 told o ns =
     tells
-    (number_told o.answer.refusal o.answer.count)
+    (number_told o.answer)
     o.left
-    (in_front (take o.answer.count o.answer.found) ns)
+    (in_front (findings_in o.answer) ns)
 
 -- of a line over these tables; where there is no room for the most findings, nothing is touched
 unfoldable pub step_told : Tables → List ℕ → List ℕ → Told

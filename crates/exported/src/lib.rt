@@ -1,7 +1,7 @@
 // The judge for C and Rust: a start and one step over lent slices, the findings as numbers; a piece of many lines, the findings as bytes; the list of leaks; and a whole trace with its report.
 #![tactic(auto)]
 
-ghost use Rattle.std.specs.Prelude.{◌≡◌, List, ℕ, ◌+◌, ◌*◌, ◌≤◌, length, take};
+ghost use Rattle.std.specs.Prelude.{◌≡◌, List, ℕ, ◌+◌, ◌*◌, ◌≤◌, length, take, IfOk};
 ghost use Rattle.answers.specs.Answer.{most_found};
 ghost use Rattle.tables.specs.Tables.{tables};
 ghost use Rattle.tables.specs.Stepping.{start_of};
@@ -10,14 +10,14 @@ ghost use Rattle.trace.specs.Whole.{whole_outcome};
 ghost use Rattle.exported.specs.Judged.{length_told, judges, judged};
 ghost use Rattle.exported.specs.Listed.{Few, number_listed, tells_list, list_told};
 ghost use Rattle.exported.specs.Pieced.{far_numbers, far_put, stop_told, tells_piece, piece_told};
-ghost use Rattle.exported.specs.Told.{numbers, most_numbers, put_at, in_front, number_told, tells, step_told};
+ghost use Rattle.exported.specs.Told.{numbers, most_numbers, put_at, in_front, number_told, findings_in, tells, step_told};
 
-use answers::Answer;
+use answers::{Answer, Findings};
 use history::Finding;
-use leaks::Listed;
+use lines::refusal::Refusal;
 use rows::Number;
 use run::{Passed, Stop};
-use trace::Reported;
+use trace::Unreported;
 use words::Handle;
 
 // The numbers of a finding, and of the most findings of a line.
@@ -59,29 +59,29 @@ fn put(found: &mut [Handle], at: usize, finding: Finding)
     found[first + 3] = finding.thing;
 }
 
-// The findings of an answer, one behind another.
-fn list(found: &mut [Handle], answer: Answer)
+// The findings of a line, one behind another.
+fn list(found: &mut [Handle], answer: Findings)
     requires { (answer.count ≤ most_found) × (most_numbers ≤ length found.old) }
     ensures { found.new ≡ in_front (take answer.count answer.found) found.old }
 {
-    let count = answer.count;
-    let mut at = 0;
-    while at < count {
+    for at in 0..answer.count {
         let finding = answer.found[at];
         put(found, at, finding);
-        at += 1;
     }
 }
 
-// Below zero the number given instead of the line, or how many findings.
-fn number_told(refusal: u8, count: usize) -> i32
-    requires { count ≤ most_found }
-    ensures { result ≡ number_told refusal count }
+// The findings, and how many they are; or below zero the number given instead of the line.
+fn tell(found: &mut [Handle], answer: Answer) -> i32
+    requires { IfOk answer (λ f. f.count ≤ most_found) × (most_numbers ≤ length found.old) }
+    ensures { (result ≡ number_told answer) × (found.new ≡ in_front (findings_in answer) found.old) }
 {
-    if refusal != 0 {
-        return 0 - (refusal as i32);
+    match answer {
+        Ok(findings) => {
+            list(found, findings);
+            findings.count as i32
+        }
+        Err(k) => k.told(),
     }
-    count as i32
 }
 
 // One line of the trace, all its bytes with the LF: below zero the number given instead of it, or how many findings it has.
@@ -103,8 +103,7 @@ pub fn weir_step(
         return SHORT_FOUND;
     }
     let answer = judge::step(line, rows, marks, pins, pinmarks, book, classes);
-    list(found, answer);
-    number_told(answer.refusal, answer.count)
+    tell(found, answer)
 }
 
 // How far the judging of a piece came, at the front of `far`.
@@ -122,7 +121,7 @@ fn stop_told(stop: Stop) -> i32
     ensures { result ≡ stop_told stop }
 {
     match stop {
-        Stop::Refused(k) => 0 - (k as i32),
+        Stop::Refused(refusal) => refusal.told(),
         Stop::Full => 1,
         Stop::More => 0,
         Stop::End => 2,
@@ -168,13 +167,13 @@ pub fn weir_piece(
 }
 
 // How many records were written, or below zero the number given instead.
-fn number_listed(listed: Listed) -> i32
+fn number_listed(listed: Result<usize, Refusal>) -> i32
     requires { Few listed }
     ensures { result ≡ number_listed listed }
 {
     match listed {
-        Listed::Written(n) => n as i32,
-        Listed::Refused(k) => 0 - (k as i32),
+        Ok(n) => n as i32,
+        Err(refusal) => refusal.told(),
     }
 }
 
@@ -195,13 +194,13 @@ pub fn weir_leaks(
 }
 
 // How long the report is, written or not; 0 over a short book or class table.
-fn length_told(reported: Reported) -> usize
+fn length_told(reported: Result<usize, Unreported>) -> usize
     ensures { result ≡ length_told reported }
 {
     match reported {
-        Reported::Bytes(n) => n,
-        Reported::Needs(n) => n,
-        Reported::ShortTables => 0,
+        Ok(n) => n,
+        Err(Unreported::Needs(n)) => n,
+        Err(Unreported::ShortTables) => 0,
     }
 }
 

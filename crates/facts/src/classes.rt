@@ -18,7 +18,7 @@ pub const THROWABLE: u32 = 4;
 pub fn is_reserved(c: u32) -> bool
     ensures { result ≡ is_reserved c }
 {
-    (OBJECT <= c) & (c <= THROWABLE)
+    (OBJECT..=THROWABLE).contains(&c)
 }
 
 // The class fixed for the result of function f.

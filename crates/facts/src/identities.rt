@@ -35,10 +35,8 @@ fn as_wanted(b: u8) -> Wanted
     match b {
         b'm' => Wanted::ObjectMethod,
         b'M' => Wanted::StaticMethod,
-        b'f' => Wanted::ObjectField,
-        b'w' => Wanted::ObjectField,
-        b'F' => Wanted::StaticField,
-        b'W' => Wanted::StaticField,
+        b'f' | b'w' => Wanted::ObjectField,
+        b'F' | b'W' => Wanted::StaticField,
         b'a' => Wanted::AnyMethod,
         b'b' => Wanted::AnyField,
         _ => Wanted::Nothing,

@@ -50,34 +50,25 @@ pub enum Result {
 fn as_result(b: u8) -> Result
     ensures { result ≡ result_in b }
 {
-    if b == b'L' {
-        return Result::Local;
+    match b {
+        b'L' => Result::Local,
+        b'G' => Result::Global,
+        b'W' => Result::Weak,
+        b'I' => Result::Identity,
+        b'B' => Result::Buffer,
+        b'S' => Result::Status,
+        _ => Result::Nothing,
     }
-    if b == b'G' {
-        return Result::Global;
-    }
-    if b == b'W' {
-        return Result::Weak;
-    }
-    if b == b'I' {
-        return Result::Identity;
-    }
-    if b == b'B' {
-        return Result::Buffer;
-    }
-    if b == b'S' {
-        return Result::Status;
-    }
-    Result::Nothing
 }
 
 fn as_family(b: u8) -> u32
     ensures { result ≡ family_in b }
 {
     if b < b'A' {
-        return NO_FAMILY;
+        NO_FAMILY
+    } else {
+        u32::from(b - b'A')
     }
-    (b - b'A') as u32
 }
 
 pub fn result_of(f: u32) -> Result
@@ -98,7 +89,7 @@ pub fn allowed_critical(f: u32) -> bool
     letter(columns::CRITICAL, f) != NONE
 }
 
-// 0 to 11, or 12 for a function of no family.
+// 0 to 11, or 12 for a function of no family: a number, since `family` of specs/Table.antt and the rows of the tables have it so.
 pub fn family(f: u32) -> u32
     ensures { result ≡ family f }
 {
@@ -109,5 +100,5 @@ pub fn family(f: u32) -> u32
 pub fn is_critical(k: u32) -> bool
     ensures { result ≡ is_critical k }
 {
-    (FIRST_CRITICAL <= k) & (k <= LAST_CRITICAL)
+    (FIRST_CRITICAL..=LAST_CRITICAL).contains(&k)
 }

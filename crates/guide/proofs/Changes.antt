@@ -1,7 +1,7 @@
 -- Rows of any layout as what each holds: one more, as a store or a look at the next row makes it, and one less. Assumes nothing.
 use mathlib.Core.Path.{◌≡◌, sym, ap, ◌∙◌}
 use mathlib.Core.Bool.{true, false≢true}
-use mathlib.Core.Option.{Option, none, some}
+use Rattle.std.specs.Prelude.{Option, None, Some}
 use Prim.Native.Nat.{ℕ, suc, ◌+◌, ◌≤◌, ◌<◌}
 use native.Mathlib.Decide.{ℕ_discrete}
 use native.Mathlib.Omega.{arith}
@@ -17,10 +17,10 @@ use Rattle.guide.specs.Words.{lane}
 use Rattle.guide.specs.Tallies.{tally}
 use Rattle.guide.proofs.TallyLaws.{tally_more, tally_next}
 
-pub not_none : {A : Type 0} (y : A) → none ≡ some y → ⊥
+pub not_none : {A : Type 0} (y : A) → None ≡ Some y → ⊥
 not_none y e = false≢true (ap (holding (λ z. true)) e)
 
-pub some_inj : {A : Type 0} (x y : A) → some x ≡ some y → x ≡ y
+pub some_inj : {A : Type 0} (x y : A) → Some x ≡ Some y → x ≡ y
 some_inj x y e = cc
 
 pub below_last : (j n : ℕ) → j < suc n → (j ≡ n → ⊥) → j < n
@@ -31,9 +31,9 @@ module _ {A : Type 0} (L : Layout A) where
   pub record Added (T : Table) (S : ℕ → Option A) (n : ℕ) (S' : ℕ → Option A) (n' r : ℕ) (x : A) : Type 0 where
     pub low : r < lane
     pub few : n' ≤ most
-    pub this : S' r ≡ some x
-    pub old : (k : ℕ) (y : A) → k < n' → (k ≡ r → ⊥) → S' k ≡ some y → (k < n) × (S k ≡ some y)
-    pub held : (k : ℕ) (y : A) → k < n' → S' k ≡ some y → get_or (view L T) k none ≡ some y
+    pub this : S' r ≡ Some x
+    pub old : (k : ℕ) (y : A) → k < n' → (k ≡ r → ⊥) → S' k ≡ Some y → (k < n) × (S k ≡ Some y)
+    pub held : (k : ℕ) (y : A) → k < n' → S' k ≡ Some y → get_or (view L T) k None ≡ Some y
     pub grows : (cell : A → ℕ) (j : ℕ) → tally cell S' n' j ≡ tally cell S n j + one (eqb (cell x) j)
 
   low_row : (T : Table) (r : ℕ) → r < room L T → r < lane
@@ -44,7 +44,7 @@ module _ {A : Type 0} (L : Layout A) where
   unfolding room
   few_rows T = omega arith
 
-  module _ (T : Table) (r : ℕ) (x : A) (l : r < room L T) (free : slot L T r ≡ none) where
+  module _ (T : Table) (r : ℕ) (x : A) (l : r < room L T) (free : slot L T r ≡ None) where
     abbrev after : Table
     after = stored L T r x
 
@@ -64,10 +64,10 @@ module _ {A : Type 0} (L : Layout A) where
               ∙ tally_more cell (slot L T) (slot L after) (room L T) r x l free (slot_stored_same L T r x l) (λ k m d. slot_stored_other L T r k x l d) j;
         }
 
-    pub stored_there : get_or (view L after) r none ≡ some x
+    pub stored_there : get_or (view L after) r None ≡ Some x
     stored_there = view_at L after r (omega (arith, l, same_room)) ∙ slot_stored_same L T r x l
 
-  pub added_next : (T : Table) (n : ℕ) (x : A) → n < room L T → slot L T n ≡ some x → Added T (slot L T) n (slot L T) (suc n) n x
+  pub added_next : (T : Table) (n : ℕ) (x : A) → n < room L T → slot L T n ≡ Some x → Added T (slot L T) n (slot L T) (suc n) n x
   added_next T n x l e =
       record {
         low = low_row T n l;
@@ -75,25 +75,25 @@ module _ {A : Type 0} (L : Layout A) where
         this = e;
         old = λ k y m d q. (below_last k n m d, q);
         held = λ k y m q. view_at L T k (omega arith) ∙ q;
-        grows = λ cell j. tally_next cell (slot L T) n (some x) e j;
+        grows = λ cell j. tally_next cell (slot L T) n (Some x) e j;
       }
 
   -- row r holds x, then nothing; the other rows are the same
   pub record Removed (S S' : ℕ → Option A) (n r : ℕ) (x : A) : Type 0 where
     pub low : r < n
-    pub was : S r ≡ some x
-    pub is : S' r ≡ none
+    pub was : S r ≡ Some x
+    pub is : S' r ≡ None
     pub same : (k : ℕ) → k < n → (k ≡ r → ⊥) → S' k ≡ S k
 
-  pub removed_ended : (T : Table) (r : ℕ) (x : A) → r < room L T → slot L T r ≡ some x → Removed (slot L T) (slot L (ended L T r)) (room L T) r x
+  pub removed_ended : (T : Table) (r : ℕ) (x : A) → r < room L T → slot L T r ≡ Some x → Removed (slot L T) (slot L (ended L T r)) (room L T) r x
   removed_ended T r x l e = record { low = l; was = e; is = slot_ended_same L T r l; same = λ k m d. slot_ended_other L T r k l d }
 
   -- a row that was still there
-  pub still : {S S' : ℕ → Option A} {n r : ℕ} {x : A} → Removed S S' n r x → (k : ℕ) (y : A) → k < n → S' k ≡ some y → S k ≡ some y
+  pub still : {S S' : ℕ → Option A} {n r : ℕ} {x : A} → Removed S S' n r x → (k : ℕ) (y : A) → k < n → S' k ≡ Some y → S k ≡ Some y
   still {S' = S'} d k y m e = sym (d.same k m (λ q. not_none y (sym d.is ∙ ap S' (sym q) ∙ e))) ∙ e
 
   -- a free row ended leaves what each row holds
-  pub ended_free : (T : Table) (r k : ℕ) → r < room L T → slot L T r ≡ none → slot L (ended L T r) k ≡ slot L T k
+  pub ended_free : (T : Table) (r k : ℕ) → r < room L T → slot L T r ≡ None → slot L (ended L T r) k ≡ slot L T k
   ended_free T r k l free = go (ℕ_discrete k r)
     where
       go : Dec (k ≡ r) → slot L (ended L T r) k ≡ slot L T k

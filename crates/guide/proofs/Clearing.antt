@@ -2,7 +2,7 @@
 use mathlib.Core.Path.{◌≡◌, refl, sym, ◌∙◌}
 use mathlib.Core.Bool.{false, false≢true}
 use mathlib.Core.List.{List}
-use mathlib.Core.Option.{some}
+use Rattle.std.specs.Prelude.{Some}
 use Prim.Native.Nat.{ℕ, ◌+◌, ◌-◌, ◌*◌, ◌≤◌, ◌<◌}
 use native.Mathlib.Decide.{dec_lt}
 use native.Mathlib.Omega.{arith}
@@ -20,9 +20,9 @@ use Rattle.guide.proofs.Cells.{first_low, second_low, cell_inside, cell_outside,
 use Rattle.guide.proofs.Known.{word_place}
 
 -- no row of thread t is of frame f or above
-module _ (T : Table) (t f : ℕ) (a : t ≤ 16) (none_is : (r : ℕ) (x : Reference) → r < room references T → slot references T r ≡ some x → from_frame t f x ≡ false) where
+module _ (T : Table) (t f : ℕ) (a : t ≤ 16) (none_is : (r : ℕ) (x : Reference) → r < room references T → slot references T r ≡ Some x → from_frame t f x ≡ false) where
   -- no row has its cell among those of these frames
-  its_cell : (r : ℕ) (x : Reference) → r < room references T → slot references T r ≡ some x → (cell x < cell_of t f → ⊥) → cell x < cell_of t f + (65 - f) → ⊥
+  its_cell : (r : ℕ) (x : Reference) → r < room references T → slot references T r ≡ Some x → (cell x < cell_of t f → ⊥) → cell x < cell_of t f + (65 - f) → ⊥
   its_cell r x l e p q = go (dec_lt 64 f)
     where
       go : Dec (64 < f) → ⊥

@@ -2,7 +2,7 @@
 use mathlib.Core.Path.{◌≡◌, refl, sym, ap, ◌∙◌}
 use mathlib.Core.Bool.{Bool, true, false}
 use mathlib.Core.List.{List}
-use mathlib.Core.Option.{Option, none, some}
+use Rattle.std.specs.Prelude.{Option, None, Some}
 use Prim.Native.Nat.{ℕ, suc, ◌+◌, ◌≤◌, ◌<◌}
 use native.Mathlib.Omega.{arith}
 use lib.Dec.{eqb}
@@ -107,7 +107,7 @@ module _ {A : Type 0} (L : Layout A) (first second cell : A → ℕ) (places end
 
   -- rows with the same places and cells
   pub kept_like : (G : List ℕ) (S S' : ℕ → Option A) (n : ℕ) → ((k : ℕ) → k < n → (j : ℕ) → holding (λ (x : A). eqb (cell x) j) (S' k) ≡ holding (λ (x : A). eqb (cell x) j) (S k))
-      → ((k : ℕ) (y : A) → k < n → S' k ≡ some y → lists G (first y) (second y) k ≡ true) → Kept S n G → Kept S' n G
+      → ((k : ℕ) (y : A) → k < n → S' k ≡ Some y → lists G (first y) (second y) k ≡ true) → Kept S n G → Kept S' n G
   kept_like G S S' n cells_same shown c =
       record {
         long = c.long;
@@ -131,10 +131,10 @@ module _ {A : Type 0} (L : Layout A) (first second cell : A → ℕ) (places end
       }
 
   -- a free row behind the others
-  pub kept_skip : (G : List ℕ) (S : ℕ → Option A) (n : ℕ) → S n ≡ none → Kept S n G → Kept S (suc n) G
+  pub kept_skip : (G : List ℕ) (S : ℕ → Option A) (n : ℕ) → S n ≡ None → Kept S n G → Kept S (suc n) G
   kept_skip G S n free c =
       record {
         long = c.long;
         listed = λ k y l e. c.listed k y (below_last k n l (λ q. not_none y (sym free ∙ ap S (sym q) ∙ e))) e;
-        tallied = λ k h. c.tallied k h ∙ omega (arith, tally_next cell S n none free k);
+        tallied = λ k h. c.tallied k h ∙ omega (arith, tally_next cell S n None free k);
       }

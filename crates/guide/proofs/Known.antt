@@ -1,7 +1,7 @@
 -- A guide of the first rows, but for the word of the lowest free one, and of one row more. Assumes nothing.
 use mathlib.Core.Path.{◌≡◌, sym, ◌∙◌}
 use mathlib.Core.List.{List}
-use mathlib.Core.Option.{Option, some}
+use Rattle.std.specs.Prelude.{Option, Some}
 use Prim.Native.Nat.{ℕ, ◌+◌, ◌≤◌, ◌<◌}
 use native.Mathlib.Omega.{arith}
 use lib.ListN.{length, get_or}
@@ -78,27 +78,27 @@ module _ (T : Table) (G : List ℕ) (r : ℕ) (x : Reference) where
   length_C = bit_length B (marks + cell x) (mark_bit r) ∙ bit_length W (words + cell x) (word_bit r) ∙ length_W
 
   -- all numbers but these are as they were
-  slot_elsewhere : (j d : ℕ) → (j ≡ words + cell x → ⊥) → (j ≡ marks + cell x → ⊥) → (j ≡ used_at → ⊥) → get_or (with_slot T G r (some x)) j d ≡ get_or W j d
+  slot_elsewhere : (j d : ℕ) → (j ≡ words + cell x → ⊥) → (j ≡ marks + cell x → ⊥) → (j ≡ used_at → ⊥) → get_or (with_slot T G r (Some x)) j d ≡ get_or W j d
   slot_elsewhere j d a b c = more_elsewhere C used_at j d c ∙ bit_elsewhere B (marks + cell x) (mark_bit r) j d b ∙ bit_elsewhere W (words + cell x) (word_bit r) j d a
 
-  pub slot_low : get_or (with_slot T G r (some x)) low_at 0 ≡ get_or G low_at 0
+  pub slot_low : get_or (with_slot T G r (Some x)) low_at 0 ≡ get_or G low_at 0
   slot_low =
       slot_elsewhere low_at 0 (λ q. absurd (omega (arith, q, word_place x))) (λ q. absurd (omega (arith, q, mark_place x))) (λ q. absurd (omega (arith, q)))
       ∙ kept_elsewhere references first second cell places words first_low second_low cell_low T G r x low_at 0 (omega arith)
 
-  pub known_more : (S S' : ℕ → Option Reference) (n n' : ℕ) → Added references T S n S' n' r x → Known S n G → Known S' n' (with_slot T G r (some x))
+  pub known_more : (S S' : ℕ → Option Reference) (n n' : ℕ) → Added references T S n S' n' r x → Known S n G → Known S' n' (with_slot T G r (Some x))
   known_more S S' n n' d c =
       record {
         whole = more_length C used_at ∙ length_C ∙ c.whole;
-        kept = kept_beyond references first second cell places words first_low second_low cell_low W (with_slot T G r (some x)) S' n' (more_length C used_at ∙ length_C ∙ sym length_W)
+        kept = kept_beyond references first second cell places words first_low second_low cell_low W (with_slot T G r (Some x)) S' n' (more_length C used_at ∙ length_C ∙ sym length_W)
             (λ j v l. slot_elsewhere j v (λ q. absurd (omega (arith, l, q))) (λ q. absurd (omega (arith, l, q))) (λ q. absurd (omega (arith, l, q))))
             (kept_more references first second cell places words first_low second_low cell_low T G S S' n n' r x d c.kept);
-        words_shown = shown_elsewhere references cell word_bit words B (with_slot T G r (some x)) S' n'
+        words_shown = shown_elsewhere references cell word_bit words B (with_slot T G r (Some x)) S' n'
             (λ y. more_elsewhere C used_at (words + cell y) 0 (λ q. absurd (omega (arith, q, word_place y)))
             ∙ bit_elsewhere B (marks + cell x) (mark_bit r) (words + cell y) 0 (λ q. absurd (omega (arith, q, word_place y))))
             (shown_more references cell word_bit words T W S S' n n' r x (omega (arith, word_place x, length_W, c.whole)) d
             (shown_elsewhere references cell word_bit words G W S n (λ y. old (words + cell y) (omega arith)) c.words_shown));
-        marks_shown = shown_elsewhere references cell mark_bit marks C (with_slot T G r (some x)) S' n'
+        marks_shown = shown_elsewhere references cell mark_bit marks C (with_slot T G r (Some x)) S' n'
             (λ y. more_elsewhere C used_at (marks + cell y) 0 (λ q. absurd (omega (arith, q, mark_place y))))
             (shown_more references cell mark_bit marks T B S S' n n' r x (omega (arith, mark_place x, bit_length W (words + cell x) (word_bit r), length_W, c.whole)) d
             (shown_elsewhere references cell mark_bit marks G B S n

@@ -2,7 +2,7 @@
 use mathlib.Core.Path.{◌≡◌, refl, sym, ap, subst, ◌∙◌}
 use mathlib.Core.Bool.{Bool, true, false, ◌&&◌, ◌||◌, false≢true}
 use mathlib.Core.List.{List}
-use mathlib.Core.Option.{Option, none, some}
+use Rattle.std.specs.Prelude.{Option, None, Some}
 use Prim.Native.Nat.{ℕ, ◌≤◌, ◌<◌}
 use native.Mathlib.Decide.{ℕ_discrete}
 use native.Mathlib.Omega.{arith}
@@ -44,9 +44,6 @@ record Covers (k v w : ℕ) : Type 0 where
   names : named v k ≡ true → named w k ≡ true
   fulls : is_full v ≡ true → is_full w ≡ true
 
-covers_same : {k v w : ℕ} → v ≡ w → Covers k v w
-covers_same {k} e = record { names = λ h. ap (λ (x : ℕ). named x k) (sym e) ∙ h; fulls = λ h. ap is_full (sym e) ∙ h }
-
 covers_then : {k u v w : ℕ} → Covers k u v → Covers k v w → Covers k u w
 covers_then p q = record { names = λ h. q.names (p.names h); fulls = λ h. q.fulls (p.fulls h) }
 
@@ -81,13 +78,13 @@ module _ {A : Type 0} (L : Layout A) where
   unfolding found_by found
   found_by_is first second q T G a b w c = lowest_ext _ (passes L q T) (room L T) (λ r l. at r l (slot L T r) refl ∙ sym (passes_slot L q T r))
     where
-      shown : (r : ℕ) (x : A) (y : Bool) → r < room L T → slot L T r ≡ some x → q x ≡ y → (y && lists G a b r) ≡ y
+      shown : (r : ℕ) (x : A) (y : Bool) → r < room L T → slot L T r ≡ Some x → q x ≡ y → (y && lists G a b r) ≡ y
       shown r x true l e p = subst (λ (j : ℕ). lists G j b r ≡ true) (w x p).0 (subst (λ (j : ℕ). lists G (first x) j r ≡ true) (w x p).1 (c r x l e))
       shown r x false l e p = refl
 
       at : (r : ℕ) → r < room L T → (o : Option A) → slot L T r ≡ o → (holding q (slot L T r) && lists G a b r) ≡ holding q (slot L T r)
-      at r l none e = rw e refl
-      at r l (some x) e = ap (λ (o : Option A). holding q o && lists G a b r) e ∙ shown r x (q x) l e refl ∙ ap (holding q) (sym e)
+      at r l None e = rw e refl
+      at r l (Some x) e = ap (λ (o : Option A). holding q o && lists G a b r) e ∙ shown r x (q x) l e refl ∙ ap (holding q) (sym e)
 
   -- ---- a row listed
 
@@ -292,11 +289,11 @@ module _ {A : Type 0} (L : Layout A) where
             (by_second at_b (put_fulls at_a b a long full)
             (λ n. ap is_full there ∙ row_or_full first second T b (word_at at_a b) r low (sym (ap (λ (v : ℕ). named v r) there) ∙ n)))
 
-  wants_first : (first second : A → ℕ) (T : Table) (s k : ℕ) (y : A) → get_or (view L T) k none ≡ some y → first y ≡ s → wants L first second T s k ≡ true
+  wants_first : (first second : A → ℕ) (T : Table) (s k : ℕ) (y : A) → get_or (view L T) k None ≡ Some y → first y ≡ s → wants L first second T s k ≡ true
   unfolding wants
   wants_first first second T s k y e f = rw (e, eq-eqb (first y) s f) refl
 
-  wants_second : (first second : A → ℕ) (T : Table) (s k : ℕ) (y : A) → get_or (view L T) k none ≡ some y → second y ≡ s → wants L first second T s k ≡ true
+  wants_second : (first second : A → ℕ) (T : Table) (s k : ℕ) (y : A) → get_or (view L T) k None ≡ Some y → second y ≡ s → wants L first second T s k ≡ true
   unfolding wants
   wants_second first second T s k y e f = rw (e, eq-eqb (second y) s f) (go (eqb (first y) s))
     where

@@ -2,7 +2,7 @@
 use mathlib.Core.Path.{◌≡◌, refl, sym, ap, ◌∙◌}
 use mathlib.Core.Bool.{Bool, true, false, ◌||◌}
 use mathlib.Core.List.{List}
-use mathlib.Core.Option.{Option, some}
+use Rattle.std.specs.Prelude.{Option, Some}
 use Prim.Native.Nat.{ℕ, zero, suc, ◌+◌, ◌^◌, ◌<◌}
 use native.Mathlib.Decide.{ℕ_discrete}
 use native.Mathlib.Omega.{arith}
@@ -65,7 +65,7 @@ module _ {A : Type 0} (L : Layout A) (cell : A → ℕ) (bit_of : ℕ → ℕ) (
   shown_elsewhere G H S n same c r x l e = ap (λ (v : ℕ). bit v (bit_of r)) (same x) ∙ c r x l e
 
   -- no used row has its cell among these
-  pub shown_none : (G : List ℕ) (S : ℕ → Option A) (n k m : ℕ) → ((j : ℕ) → (j < k → ⊥) → (j < k + m) → (r : ℕ) (x : A) → r < n → S r ≡ some x → from + cell x ≡ j → ⊥)
+  pub shown_none : (G : List ℕ) (S : ℕ → Option A) (n k m : ℕ) → ((j : ℕ) → (j < k → ⊥) → (j < k + m) → (r : ℕ) (x : A) → r < n → S r ≡ Some x → from + cell x ≡ j → ⊥)
       → ((j : ℕ) → ((j < k → ⊥) → j < k + m → ⊥) → get_or (no_bits G k m) j 0 ≡ get_or G j 0) → Shown cell bit_of from S n G → Shown cell bit_of from S n (no_bits G k m)
   shown_none G S n k m free same c r x l e =
       ap (λ (v : ℕ). bit v (bit_of r)) (same (from + cell x) (λ a b. free (from + cell x) a b r x l e refl)) ∙ c r x l e

@@ -2,7 +2,7 @@
 use mathlib.Core.Path.{◌≡◌, refl, sym, ap, ap₂, ◌∙◌}
 use mathlib.Core.Bool.{Bool, true, false, not, ◌&&◌, ◌||◌}
 use mathlib.Core.List.{List}
-use mathlib.Core.Option.{Option, none, some}
+use Rattle.std.specs.Prelude.{Option, None, Some, unwrap_or}
 use Prim.Native.Nat.{ℕ, ◌-◌, ◌≤◌, ◌<◌, min}
 use native.Mathlib.Omega.{arith}
 use lib.Dec.{eqb}
@@ -21,14 +21,14 @@ use Rattle.guide.proofs.Lowest.{lowest_or, lowest_one}
 
 -- ---- one row, from what stands in its slot
 
-module _ {A : Type 0} (q : A → Bool) (o : Option A) (x : A) (r n : ℕ) (e : o ≡ some x) where
+module _ {A : Type 0} (q : A → Bool) (o : Option A) (x : A) (r n : ℕ) (e : o ≡ Some x) where
   pub row_that : q x ≡ true → r ≡ (if_true holding q o then r else n)
   row_that h = rw (e, h)
 
   pub row_other : q x ≡ false → n ≡ (if_true holding q o then r else n)
   row_other h = rw (e, h)
 
-pub row_none : {A : Type 0} (q : A → Bool) (o : Option A) (r n : ℕ) → o ≡ none → n ≡ (if_true holding q o then r else n)
+pub row_none : {A : Type 0} (q : A → Bool) (o : Option A) (r n : ℕ) → o ≡ None → n ≡ (if_true holding q o then r else n)
 row_none q o r n e = rw e
 
 each_of : (h a b c : Bool) → (h && ((a || b) || c)) ≡ (((h && a) || (h && b)) || (h && c))
@@ -49,10 +49,10 @@ module _ {A : Type 0} (L : Layout A) (q : A → Bool) (T : Table) where
 
   -- ---- three looks
 
-  one_row : (r : ℕ) → (if_true holding q (get_or (view L T) r none) then r else room L T) ≡ one r
+  one_row : (r : ℕ) → (if_true holding q (get_or (view L T) r None) then r else room L T) ≡ one r
   one_row r =
       sym
-      (lowest_one test (room L T) r (holding q (get_or (view L T) r none)) (λ l. ap (holding q) (view_at L T r l)) (λ l. ap (holding q) (view_past L T r l)))
+      (lowest_one test (room L T) r (holding q (get_or (view L T) r None)) (λ l. ap (holding q) (view_at L T r l)) (λ l. ap (holding q) (view_past L T r l)))
 
   three_rows : (w : ℕ) → min (min (one (name_a w)) (one (name_b w))) (one (name_c w)) ≡ low w
   unfolding named
@@ -61,13 +61,13 @@ module _ {A : Type 0} (L : Layout A) (q : A → Bool) (T : Table) where
       ∙ sym (lowest_or (λ k. (test k && eqb (name_a w) k) || (test k && eqb (name_b w) k)) (λ k. test k && eqb (name_c w) k) (room L T))
       ∙ lowest_ext _ _ (room L T) (λ k l. sym (each_of (test k) (eqb (name_a w) k) (eqb (name_b w) k) (eqb (name_c w) k)))
 
-  look : (n a x r : ℕ) → n ≡ room L T → a ≡ r → x ≡ (if_true holding q (get_or (view L T) a none) then a else n) → x ≡ one r
+  look : (n a x r : ℕ) → n ≡ room L T → a ≡ r → x ≡ (if_true holding q (get_or (view L T) a None) then a else n) → x ≡ one r
   look n a x r en ea ex = ex ∙ rw (en, ea) (one_row r)
 
   pub named_row_is : (w n a x b y c z m r : ℕ) → n ≡ room L T
-      → a ≡ name_a w → x ≡ (if_true holding q (get_or (view L T) a none) then a else n)
-      → b ≡ name_b w → y ≡ (if_true holding q (get_or (view L T) b none) then b else n)
-      → c ≡ name_c w → z ≡ (if_true holding q (get_or (view L T) c none) then c else n)
+      → a ≡ name_a w → x ≡ (if_true holding q (get_or (view L T) a None) then a else n)
+      → b ≡ name_b w → y ≡ (if_true holding q (get_or (view L T) b None) then b else n)
+      → c ≡ name_c w → z ≡ (if_true holding q (get_or (view L T) c None) then c else n)
       → m ≡ min x y → r ≡ min m z → r ≡ low w
   named_row_is w n a x b y c z m r en ea ex eb ey ec ez em er =
       er ∙ ap (λ (i : ℕ). min i z) em
@@ -133,14 +133,22 @@ module _ {A : Type 0} (L : Layout A) (q : A → Bool) (T : Table) where
           em ∙ ap₂ min eb (er ∙ ap low (ew ∙ ap (word_at G) es)) ∙ sym (open_second full (sym (ef ∙ ap is_full (ew ∙ ap (word_at G) es)) ∙ not-true f h))
       found_open (at_none n x y) l h = absurd (omega (arith, n, l))
 
-      pub looks_on : (s' : ℕ) → Looks left s best → 0 < left → not f ≡ false → s' ≡ b → Looks (left - 1) s' m
-      looks_on s' (at_first_place n es eb) l h e =
+      pub looks_on : (s' k : ℕ) → Looks left s best → 0 < left → not f ≡ false → s' ≡ b → k ≡ left - 1 → Looks k s' m
+      looks_on s' k (at_first_place n es eb) l h e u =
           let its : w ≡ word_at G a = ew ∙ ap (word_at G) es in
-          at_second_place (omega (arith, n)) e (sym (ef ∙ ap is_full its) ∙ not-false f h) (em ∙ ap₂ min eb er ∙ low_least w ∙ ap low its)
-      looks_on s' (at_second_place n es full eb) l h e = at_none (omega (arith, n)) full (sym (ef ∙ ap is_full (ew ∙ ap (word_at G) es)) ∙ not-false f h)
-      looks_on s' (at_none n x y) l h e = absurd (omega (arith, n, l))
+          at_second_place (omega (arith, n, u)) e (sym (ef ∙ ap is_full its) ∙ not-false f h) (em ∙ ap₂ min eb er ∙ low_least w ∙ ap low its)
+      looks_on s' k (at_second_place n es full eb) l h e u = at_none (omega (arith, n, u)) full (sym (ef ∙ ap is_full (ew ∙ ap (word_at G) es)) ∙ not-false f h)
+      looks_on s' k (at_none n x y) l h e u = absurd (omega (arith, n, l))
 
     pub found_none : (left s best r : ℕ) → Looks left s best → left ≤ 0 → r ≡ found L q T → r ≡ found_by L G a b q T
     found_none left s best r (at_first_place n es eb) l e = absurd (omega (arith, n, l))
     found_none left s best r (at_second_place n es full eb) l e = absurd (omega (arith, n, l))
     found_none left s best r (at_none n x y) l e = e ∙ sym (both_full x y)
+
+    -- what the looks tell: a row, or that all rows are to be looked at
+    pub told_some : (i j r : ℕ) (o : Option ℕ) → a ≡ i → b ≡ j → o ≡ Some r → unwrap_or o (found L q T) ≡ found_by L G a b q T → r ≡ found_by L G i j q T
+    told_some i j r o ea eb e h = sym (ap (λ (z : Option ℕ). unwrap_or z (found L q T)) e) ∙ h ∙ ap₂ (λ (x y : ℕ). found_by L G x y q T) ea eb
+
+    pub told_none : (i j r : ℕ) (o : Option ℕ) → a ≡ i → b ≡ j → o ≡ None → unwrap_or o (found L q T) ≡ found_by L G a b q T → r ≡ found L q T
+        → r ≡ found_by L G i j q T
+    told_none i j r o ea eb e h f = f ∙ sym (ap (λ (z : Option ℕ). unwrap_or z (found L q T)) e) ∙ h ∙ ap₂ (λ (x y : ℕ). found_by L G x y q T) ea eb

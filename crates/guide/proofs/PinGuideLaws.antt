@@ -2,7 +2,7 @@
 use mathlib.Core.Path.{◌≡◌, refl, sym, subst, ◌∙◌}
 use mathlib.Core.Bool.{Bool, true, false, ◌&&◌, false≢true}
 use mathlib.Core.List.{List}
-use mathlib.Core.Option.{Option, none, some}
+use Rattle.std.specs.Prelude.{Option, None, Some}
 use Prim.Native.Nat.{ℕ, zero, suc, ◌+◌, ◌≤◌, ◌<◌}
 use native.Mathlib.Decide.{dec_lt}
 use native.Mathlib.Omega.{arith}
@@ -98,13 +98,13 @@ pin_guide_counts T G t g a =
     g.tallied (cell_of t) (omega (arith, cell_is_low t)) ∙ how_many_ext _ _ (room pins T) (λ r l. at (slot pins T r) ∙ sym (passes_slot pins (of_thread t) T r))
   where
     at : (o : Option Pin) → holding (λ (x : Pin). eqb (cell x) (cell_of t)) o ≡ holding (of_thread t) o
-    at none = refl
-    at (some x) = cell_is_thread t x a
+    at None = refl
+    at (Some x) = cell_is_thread t x a
 
 -- ---- that it stays one
 
 -- a row stored where none was
-pub pin_guide_stored : (T : Table) (G : List ℕ) (r : ℕ) (x : Pin) → Guides T G → r < room pins T → slot pins T r ≡ none → Guides (stored pins T r x) (noted (stored pins T r x) G r)
+pub pin_guide_stored : (T : Table) (G : List ℕ) (r : ℕ) (x : Pin) → Guides T G → r < room pins T → slot pins T r ≡ None → Guides (stored pins T r x) (noted (stored pins T r x) G r)
 unfolding noted
 pin_guide_stored T G r x g l free =
     subst (λ (o : Option Pin). Guides T' (with_slot T' G r o)) (sym (stored_there pins T r x l free))
@@ -126,14 +126,14 @@ pin_guide_ended T G r g = go (dec_lt r (room pins T))
     same_room {G'} e k = guides_of e (subst (λ (n : ℕ). Keeps (slot pins T') n G') (sym (ended_room pins T r)) k)
 
     by_slot : r < room pins T → (o : Option Pin) → slot pins T r ≡ o → Guides T' (without_slot G o)
-    by_slot l none e =
+    by_slot l None e =
         same_room g.whole
         (kept_same pins first second cell places size first_low second_low cell_low G (slot pins T) (slot pins T') (room pins T) (λ k m. ended_free pins T r k l e) (kept_of g))
-    by_slot l (some x) e =
+    by_slot l (Some x) e =
         same_room (less_length G (places + cell x) ∙ g.whole)
         (kept_less pins first second cell places size first_low second_low cell_low G (slot pins T) (slot pins T') (room pins T) r x (removed_ended pins T r x l e) (kept_of g))
 
-    go : Dec (r < room pins T) → Guides T' (without_slot G (get_or (view pins T) r none))
+    go : Dec (r < room pins T) → Guides T' (without_slot G (get_or (view pins T) r None))
     go (yes l) = subst (λ (o : Option Pin). Guides T' (without_slot G o)) (sym (view_at pins T r l)) (by_slot l (slot pins T r) refl)
     go (no l) =
         subst (λ (o : Option Pin). Guides T' (without_slot G o)) (sym (view_past pins T r (omega arith)))
@@ -151,15 +151,15 @@ filled_known T G zero l c = c
 filled_known T G (suc n) l c = next (filled_known T G n (omega arith) c)
   where
     by_slot : Known T n (filled T G n) → (o : Option Pin) → slot pins T n ≡ o → Known T (suc n) (with_slot T (filled T G n) n o)
-    by_slot k none e =
+    by_slot k None e =
         record { whole = k.whole; kept = kept_skip pins first second cell places size first_low second_low cell_low (filled T G n) (slot pins T) n e k.kept }
-    by_slot k (some x) e =
+    by_slot k (Some x) e =
         record {
           whole = kept_length pins first second cell places size first_low second_low cell_low T (filled T G n) n x ∙ k.whole;
           kept = kept_more pins first second cell places size first_low second_low cell_low T (filled T G n) (slot pins T) (slot pins T) n (suc n) n x (added_next pins T n x l e) k.kept;
         }
 
-    next : Known T n (filled T G n) → Known T (suc n) (with_slot T (filled T G n) n (get_or (view pins T) n none))
+    next : Known T n (filled T G n) → Known T (suc n) (with_slot T (filled T G n) n (get_or (view pins T) n None))
     next k = subst (λ (o : Option Pin). Known T (suc n) (with_slot T (filled T G n) n o)) (sym (view_at pins T n l)) (by_slot k (slot pins T n) refl)
 
 pub pin_guide_filled : (T : Table) → Guides T (filled T (replicate size 0) (room pins T))

@@ -1,7 +1,7 @@
 -- The guide of pin rows, step by step of the code. Assumes nothing.
 use mathlib.Core.Path.{◌≡◌, refl, ap, ◌∙◌}
 use mathlib.Core.List.{List}
-use mathlib.Core.Option.{none, some}
+use Rattle.std.specs.Prelude.{None, Some}
 use Prim.Native.Nat.{ℕ, ◌+◌, ◌*◌, ◌/◌, ◌%◌, ◌≤◌, ◌<◌}
 use native.Mathlib.Numerals.{add-one}
 use native.Mathlib.Omega.{arith}
@@ -37,20 +37,20 @@ cell_other t h = rw (lt-leb t 16 h)
 -- ---- a row noted, and forgotten
 
 module _ (T : Table) (G : List ℕ) (r : ℕ) where
-  pub noted_row : (x : Pin) (i j k : ℕ) (H I : List ℕ) → get_or (view pins T) r none ≡ some x → i ≡ first x → j ≡ second x → H ≡ with_listed pins first second T G i j r
+  pub noted_row : (x : Pin) (i j k : ℕ) (H I : List ℕ) → get_or (view pins T) r None ≡ Some x → i ≡ first x → j ≡ second x → H ≡ with_listed pins first second T G i j r
       → k ≡ cell_of x.thread → I ≡ more_at H (places + k) → I ≡ noted T G r
   unfolding noted
   noted_row x i j k H I e ei ej eh ek ew = ew ∙ rw (e, eh, ei, ej, ek)
 
-  pub noted_none : get_or (view pins T) r none ≡ none → G ≡ noted T G r
+  pub noted_none : get_or (view pins T) r None ≡ None → G ≡ noted T G r
   unfolding noted
   noted_none e = rw e
 
-  pub forgotten_row : (x : Pin) (k : ℕ) (H : List ℕ) → get_or (view pins T) r none ≡ some x → k ≡ cell_of x.thread → H ≡ less_at G (places + k) → H ≡ forgotten T G r
+  pub forgotten_row : (x : Pin) (k : ℕ) (H : List ℕ) → get_or (view pins T) r None ≡ Some x → k ≡ cell_of x.thread → H ≡ less_at G (places + k) → H ≡ forgotten T G r
   unfolding forgotten
   forgotten_row x k H e ek eh = eh ∙ rw (e, ek)
 
-  pub forgotten_none : get_or (view pins T) r none ≡ none → G ≡ forgotten T G r
+  pub forgotten_none : get_or (view pins T) r None ≡ None → G ≡ forgotten T G r
   unfolding forgotten
   forgotten_none e = rw e
 

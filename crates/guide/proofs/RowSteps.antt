@@ -2,7 +2,7 @@
 use mathlib.Core.Path.{◌≡◌, sym, ap, ◌∙◌}
 use mathlib.Core.Bool.{Bool, true, false, not, ◌||◌}
 use mathlib.Core.List.{List}
-use mathlib.Core.Option.{none, some}
+use Rattle.std.specs.Prelude.{None, Some}
 use Prim.Native.Nat.{ℕ, ◌≤◌, ◌<◌}
 use native.Mathlib.Decide.{dec_lt}
 use native.Mathlib.Omega.{arith}
@@ -21,24 +21,24 @@ module _ {A : Type 0} (L : Layout A) (T : Table) where
   low_room = omega arith
 
   -- a row that is told has a name
-  pub row_low : (r : ℕ) (x : A) → get_or (view L T) r none ≡ some x → r < lane
+  pub row_low : (r : ℕ) (x : A) → get_or (view L T) r None ≡ Some x → r < lane
   row_low r x e = go (dec_lt r (room L T))
     where
       go : Dec (r < room L T) → r < lane
       go (yes l) = omega (arith, low_room)
       go (no l) =
-          let past : get_or (view L T) r none ≡ none = view_past L T r (omega arith) in
+          let past : get_or (view L T) r None ≡ None = view_past L T r (omega arith) in
           let z : ◌≡◌ {A = ℕ} 0 1 = cc in
           absurd (omega arith)
 
   module _ (first second : A → ℕ) where
     -- ---- a place wanted
 
-    pub wants_some : (s r i j : ℕ) (x : A) → get_or (view L T) r none ≡ some x → i ≡ first x → j ≡ second x → (eqb i s || eqb j s) ≡ wants L first second T s r
+    pub wants_some : (s r i j : ℕ) (x : A) → get_or (view L T) r None ≡ Some x → i ≡ first x → j ≡ second x → (eqb i s || eqb j s) ≡ wants L first second T s r
     unfolding wants
     wants_some s r i j x e ei ej = rw (e, ei, ej)
 
-    pub wants_none : (s r : ℕ) → get_or (view L T) r none ≡ none → false ≡ wants L first second T s r
+    pub wants_none : (s r : ℕ) → get_or (view L T) r None ≡ None → false ≡ wants L first second T s r
     unfolding wants
     wants_none s r e = rw e
 
@@ -89,3 +89,6 @@ module _ {A : Type 0} (L : Layout A) (T : Table) where
       pub listed_second : m ≡ false → (I : List ℕ) (x y : ℕ) → x ≡ word_at H b → y ≡ with_row L first second T b x r → I ≡ set H b y → I ≡ with_listed L first second T G a b r
       unfolding with_listed
       listed_second h I x y ex ey ei = ei ∙ rw (ey, ex, guide_a, named_a ∙ h)
+
+    pub listed_at : (G : List ℕ) (a b i j r : ℕ) → a ≡ i → b ≡ j → with_listed L first second T G a b r ≡ with_listed L first second T G i j r
+    listed_at G a b i j r e f = cc

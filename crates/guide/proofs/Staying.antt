@@ -1,7 +1,7 @@
 -- A guide stays one as rows are stored, ended and stated. Assumes nothing.
 use mathlib.Core.Path.{◌≡◌, refl, sym, ap, ap₂, subst, ◌∙◌}
 use mathlib.Core.List.{List}
-use mathlib.Core.Option.{Option, map, none, some}
+use Rattle.std.specs.Prelude.{Option, option_map, None, Some}
 use Prim.Native.Nat.{ℕ, ◌+◌, ◌*◌, ◌/◌, ◌≤◌, ◌<◌}
 use native.Mathlib.Decide.{ℕ_discrete, dec_lt}
 use native.Mathlib.Omega.{arith}
@@ -30,7 +30,7 @@ use Rattle.guide.proofs.Cells.{first_low, second_low, cell_low, kept_of}
 use Rattle.guide.proofs.Known.{Known, known_of, guides_of, word_place, mark_place, known_elsewhere, slot_low, known_more}
 
 -- a row stored where none was
-pub guide_stored : (T : Table) (G : List ℕ) (r : ℕ) (x : Reference) → Guides T G → r < room references T → slot references T r ≡ none
+pub guide_stored : (T : Table) (G : List ℕ) (r : ℕ) (x : Reference) → Guides T G → r < room references T → slot references T r ≡ None
     → Guides (stored references T r x) (noted (stored references T r x) G r)
 unfolding noted
 guide_stored T G r x g l free =
@@ -40,14 +40,14 @@ guide_stored T G r x g l free =
     T' : Table
     T' = stored references T r x
 
-    low : NoneBelow low_at (slot references T') (room references T') (with_slot T' G r (some x))
+    low : NoneBelow low_at (slot references T') (room references T') (with_slot T' G r (Some x))
     low k m e =
         let other : (k ≡ r → ⊥) = λ q. not_none x (sym e ∙ ap (slot references T') q ∙ slot_stored_same references T r x l) in
         let was = g.low k (omega (arith, m, room_same references T' T (stored_lengths references T r x))) (sym (slot_stored_other references T r k x l other) ∙ e) in
         omega (arith, was, slot_low T' G r x)
 
 -- no row below r is free
-pub guide_raised : (T : Table) (G : List ℕ) (r : ℕ) → Guides T G → ((k : ℕ) → k < room references T → slot references T k ≡ none → r ≤ k) → Guides T (raised_at G low_at r)
+pub guide_raised : (T : Table) (G : List ℕ) (r : ℕ) → Guides T G → ((k : ℕ) → k < room references T → slot references T k ≡ None → r ≤ k) → Guides T (raised_at G low_at r)
 unfolding raised_at
 guide_raised T G r g h =
     guides_of (known_elsewhere G (set G low_at (r / word)) (slot references T) (room references T) (length-set G low_at (r / word))
@@ -59,7 +59,7 @@ module _ (T : Table) (G : List ℕ) (r : ℕ) (g : Guides T G) where
   abbrev T' : Table
   T' = ended references T r
 
-  free_ended : r < room references T → slot references T r ≡ none → Guides T' G
+  free_ended : r < room references T → slot references T r ≡ None → Guides T' G
   free_ended l e =
       guides_of (subst (λ (n : ℕ). Known (slot references T') n G) (sym (ended_room references T r))
       (record {
@@ -74,10 +74,10 @@ module _ (T : Table) (G : List ℕ) (r : ℕ) (g : Guides T G) where
       same : (k : ℕ) → slot references T' k ≡ slot references T k
       same k = ended_free references T r k l e
 
-  used_ended : (x : Reference) → r < room references T → slot references T r ≡ some x → Guides T' (without_slot G r (some x))
+  used_ended : (x : Reference) → r < room references T → slot references T r ≡ Some x → Guides T' (without_slot G r (Some x))
   used_ended x l e =
-      guides_of (subst (λ (n : ℕ). Known (slot references T') n (without_slot G r (some x))) (sym (ended_room references T r))
-      (known_elsewhere I (without_slot G r (some x)) (slot references T') (room references T) (lowered_length I low_at r)
+      guides_of (subst (λ (n : ℕ). Known (slot references T') n (without_slot G r (Some x))) (sym (ended_room references T r))
+      (known_elsewhere I (without_slot G r (Some x)) (slot references T') (room references T) (lowered_length I low_at r)
       (λ j v n. lowered_elsewhere I low_at r j v (λ q. absurd (omega (arith, q, n))))
       (record {
         whole = less_length H used_at ∙ less_length G (places + cell x) ∙ g.whole;
@@ -109,7 +109,7 @@ module _ (T : Table) (G : List ℕ) (r : ℕ) (g : Guides T G) where
       I_low : get_or I low_at 0 ≡ get_or G low_at 0
       I_low = less_elsewhere H used_at low_at 0 (λ q. absurd (omega (arith, q))) ∙ less_elsewhere G (places + cell x) low_at 0 (λ q. absurd (omega (arith, q, cell_low x)))
 
-      low : (k : ℕ) → k < room references T → slot references T' k ≡ none → Dec (k ≡ r) → get_or (without_slot G r (some x)) low_at 0 * word ≤ k
+      low : (k : ℕ) → k < room references T → slot references T' k ≡ None → Dec (k ≡ r) → get_or (without_slot G r (Some x)) low_at 0 * word ≤ k
       low k m q (yes i) = omega (arith, i, lowered_is I low_at r (omega (arith, less_length H used_at, less_length G (places + cell x), g.whole)))
       low k m q (no i) =
           let was = g.low k m (sym (d.same k m i) ∙ q) in
@@ -120,10 +120,10 @@ module _ (T : Table) (G : List ℕ) (r : ℕ) (g : Guides T G) where
   guide_ended = go (dec_lt r (room references T))
     where
       by_slot : r < room references T → (o : Option Reference) → slot references T r ≡ o → Guides T' (without_slot G r o)
-      by_slot l none e = free_ended l e
-      by_slot l (some x) e = used_ended x l e
+      by_slot l None e = free_ended l e
+      by_slot l (Some x) e = used_ended x l e
 
-      go : Dec (r < room references T) → Guides T' (without_slot G r (get_or (view references T) r none))
+      go : Dec (r < room references T) → Guides T' (without_slot G r (get_or (view references T) r None))
       go (yes l) = subst (λ (o : Option Reference). Guides T' (without_slot G r o)) (sym (view_at references T r l)) (by_slot l (slot references T r) refl)
       go (no l) =
           subst (λ (o : Option Reference). Guides T' (without_slot G r o)) (sym (view_past references T r (omega arith)))
@@ -132,7 +132,7 @@ module _ (T : Table) (G : List ℕ) (r : ℕ) (g : Guides T G) where
 -- what row k is listed and counted by is as it was
 record Like (T : Table) (k : ℕ) (y : Reference) : Type 0 where
   old : Reference
-  was : slot references T k ≡ some old
+  was : slot references T k ≡ Some old
   thread : y.thread ≡ old.thread
   handle : y.handle ≡ old.handle
   frame : y.frame ≡ old.frame
@@ -147,9 +147,9 @@ guide_stated T G r c g = go (dec_lt r (room references T))
     room_is : room references T' ≡ room references T
     room_is = room_same references T' T (changed_lengths references T r (with_class c))
 
-    mapped : (o : Option Reference) (k : ℕ) (y : Reference) → slot references T k ≡ o → map (with_class c) o ≡ some y → Like T k y
-    mapped none k y e q = absurd (not_none y q)
-    mapped (some z) k y e q =
+    mapped : (o : Option Reference) (k : ℕ) (y : Reference) → slot references T k ≡ o → option_map (with_class c) o ≡ Some y → Like T k y
+    mapped None k y e q = absurd (not_none y q)
+    mapped (Some z) k y e q =
         let same = some_inj (with_class c z) y q in
         record {
           old = z;
@@ -159,20 +159,20 @@ guide_stated T G r c g = go (dec_lt r (room references T))
           frame = sym (ap (λ (v : Reference). v.frame) same);
         }
 
-    like : r < room references T → (k : ℕ) (y : Reference) → slot references T' k ≡ some y → Dec (k ≡ r) → Like T k y
+    like : r < room references T → (k : ℕ) (y : Reference) → slot references T' k ≡ Some y → Dec (k ≡ r) → Like T k y
     like l k y e (yes q) =
         mapped (slot references T k) k y refl
-        (ap (λ (i : ℕ). map (with_class c) (slot references T i)) q ∙ sym (slot_changed_same references T r (with_class c) l) ∙ ap (slot references T') (sym q) ∙ e)
+        (ap (λ (i : ℕ). option_map (with_class c) (slot references T i)) q ∙ sym (slot_changed_same references T r (with_class c) l) ∙ ap (slot references T') (sym q) ∙ e)
     like l k y e (no q) = record { old = y; was = sym (slot_changed_other references T r k (with_class c) l q) ∙ e; thread = refl; handle = refl; frame = refl }
 
-    mapped_none : (o : Option Reference) → map (with_class c) o ≡ none → o ≡ none
-    mapped_none none q = refl
-    mapped_none (some z) q = absurd (not_none (with_class c z) (sym q))
+    mapped_none : (o : Option Reference) → option_map (with_class c) o ≡ None → o ≡ None
+    mapped_none None q = refl
+    mapped_none (Some z) q = absurd (not_none (with_class c z) (sym q))
 
     counted_same : (f : Reference → ℕ) → ((z : Reference) → f (with_class c z) ≡ f z) → (o : Option Reference) (j : ℕ)
-        → holding (λ (x : Reference). eqb (f x) j) (map (with_class c) o) ≡ holding (λ (x : Reference). eqb (f x) j) o
-    counted_same f s none j = refl
-    counted_same f s (some z) j = ap (λ (n : ℕ). eqb n j) (s z)
+        → holding (λ (x : Reference). eqb (f x) j) (option_map (with_class c) o) ≡ holding (λ (x : Reference). eqb (f x) j) o
+    counted_same f s None j = refl
+    counted_same f s (Some z) j = ap (λ (n : ℕ). eqb n j) (s z)
 
     cells_same : (f : Reference → ℕ) → ((z : Reference) → f (with_class c z) ≡ f z) → r < room references T → (k : ℕ) (j : ℕ) → Dec (k ≡ r)
         → holding (λ (x : Reference). eqb (f x) j) (slot references T' k) ≡ holding (λ (x : Reference). eqb (f x) j) (slot references T k)
@@ -182,10 +182,10 @@ guide_stated T G r c g = go (dec_lt r (room references T))
         ∙ ap (λ (i : ℕ). holding (λ (x : Reference). eqb (f x) j) (slot references T i)) (sym q)
     cells_same f s l k j (no q) = ap (holding (λ (x : Reference). eqb (f x) j)) (slot_changed_other references T r k (with_class c) l q)
 
-    free_like : r < room references T → (k : ℕ) → slot references T' k ≡ none → Dec (k ≡ r) → slot references T k ≡ none
+    free_like : r < room references T → (k : ℕ) → slot references T' k ≡ None → Dec (k ≡ r) → slot references T k ≡ None
     free_like l k e (yes q) =
         mapped_none (slot references T k)
-        (ap (λ (i : ℕ). map (with_class c) (slot references T i)) q ∙ sym (slot_changed_same references T r (with_class c) l) ∙ ap (slot references T') (sym q) ∙ e)
+        (ap (λ (i : ℕ). option_map (with_class c) (slot references T i)) q ∙ sym (slot_changed_same references T r (with_class c) l) ∙ ap (slot references T') (sym q) ∙ e)
     free_like l k e (no q) = sym (slot_changed_other references T r k (with_class c) l q) ∙ e
 
     go : Dec (r < room references T) → Guides T' G

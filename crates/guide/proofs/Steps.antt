@@ -1,7 +1,7 @@
 -- What the code does to the words and numbers of a guide, step by step. Assumes nothing.
-use mathlib.Core.Path.{◌≡◌, refl, sym, ap, ◌∙◌}
+use mathlib.Core.Path.{◌≡◌, refl, sym, ap, ap₂, ◌∙◌}
 use mathlib.Core.Bool.{◌||◌}
-use mathlib.Core.List.{List, [], ◌∷◌}
+use mathlib.Core.List.{List, [], ◌∷◌, ◌++◌}
 use Prim.Native.Nat.{ℕ, zero, suc, ◌+◌, ◌-◌, ◌/◌, ◌≤◌, ◌<◌, min}
 use native.Mathlib.Nat.{le_of_suc-le-suc, not-suc-le-zero, add-zero, add-suc}
 use native.Mathlib.Numerals.{add-one}
@@ -9,32 +9,38 @@ use native.Mathlib.Decide.{dec_lt}
 use native.Mathlib.Omega.{arith}
 use lib.Bits.{bit_or, or_zero_r}
 use lib.Dec.{eqb}
-use lib.ListN.{length, get_or, set, get_or-eq_default}
-use lib.Seq.{set-get_or, set_out}
+use lib.ListN.{length, get_or, set, replicate, take, drop, length-drop, get_or-eq_default}
+use lib.Seq.{paste, set-get_or, set_out}
+use Rattle.std.specs.Prelude.{fold}
+use Rattle.std.proofs.lemmas.List.{get_or-drop, take_more}
+use Rattle.std.proofs.lemmas.List.Edits.{fill_from_more, paste_none}
 use borrow.Author.Tests.{lt-ltb, le-ltb}
 use Rattle.rows.specs.Marks.{word}
 use Rattle.rows.specs.Table.{most}
-use Rattle.guide.specs.Words.{full_word, name_a, name_b, name_c, named}
+use Rattle.guide.specs.Words.{name_a, name_b, name_c, named}
 use Rattle.guide.specs.Listing.{word_at}
-use Rattle.guide.specs.Tallies.{more_at, less_at}
+use Rattle.guide.specs.Tallies.{more_at}
 use Rattle.guide.specs.Masks.{with_bit, all_bits, no_bits}
-use Rattle.guide.specs.Frees.{raised_at, lowered_at}
+use Rattle.guide.specs.Frees.{raised_at}
 use Rattle.guide.proofs.MaskLaws.{length_no_bits}
 
 -- ---- a word
-
-pub word_past : (G : List ℕ) (s : ℕ) → length G ≤ s → full_word ≡ word_at G s
-unfolding word_at
-word_past G s h = sym (get_or-eq_default G full_word h)
 
 any_default : (G : List ℕ) (s d e : ℕ) → s < length G → get_or G s d ≡ get_or G s e
 any_default [] s d e h = absurd (not-suc-le-zero h)
 any_default (x ∷ G) zero d e h = refl
 any_default (x ∷ G) (suc s) d e h = any_default G s d e (le_of_suc-le-suc h)
 
-pub word_inside : (G : List ℕ) (s : ℕ) → s < length G → get_or G s 0 ≡ word_at G s
-unfolding word_at
-word_inside G s h = any_default G s 0 full_word h
+-- the word at one of two places, whatever stands for a third
+pub word_of_two : (G : List ℕ) (a b i w : ℕ) → i < 2 → w ≡ word_at G (get_or (a ∷ b ∷ []) i 0) → w ≡ word_at G (get_or (a ∷ b ∷ []) i b)
+word_of_two G a b i w h e = e ∙ ap (word_at G) (any_default (a ∷ b ∷ []) i 0 b h)
+
+pub last_of_two : (a b i : ℕ) → get_or (a ∷ b ∷ []) (i + 1) b ≡ b
+last_of_two a b i = rw (add-one i) (go i)
+  where
+    go : (k : ℕ) → get_or (a ∷ b ∷ []) (suc k) b ≡ b
+    go zero = refl
+    go (suc k) = refl
 
 pub named_of : (w r a b c : ℕ) → a ≡ name_a w → b ≡ name_b w → c ≡ name_c w → ((eqb a r || eqb b r) || eqb c r) ≡ named w r
 unfolding named
@@ -50,14 +56,6 @@ pub no_more : (G : List ℕ) (k n : ℕ) → n ≡ get_or G k 0 → most ≤ n �
 unfolding more_at
 no_more G k n e l = rw (le-ltb (get_or G k 0) most (omega (arith, e, l))) (sym (set-get_or G k 0))
 
-pub one_less : (G H : List ℕ) (k n : ℕ) → n ≡ get_or G k 0 → H ≡ set G k (n - 1) → H ≡ less_at G k
-unfolding less_at
-one_less G H k n e s = s ∙ ap (λ (v : ℕ). set G k (v - 1)) e
-
-pub no_less : (G : List ℕ) (k n : ℕ) → n ≡ get_or G k 0 → n ≤ 0 → G ≡ less_at G k
-unfolding less_at
-no_less G k n e l = sym (set-get_or G k 0) ∙ ap (set G k) (omega (arith, e, l))
-
 -- read where a place is counted from p
 pub number_of : (G : List ℕ) (p k i n : ℕ) → k ≡ i → n ≡ get_or G (p + k) 0 → n ≡ get_or G (p + i) 0
 number_of G p k i n e h = h ∙ ap (λ (j : ℕ). get_or G (p + j) 0) e
@@ -68,35 +66,11 @@ pub raised_to : (G H : List ℕ) (k r : ℕ) → H ≡ set G k (r / word) → H 
 unfolding raised_at
 raised_to G H k r e = e
 
-pub lowered_to : (G H : List ℕ) (k r n : ℕ) → n ≡ get_or G k 0 → r / word < n → H ≡ set G k (r / word) → H ≡ lowered_at G k r
-unfolding lowered_at
-lowered_to G H k r n e l s = s ∙ ap (set G k) (omega (arith, e, l))
-
-pub no_lower : (G : List ℕ) (k r n : ℕ) → n ≡ get_or G k 0 → n ≤ r / word → G ≡ lowered_at G k r
-unfolding lowered_at
-no_lower G k r n e l = sym (set-get_or G k 0) ∙ ap (set G k) (omega (arith, e, l))
-
 -- ---- bits
 
 pub bit_past : (G : List ℕ) (k i : ℕ) → length G ≤ k → G ≡ with_bit G k i
 unfolding with_bit
 bit_past G k i h = sym (set_out G k _ h)
-
-pub first_bits : (G : List ℕ) (k : ℕ) → 0 ≡ all_bits G k 0
-unfolding all_bits
-first_bits G k = refl
-
-pub more_bits : (G : List ℕ) (k i m n : ℕ) → m ≡ all_bits G k i → n ≡ get_or G (k + i) 0 → bit_or m n ≡ all_bits G k (i + 1)
-unfolding all_bits
-more_bits G k i m n e f = rw (add-one, e, f)
-
-pub first_none : (G : List ℕ) (k : ℕ) → G ≡ no_bits G k 0
-unfolding no_bits
-first_none G k = refl
-
-pub more_none : (G H I : List ℕ) (k i : ℕ) → H ≡ no_bits G k i → I ≡ set H (k + i) 0 → I ≡ no_bits G k (i + 1)
-unfolding no_bits
-more_none G H I k i e f = f ∙ rw (add-one, e)
 
 -- past the end there is no bit, and nothing to clear
 bits_past : (G : List ℕ) (k m n : ℕ) → length G ≤ k + m → all_bits G k (m + n) ≡ all_bits G k m
@@ -133,3 +107,34 @@ module _ (G : List ℕ) (k i n : ℕ) (e : i ≡ min n (length G - k)) where
       go : Dec (k + i < length G) → no_bits G k i ≡ no_bits G k n
       go (yes l) = ap (no_bits G k) (omega (arith, e, l))
       go (no l) = sym (ap (no_bits G k) whole ∙ none_past G k i (n - i) (omega (arith, l)))
+
+-- of no words, wherever they stand
+pub no_bit : (G : List ℕ) (j k : ℕ) → all_bits G j 0 ≡ all_bits G k 0
+unfolding all_bits
+no_bit G j k = refl
+
+pub no_none : (G : List ℕ) (j k : ℕ) → no_bits G j 0 ≡ no_bits G k 0
+unfolding no_bits
+no_none G j k = refl
+
+-- zeros in place of words that are there
+pub none_pasted : (G : List ℕ) (k n : ℕ) → k + n ≤ length G → no_bits G k n ≡ paste G k (replicate n 0) n
+unfolding no_bits
+none_pasted G k zero h = paste_none G k []
+none_pasted G k (suc n) h =
+    ap (λ (X : List ℕ). set X (k + n) 0) (none_pasted G k n (omega (arith, h))) ∙ fill_from_more G k n 0 (omega (arith, h))
+    ∙ ap (λ (m : ℕ). paste G k (replicate m 0) m) (add-one n)
+
+-- the bits of words that are there
+fold_last : (a y : ℕ) (xs : List ℕ) → fold bit_or a (xs ++ (y ∷ [])) ≡ bit_or (fold bit_or a xs) y
+fold_last a y [] = refl
+fold_last a y (x ∷ xs) = fold_last (bit_or a x) y xs
+
+pub bits_folded : (G : List ℕ) (k n : ℕ) → k + n ≤ length G → fold bit_or 0 (take n (drop k G)) ≡ all_bits G k n
+unfolding all_bits
+bits_folded G k zero h = refl
+bits_folded G k (suc n) h =
+    ap (λ (m : ℕ). fold bit_or 0 (take m (drop k G))) (sym (add-one n))
+    ∙ ap (fold bit_or 0) (take_more (drop k G) n 0 (simp length-drop (omega (arith, h))))
+    ∙ fold_last 0 (get_or (drop k G) n 0) (take n (drop k G))
+    ∙ ap₂ bit_or (bits_folded G k n (omega (arith, h))) (get_or-drop k G n 0)

@@ -2,7 +2,7 @@
 use mathlib.Core.Path.{◌≡◌, refl, sym, ap, ◌∙◌}
 use mathlib.Core.Bool.{Bool}
 use mathlib.Core.List.{List}
-use mathlib.Core.Option.{Option, none, some}
+use Rattle.std.specs.Prelude.{Option, None, Some}
 use Prim.Native.Nat.{ℕ, zero, suc, ◌+◌, ◌-◌, ◌≤◌, ◌<◌}
 use native.Mathlib.Decide.{ℕ_discrete}
 use native.Mathlib.Omega.{arith}
@@ -38,7 +38,7 @@ module _ {A : Type 0} (cell : A → ℕ) where
   tally_le S n k = how_many_le (λ r. holding (λ x. eqb (cell x) k) (S r)) n
 
   -- row r is free, then holds x
-  pub tally_more : (S S' : ℕ → Option A) (n r : ℕ) (x : A) → r < n → S r ≡ none → S' r ≡ some x → ((k : ℕ) → k < n → (k ≡ r → ⊥) → S' k ≡ S k)
+  pub tally_more : (S S' : ℕ → Option A) (n r : ℕ) (x : A) → r < n → S r ≡ None → S' r ≡ Some x → ((k : ℕ) → k < n → (k ≡ r → ⊥) → S' k ≡ S k)
       → (j : ℕ) → tally cell S' n j ≡ tally cell S n j + one (eqb (cell x) j)
   unfolding tally
   tally_more S S' n r x l was is same j =

@@ -2,7 +2,7 @@
 use mathlib.Core.Path.{◌≡◌, refl, sym, ap, ap₂, ◌∙◌}
 use mathlib.Core.Bool.{Bool, true, false, ◌&&◌, false≢true}
 use mathlib.Core.List.{List}
-use mathlib.Core.Option.{Option, none, some}
+use Rattle.std.specs.Prelude.{Option, None, Some}
 use Prim.Native.Nat.{ℕ, ◌+◌, ◌-◌, ◌*◌, ◌≤◌, ◌<◌}
 use native.Mathlib.Decide.{ℕ_discrete, dec_lt}
 use native.Mathlib.Omega.{arith}
@@ -83,12 +83,12 @@ guide_counts T G t f g a b =
     ∙ how_many_ext _ _ (room references T) (λ r l. at (slot references T r) ∙ sym (passes_slot references (in_frame t f) T r))
   where
     at : (o : Option Reference) → holding (λ (x : Reference). eqb (cell x) (cell_of t f)) o ≡ holding (in_frame t f) o
-    at none = refl
-    at (some x) = cell_is_frame t f x a b
+    at None = refl
+    at (Some x) = cell_is_frame t f x a b
 
 -- row r is of thread t and frame f or above: its bit is set
 frames_show : (bit_of : ℕ → ℕ) (from : ℕ) (T : Table) (G : List ℕ) (t f r : ℕ) (x : Reference) → Shown cell bit_of from (slot references T) (room references T) G
-    → r < room references T → slot references T r ≡ some x → from_frame t f x ≡ true → bit (bits_from G from t f) (bit_of r) ≡ true
+    → r < room references T → slot references T r ≡ Some x → from_frame t f x ≡ true → bit (bits_from G from t f) (bit_of r) ≡ true
 unfolding bits_from
 frames_show bit_of from T G t f r x g l e y = go (dec_lt 16 t) (dec_lt 64 x.frame)
   where
@@ -123,10 +123,10 @@ frames_show bit_of from T G t f r x g l e y = go (dec_lt 16 t) (dec_lt 64 x.fram
         (bit_among G (from + cell_of t f) (65 - f) (x.frame - f) (bit_of r) (omega (arith, high, h)) (ap (λ (j : ℕ). bit (get_or G j 0) (bit_of r)) (sym k) ∙ its))
 
 module _ (T : Table) (G : List ℕ) (t f r : ℕ) (x : Reference) (g : Guides T G) where
-  pub word_shown : r < room references T → slot references T r ≡ some x → from_frame t f x ≡ true → bit (bits_from G words t f) (word_bit r) ≡ true
+  pub word_shown : r < room references T → slot references T r ≡ Some x → from_frame t f x ≡ true → bit (bits_from G words t f) (word_bit r) ≡ true
   word_shown l e y = frames_show word_bit words T G t f r x g.words_shown l e y
 
-  pub mark_shown : r < room references T → slot references T r ≡ some x → from_frame t f x ≡ true → bit (bits_from G marks t f) (mark_bit r) ≡ true
+  pub mark_shown : r < room references T → slot references T r ≡ Some x → from_frame t f x ≡ true → bit (bits_from G marks t f) (mark_bit r) ≡ true
   mark_shown l e y = frames_show mark_bit marks T G t f r x g.marks_shown l e y
 
 -- how many rows are used
@@ -135,16 +135,16 @@ unfolding tally alive
 guide_used T G g = g.counted 0 (omega arith) ∙ how_many_ext _ _ (room references T) (λ r l. at (slot references T r) ∙ sym (used_slot references T r))
   where
     at : (o : Option Reference) → holding (λ (x : Reference). eqb (any x) 0) o ≡ holding (λ (x : Reference). true) o
-    at none = refl
-    at (some x) = refl
+    at None = refl
+    at (Some x) = refl
 
 -- the lowest free row is not below the word that is named
 pub guide_free : (T : Table) (G : List ℕ) → Guides T G → free_from references T (get_or G low_at 0) ≡ free_row references T
 guide_free T G g = lowest_is_from references T (get_or G low_at 0) (λ r l u. free_slot references T r ∙ at r l u (slot references T r) refl)
   where
     at : (r : ℕ) → r < room references T → r < get_or G low_at 0 * word → (o : Option Reference) → slot references T r ≡ o → empty o ≡ false
-    at r l u none e = absurd (omega (arith, u, g.low r l e))
-    at r l u (some x) e = refl
+    at r l u None e = absurd (omega (arith, u, g.low r l e))
+    at r l u (Some x) e = refl
 
 pub leads_free : (T : Table) (G : List ℕ) → Leads T G → free_from references T (get_or G low_at 0) ≡ free_row references T
 leads_free T G (scans e) =

@@ -1,6 +1,5 @@
 -- How many rows are used, and where the lowest free one may stand: two numbers of a guide. Assumes nothing.
-use Rattle.std.specs.Prelude.{◌≡◌, List, ℕ, ◌*◌, ◌/◌, ◌≤◌, ◌<◌, min, get_or, set}
-use Rattle.std.proofs.Math.Option.{Option, none}
+use Rattle.std.specs.Prelude.{◌≡◌, List, ℕ, ◌*◌, ◌/◌, ◌≤◌, ◌<◌, min, get_or, set, Option, None}
 use Rattle.rows.specs.Marks.{word}
 
 -- row r was the lowest free one; and row r is free
@@ -16,4 +15,4 @@ any x = 0
 
 -- one-sided: of the first n rows, none that is free stands below the word of marks that is named at k
 abbrev pub NoneBelow : {A : Type 0} → ℕ → (ℕ → Option A) → ℕ → List ℕ → Type 0
-NoneBelow k S n G = (r : ℕ) → r < n → S r ≡ none → get_or G k 0 * word ≤ r
+NoneBelow k S n G = (r : ℕ) → r < n → S r ≡ None → get_or G k 0 * word ≤ r

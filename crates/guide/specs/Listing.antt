@@ -1,6 +1,5 @@
 -- Each row that is used is listed at one of two places of a guide, or both are full. Assumes nothing.
-use Rattle.std.specs.Prelude.{◌≡◌, Bool, true, not, ◌&&◌, ◌||◌, List, ℕ, ◌<◌, eqb, get_or, set}
-use Rattle.std.proofs.Math.Option.{Option, none, some}
+use Rattle.std.specs.Prelude.{◌≡◌, Bool, true, not, ◌&&◌, ◌||◌, List, ℕ, ◌<◌, eqb, get_or, set, Option, None, Some}
 use Rattle.words.specs.Choice.{if_true◌then◌else◌}
 use Rattle.rows.specs.Scan.{lowest}
 use Rattle.rows.specs.Slots.{holding}
@@ -24,7 +23,7 @@ module _ {A : Type 0} (L : Layout A) where
   module _ (first second : A → ℕ) where
     -- row r is used, and s is one of its two places
     unfoldable pub wants : Table → ℕ → ℕ → Bool
-    wants T s r = holding (λ x. eqb (first x) s || eqb (second x) s) (get_or (view L T) r none)
+    wants T s r = holding (λ x. eqb (first x) s || eqb (second x) s) (get_or (view L T) r None)
 
     -- word w of place s with row r instead of one that does not want it; where all three do, w is full
     unfoldable pub with_row : Table → ℕ → ℕ → ℕ → ℕ
@@ -45,4 +44,4 @@ module _ {A : Type 0} (L : Layout A) where
 
     -- what the guide is for: of the first n rows, each that is used is listed
     abbrev pub Listed : (ℕ → Option A) → ℕ → List ℕ → Type 0
-    Listed S n G = (r : ℕ) (x : A) → r < n → S r ≡ some x → lists G (first x) (second x) r ≡ true
+    Listed S n G = (r : ℕ) (x : A) → r < n → S r ≡ Some x → lists G (first x) (second x) r ≡ true

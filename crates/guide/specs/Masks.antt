@@ -1,6 +1,5 @@
 -- Of each cell the places where its rows stand, a bit for each; more bits may be set. Assumes nothing.
-use Rattle.std.specs.Prelude.{◌≡◌, true, List, ℕ, zero, suc, ◌+◌, ◌/◌, ◌%◌, ◌^◌, ◌<◌, get_or, set}
-use Rattle.std.proofs.Math.Option.{Option, some}
+use Rattle.std.specs.Prelude.{◌≡◌, true, List, ℕ, zero, suc, ◌+◌, ◌/◌, ◌%◌, ◌^◌, ◌<◌, get_or, set, Option, Some}
 use Rattle.std.specs.Int.Bits.{bit_or}
 use Rattle.rows.specs.Marks.{word, bit}
 
@@ -27,4 +26,4 @@ no_bits G k (suc n) = set (no_bits G k n) (k + n) 0
 module _ {A : Type 0} (cell : A → ℕ) (bit_of : ℕ → ℕ) where
   -- one-sided: of the first n rows, each that is used has its bit set
   abbrev pub Shown : ℕ → (ℕ → Option A) → ℕ → List ℕ → Type 0
-  Shown from S n G = (r : ℕ) (x : A) → r < n → S r ≡ some x → bit (get_or G (from + cell x) 0) (bit_of r) ≡ true
+  Shown from S n G = (r : ℕ) (x : A) → r < n → S r ≡ Some x → bit (get_or G (from + cell x) 0) (bit_of r) ≡ true

@@ -1,6 +1,5 @@
 -- The guide of pin rows: where a buffer is listed, and how many buffers each thread has. Assumes nothing.
-use Rattle.std.specs.Prelude.{◌≡◌, List, ℕ, zero, suc, ◌+◌, ◌*◌, ◌/◌, ◌%◌, leb, length, get_or}
-use Rattle.std.proofs.Math.Option.{Option, none, some}
+use Rattle.std.specs.Prelude.{◌≡◌, List, ℕ, zero, suc, ◌+◌, ◌*◌, ◌/◌, ◌%◌, leb, length, get_or, Option, None, Some}
 use Rattle.words.specs.Choice.{if_true◌then◌else◌}
 use Rattle.rows.specs.declared.pins.Pin.{Pin}
 use Rattle.rows.specs.Table.{Table, room}
@@ -41,19 +40,19 @@ found_in T G t f b = found_by pins G (first_of t f b) (second_of t f b) (is_buff
 
 -- with row r, which holds this
 abbrev pub with_slot : Table → List ℕ → ℕ → Option Pin → List ℕ
-with_slot T G r none = G
-with_slot T G r (some x) = more_at (with_listed pins first second T G (first x) (second x) r) (places + cell x)
+with_slot T G r None = G
+with_slot T G r (Some x) = more_at (with_listed pins first second T G (first x) (second x) r) (places + cell x)
 
 unfoldable pub noted : Table → List ℕ → ℕ → List ℕ
-noted T G r = with_slot T G r (get_or (view pins T) r none)
+noted T G r = with_slot T G r (get_or (view pins T) r None)
 
 -- without it: its place stays until another row wants it
 abbrev pub without_slot : List ℕ → Option Pin → List ℕ
-without_slot G none = G
-without_slot G (some x) = less_at G (places + cell x)
+without_slot G None = G
+without_slot G (Some x) = less_at G (places + cell x)
 
 unfoldable pub forgotten : Table → List ℕ → ℕ → List ℕ
-forgotten T G r = without_slot G (get_or (view pins T) r none)
+forgotten T G r = without_slot G (get_or (view pins T) r None)
 
 -- the first n rows noted, one after another
 unfoldable pub filled : Table → List ℕ → ℕ → List ℕ

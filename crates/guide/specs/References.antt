@@ -1,6 +1,5 @@
 -- The guide of reference rows: where the handle of a thread is listed, how many locals each frame has and where they stand, and where the lowest free row may stand. Assumes nothing.
-use Rattle.std.specs.Prelude.{◌≡◌, ◌&&◌, List, ℕ, zero, suc, ◌+◌, ◌-◌, ◌*◌, ◌/◌, ◌%◌, leb, length, get_or}
-use Rattle.std.proofs.Math.Option.{Option, none, some}
+use Rattle.std.specs.Prelude.{◌≡◌, ◌&&◌, List, ℕ, zero, suc, ◌+◌, ◌-◌, ◌*◌, ◌/◌, ◌%◌, leb, length, get_or, Option, None, Some}
 use Rattle.std.specs.Int.Bits.{bit_or}
 use Rattle.words.specs.Choice.{if_true◌then◌else◌}
 use Rattle.rows.specs.declared.references.Reference.{Reference}
@@ -65,8 +64,8 @@ found_in T G t h = found_by references G (first_of t h) (second_of t h) (is_hand
 
 -- with row r, which holds this
 abbrev pub with_slot : Table → List ℕ → ℕ → Option Reference → List ℕ
-with_slot T G r none = G
-with_slot T G r (some x) =
+with_slot T G r None = G
+with_slot T G r (Some x) =
     more_at
     (with_bit
     (with_bit (more_at (with_listed references first second T G (first x) (second x) r) (places + cell x)) (words + cell x) (word_bit r))
@@ -75,15 +74,15 @@ with_slot T G r (some x) =
     used_at
 
 unfoldable pub noted : Table → List ℕ → ℕ → List ℕ
-noted T G r = with_slot T G r (get_or (view references T) r none)
+noted T G r = with_slot T G r (get_or (view references T) r None)
 
 -- without it: its place stays until another row wants it
 abbrev pub without_slot : List ℕ → ℕ → Option Reference → List ℕ
-without_slot G r none = G
-without_slot G r (some x) = lowered_at (less_at (less_at G (places + cell x)) used_at) low_at r
+without_slot G r None = G
+without_slot G r (Some x) = lowered_at (less_at (less_at G (places + cell x)) used_at) low_at r
 
 unfoldable pub forgotten : Table → List ℕ → ℕ → List ℕ
-forgotten T G r = without_slot G r (get_or (view references T) r none)
+forgotten T G r = without_slot G r (get_or (view references T) r None)
 
 -- the bits of the frames of thread t from f on, and of what is in no such frame, together
 unfoldable pub bits_from : List ℕ → ℕ → ℕ → ℕ → ℕ

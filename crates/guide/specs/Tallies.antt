@@ -1,6 +1,5 @@
 -- How many used rows fall to each cell: numbers behind one another in a guide. Assumes nothing.
-use Rattle.std.specs.Prelude.{◌≡◌, List, ℕ, suc, ◌+◌, ◌-◌, ◌<◌, eqb, ltb, get_or, set}
-use Rattle.std.proofs.Math.Option.{Option}
+use Rattle.std.specs.Prelude.{◌≡◌, List, ℕ, suc, ◌+◌, ◌-◌, ◌<◌, eqb, ltb, get_or, set, Option}
 use Rattle.words.specs.Choice.{if_true◌then◌else◌}
 use Rattle.rows.specs.Scan.{how_many}
 use Rattle.rows.specs.Slots.{holding}

@@ -1,26 +1,18 @@
 // The guide of reference rows: where the handle of a thread is listed, how many locals each frame has and where they stand, and where the lowest free row may stand.
-ghost use Rattle.std.specs.Prelude.{◌≡◌, ◌&&◌, ◌+◌, ◌-◌, ◌<◌, ◌≤◌, min, length, get_or};
-ghost use Rattle.std.proofs.Math.Option.{none};
-ghost use Rattle.words.specs.Choice.{if_true◌then◌else◌};
-ghost use Rattle.rows.specs.Scan.{lowest};
-ghost use Rattle.rows.specs.Slots.{holding};
+ghost use Rattle.std.specs.Prelude.{◌≡◌, ◌+◌, ◌-◌, ◌<◌, ◌≤◌, min, length, get_or, fold};
+ghost use Rattle.std.specs.Int.Bits.{bit_or};
 ghost use Rattle.rows.specs.Marks.{word};
 ghost use Rattle.rows.specs.Table.{table, room};
 ghost use Rattle.rows.specs.Frees.{free_from};
-ghost use Rattle.rows.specs.View.{slot, view};
-ghost use Rattle.rows.specs.References.{references, is_handle};
-ghost use Rattle.guide.specs.Words.{lane, named};
-ghost use Rattle.guide.specs.Listing.{wants, with_row, with_listed};
+ghost use Rattle.rows.specs.References.{references};
 ghost use Rattle.guide.specs.Masks.{with_bit};
 ghost use Rattle.guide.specs.Frees.{raised_at, lowered_at};
 ghost use Rattle.guide.specs.References.{places, cells, words, marks as mark_words, used_at, low_at, size, first_of, second_of, first, second, cell_of, found_in, noted, forgotten, bits_from, none_from, filled};
 
+use crate::listing::{self, Listed, list};
 use crate::spread::spread;
-use crate::word::{
-    above, is_full, is_named, less, lesser, more, name_a, name_b, name_c, number_at, put_word,
-    word_at, word_of,
-};
-use rows::references::{Held, Reference};
+use crate::word::{less, more, number_at, put_word};
+use rows::references::Reference;
 use rows::{Number, WORD};
 
 // So many words are a guide.
@@ -57,99 +49,40 @@ fn second_of(t: Number, h: Number) -> usize
     (spread(h, t % 32) / 4 % PLACES) as usize
 }
 
-// Row r where it is that of handle h in thread t, else n.
-fn row_or(rows: &[Number], marks: &[u64], r: usize, n: usize, t: Number, h: Number) -> usize
-    ensures { result ≡ (if_true holding (is_handle t h) (get_or (view references (table rows.now marks.now)) r none) then r else n) }
-{
-    let held = rows::references::slot(rows, marks, r);
-    match held {
-        Held::Row(x) => {
-            if (x.handle == h) & (x.thread == t) {
-                r
-            } else {
-                n
-            }
-        }
-        Held::Nothing => n,
+impl Listed for Reference {
+    ghost layout = { references };
+
+    ghost first = { first };
+
+    ghost second = { second };
+
+    fn room(rows: &[Number], marks: &[u64]) -> usize {
+        rows::references::room(rows, marks)
+    }
+
+    fn slot(rows: &[Number], marks: &[u64], r: usize) -> Option<Reference> {
+        rows::references::slot(rows, marks, r)
+    }
+
+    fn first(self) -> usize {
+        first_of(self.thread, self.handle)
+    }
+
+    fn second(self) -> usize {
+        second_of(self.thread, self.handle)
     }
 }
 
-// The lowest such row that word w names, or the room.
-fn named_row(rows: &[Number], marks: &[u64], w: u64, t: Number, h: Number) -> usize
-    ensures { result ≡ lowest (λ k. holding (is_handle t h) (slot references (table rows.now marks.now) k) && named w k) (room references (table rows.now marks.now)) }
-{
-    let n = rows::references::room(rows, marks);
-    let a = row_or(rows, marks, name_a(w), n, t, h);
-    let b = row_or(rows, marks, name_b(w), n, t, h);
-    let c = row_or(rows, marks, name_c(w), n, t, h);
-    lesser(lesser(a, b), c)
-}
-
-// The lowest used row of handle h in thread t, of those that the guide lists for it, or the room. It names `named_row` once, so that this is compiled into it: a call would copy the slices.
+// The lowest used row of handle h in thread t, of those that the guide lists for it, or the room.
 pub fn find(rows: &[Number], marks: &[u64], guide: &[u64], t: Number, h: Number) -> usize
     ensures { result ≡ found_in (table rows.now marks.now) guide.now t h }
 {
-    if guide.len() == 0 {
-        return rows::references::find(rows, marks, t, h);
+    let is = |x: Reference| (x.handle == h) & (x.thread == t);
+    let listed = listing::find(rows, marks, guide, first_of(t, h), second_of(t, h), &is);
+    match listed {
+        Some(r) => r,
+        None => rows::references::find(rows, marks, t, h),
     }
-    let mut s = first_of(t, h);
-    let mut best = rows::references::room(rows, marks);
-    let mut left: usize = 2;
-    while 0 < left {
-        let w = word_at(guide, s);
-        best = lesser(best, named_row(rows, marks, w, t, h));
-        if !is_full(w) {
-            return best;
-        }
-        s = second_of(t, h);
-        left -= 1;
-    }
-    rows::references::find(rows, marks, t, h)
-}
-
-// Row r is used, and s is one of its two places.
-fn wants(rows: &[Number], marks: &[u64], s: usize, r: usize) -> bool
-    ensures { result ≡ wants references first second (table rows.now marks.now) s r }
-{
-    let held = rows::references::slot(rows, marks, r);
-    match held {
-        Held::Row(x) => (first_of(x.thread, x.handle) == s) | (second_of(x.thread, x.handle) == s),
-        Held::Nothing => false,
-    }
-}
-
-// Word w of place s with row r instead of one that does not want it; where all three do, w is full.
-fn with_row(rows: &[Number], marks: &[u64], s: usize, w: u64, r: usize) -> u64
-    requires { r < lane }
-    ensures { result ≡ with_row references first second (table rows.now marks.now) s w r }
-{
-    let a = name_a(w);
-    let b = name_b(w);
-    let c = name_c(w);
-    if !wants(rows, marks, s, a) {
-        return word_of(r, b, c, above(w));
-    }
-    if !wants(rows, marks, s, b) {
-        return word_of(a, r, c, above(w));
-    }
-    if !wants(rows, marks, s, c) {
-        return word_of(a, b, r, above(w));
-    }
-    word_of(a, b, c, 1)
-}
-
-// Row r listed at place a, or at b where a is full.
-fn list(rows: &[Number], marks: &[u64], guide: &mut [u64], a: usize, b: usize, r: usize)
-    requires { r < lane }
-    ensures { guide.new ≡ with_listed references first second (table rows.now marks.now) guide.old a b r }
-{
-    let v = with_row(rows, marks, a, word_at(guide, a), r);
-    put_word(guide, a, v);
-    if is_named(v, r) {
-        return;
-    }
-    let w = with_row(rows, marks, b, word_at(guide, b), r);
-    put_word(guide, b, w);
 }
 
 // The cell of frame f of thread t.
@@ -157,9 +90,10 @@ fn cell_of(t: Number, f: Number) -> usize
     ensures { (result ≡ cell_of t f) × (result < cells) }
 {
     if (t <= 16) & (f <= 64) {
-        return t as usize * FRAMES + f as usize;
+        t as usize * FRAMES + f as usize
+    } else {
+        OTHERS
     }
-    OTHERS
 }
 
 // Bit i set in the word at k.
@@ -167,34 +101,22 @@ fn set_bit(guide: &mut [u64], k: usize, i: usize)
     requires { i < word }
     ensures { guide.new ≡ with_bit guide.old k i }
 {
-    if guide.len() <= k {
-        return;
+    if k < guide.len() {
+        guide[k] |= 1 << i;
     }
-    guide[k] = guide[k] | (1 << i);
 }
 
 // Row r, where it is used, is in the guide: listed, shown and counted.
 pub fn note(rows: &[Number], marks: &[u64], guide: &mut [u64], r: usize)
     ensures { guide.new ≡ noted (table rows.now marks.now) guide.old r }
 {
-    let held = rows::references::slot(rows, marks, r);
-    match held {
-        Held::Row(x) => {
-            list(
-                rows,
-                marks,
-                guide,
-                first_of(x.thread, x.handle),
-                second_of(x.thread, x.handle),
-                r,
-            );
-            let k = cell_of(x.thread, x.frame);
-            more(guide, COUNTS + k);
-            set_bit(guide, WORDS + k, r / WORD % WORD);
-            set_bit(guide, MARKS + k, r % WORD);
-            more(guide, USED);
-        }
-        Held::Nothing => {}
+    if let Some(x) = rows::references::slot(rows, marks, r) {
+        list(rows, marks, guide, x, r);
+        let k = cell_of(x.thread, x.frame);
+        more(guide, COUNTS + k);
+        set_bit(guide, WORDS + k, r / WORD % WORD);
+        set_bit(guide, MARKS + k, r % WORD);
+        more(guide, USED);
     }
 }
 
@@ -202,14 +124,10 @@ pub fn note(rows: &[Number], marks: &[u64], guide: &mut [u64], r: usize)
 pub fn forget(rows: &[Number], marks: &[u64], guide: &mut [u64], r: usize)
     ensures { guide.new ≡ forgotten (table rows.now marks.now) guide.old r }
 {
-    let held = rows::references::slot(rows, marks, r);
-    match held {
-        Held::Row(x) => {
-            less(guide, COUNTS + cell_of(x.thread, x.frame));
-            less(guide, USED);
-            lower(guide, r);
-        }
-        Held::Nothing => {}
+    if let Some(x) = rows::references::slot(rows, marks, r) {
+        less(guide, COUNTS + cell_of(x.thread, x.frame));
+        less(guide, USED);
+        lower(guide, r);
     }
 }
 
@@ -220,20 +138,21 @@ pub fn held(guide: &[u64], t: Number, f: Number) -> u64
     number_at(guide, COUNTS + cell_of(t, f))
 }
 
+// The bits of all these words.
+fn together(ws: &[u64]) -> u64
+    ensures { result ≡ fold bit_or 0 ws.now }
+{
+    ws.iter().fold(0, |a, w| a | *w)
+}
+
 // The bits of the frames from f on of thread t, together, and those of what is in no such frame, where their words stand from `at` on.
 fn bits_from(guide: &[u64], at: usize, t: Number, f: Number) -> u64
     requires { at ≤ size }
     ensures { result ≡ bits_from guide.now at t f }
 {
-    let k = at + cell_of(t, f);
+    let k = guide.len().min(at + cell_of(t, f));
     let n = frames_in(guide, k, f);
-    let mut bits = 0;
-    let mut i = 0;
-    while i < n {
-        bits = bits | guide[k + i];
-        i += 1;
-    }
-    number_at(guide, at + OTHERS) | bits
+    number_at(guide, at + OTHERS) | together(&guide[k..k + n])
 }
 
 // The words of marks where rows of thread t and frame f or above may stand: a bit for each.
@@ -255,13 +174,9 @@ fn clear_bits(guide: &mut [u64], at: usize, t: Number, f: Number)
     requires { at ≤ size }
     ensures { guide.new ≡ none_from guide.old at t f }
 {
-    let k = at + cell_of(t, f);
+    let k = guide.len().min(at + cell_of(t, f));
     let n = frames_in(guide, k, f);
-    let mut i = 0;
-    while i < n {
-        guide[k + i] = 0;
-        i += 1;
-    }
+    guide[k..k + n].fill(0);
 }
 
 // No such rows are there any more.
@@ -291,9 +206,7 @@ fn lower(guide: &mut [u64], r: usize)
     ensures { guide.new ≡ lowered_at guide.old low_at r }
 {
     let w = (r / WORD) as u64;
-    if w < number_at(guide, LOW) {
-        put_word(guide, LOW, w);
-    }
+    put_word(guide, LOW, number_at(guide, LOW).min(w));
 }
 
 // The lowest free row, of those that are not below the word which the guide names, or the room.
@@ -308,29 +221,16 @@ pub fn fill(rows: &[Number], marks: &[u64], guide: &mut [u64])
     ensures { guide.new ≡ filled (table rows.now marks.now) guide.old (room references (table rows.now marks.now)) }
 {
     let n = rows::references::room(rows, marks);
-    let mut r = 0;
-    while r < n {
+    for r in 0..n {
         note(rows, marks, guide, r);
-        r += 1;
     }
 }
 
-// How many frames there are from f to 64.
-fn frames_from(f: Number) -> usize
-    ensures { result ≡ 65 - f }
-{
-    if f <= 64 {
-        return FRAMES - f as usize;
-    }
-    0
-}
-
-// Of how many of them the guide has words from k on. The test of its length stands before their loops, which are compiled to vectors.
+// Of how many frames from f to 64 the guide has words from k on.
 fn frames_in(guide: &[u64], k: usize, f: Number) -> usize
     ensures { result ≡ min (65 - f) (length guide.now - k) }
 {
-    if guide.len() <= k {
-        return 0;
-    }
-    lesser(frames_from(f), guide.len() - k)
+    FRAMES
+        .saturating_sub(f as usize)
+        .min(guide.len().saturating_sub(k))
 }

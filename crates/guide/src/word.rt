@@ -1,5 +1,5 @@
 // A word of a guide: three rows that it names, and whether it is full, so that a row may stand where it names none.
-ghost use Rattle.std.specs.Prelude.{◌≡◌, ◌<◌, min, get_or, set};
+ghost use Rattle.std.specs.Prelude.{◌≡◌, ◌<◌, get_or, set};
 ghost use Rattle.guide.specs.Listing.{word_at};
 ghost use Rattle.guide.specs.Tallies.{more_at, less_at};
 ghost use Rattle.guide.specs.Words.{lane, name_a, name_b, name_c, above, is_full, word_of, named};
@@ -18,20 +18,16 @@ const FULL: u64 = LANES * LANE;
 pub(crate) fn word_at(guide: &[u64], s: usize) -> u64
     ensures { result ≡ word_at guide.now s }
 {
-    if guide.len() <= s {
-        return FULL;
-    }
-    guide[s]
+    guide.get(s).copied().unwrap_or(FULL)
 }
 
-// Past the end nothing is written.
+// Past the end nothing is written. By a bound: behind `get_mut` a proof knows the length alone.
 pub(crate) fn put_word(guide: &mut [u64], s: usize, w: u64)
     ensures { guide.new ≡ set guide.old s w }
 {
-    if guide.len() <= s {
-        return;
+    if s < guide.len() {
+        guide[s] = w;
     }
-    guide[s] = w;
 }
 
 pub(crate) fn name_a(w: u64) -> usize
@@ -81,20 +77,11 @@ pub(crate) fn is_named(w: u64, r: usize) -> bool
 
 // ---- numbers of a guide
 
-pub(crate) fn lesser(a: usize, b: usize) -> usize
-    ensures { result ≡ min a b }
-{
-    if a < b { a } else { b }
-}
-
 // The number at place k, 0 past the end.
 pub(crate) fn number_at(guide: &[u64], k: usize) -> u64
     ensures { result ≡ get_or guide.now k 0 }
 {
-    if guide.len() <= k {
-        return 0;
-    }
-    guide[k]
+    guide.get(k).copied().unwrap_or(0)
 }
 
 // One more at place k, never above the most rows of a room.
@@ -112,7 +99,5 @@ pub(crate) fn less(guide: &mut [u64], k: usize)
     ensures { guide.new ≡ less_at guide.old k }
 {
     let n = number_at(guide, k);
-    if 0 < n {
-        put_word(guide, k, n - 1);
-    }
+    put_word(guide, k, n.saturating_sub(1));
 }

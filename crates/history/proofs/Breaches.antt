@@ -1,10 +1,11 @@
 -- The breaches computed of a line are those of documents 01 and 02, after accepted lines. Assumes nothing.
+use Rattle.std.proofs.lemmas.Option.{none-some}
 use Prim.Native.Nat.{ℕ, suc, ◌<◌}
 use mathlib.Core.Path.{◌≡◌, refl, sym, ap, ◌∙◌, subst, fun_ext}
 use mathlib.Core.Logic.{◌⊎◌, inl, inr, ◌↔◌, ◌≢◌}
 use mathlib.Core.Bool.{Bool, true, false, not, ◌&&◌, ◌||◌, false≢true, and-false}
 use mathlib.Core.List.{List, [], ◌∷◌, Memᴰ}
-use mathlib.Core.Option.{Option, none, some, none-ne-some}
+use Rattle.std.specs.Prelude.{Option, None, Some}
 use lib.Dec.{eqb, leb, ltb}
 use lib.IntN.{ℤ, pos, negsuc}
 use lib.ListN.{length}
@@ -37,9 +38,9 @@ use Rattle.history.proofs.OneMore.{one_more}
 use Rattle.history.proofs.After.{end_living, end_outstanding}
 use Rattle.history.proofs.Places.{place_is}
 
-pub that_rule : (rule : ℕ) (o : Option ℕ) → is_rule rule o ≡ true → o ≡ some rule
-that_rule rule none h = absurd (false≢true h)
-that_rule rule (some r) h = rw (eqb-true rule r h)
+pub that_rule : (rule : ℕ) (o : Option ℕ) → is_rule rule o ≡ true → o ≡ Some rule
+that_rule rule None h = absurd (false≢true h)
+that_rule rule (Some r) h = rw (eqb-true rule r h)
 
 module _ (room : Room) (past : History) (so_far : Accepted room past) where
   -- ---- critical regions
@@ -73,8 +74,8 @@ module _ (room : Room) (past : History) (so_far : Accepted room past) where
   -- ---- what is computed is right
 
   abbrev Right : Line → ℕ → ℕ → Option ℕ → Type 0
-  Right e rule place none = Unit {0}
-  Right e rule place (some v) = Broken past e rule place v
+  Right e rule place None = Unit {0}
+  Right e rule place (Some v) = Broken past e rule place v
 
   when_right : (e : Line) (rule place : ℕ) (b : Bool) (x : ℕ) → (b ≡ true → Broken past e rule place x) → Right e rule place (when b x)
   when_right e rule place true x h = h refl
@@ -190,28 +191,28 @@ module _ (room : Room) (past : History) (so_far : Accepted room past) where
 
   -- ---- places
 
-  place_right : (e : Line) (rule place : ℕ) → rule_at e (seen past) place ≡ some rule → Broken past e rule place (value_at e place)
+  place_right : (e : Line) (rule place : ℕ) → rule_at e (seen past) place ≡ Some rule → Broken past e rule place (value_at e place)
   unfolding rule_at place_rule is_there
-  place_right (N t env hs) rule place h = absurd (none-ne-some rule h)
+  place_right (N t env hs) rule place h = absurd (none-some rule h)
   place_right (X t r) rule place h = go (eqb place 1) refl h
     where
-      go : (q : Bool) → eqb place 1 ≡ q → rule_here no_class (if_true q then Place.HandleOrNull else Place.Unused) t 0 r (seen past) ≡ some rule → Broken past (X t r) rule place r
+      go : (q : Bool) → eqb place 1 ≡ q → rule_here no_class (if_true q then Place.HandleOrNull else Place.Unused) t 0 r (seen past) ≡ Some rule → Broken past (X t r) rule place r
       go true e k = rw (eqb-true place 1 e) (at_result t r rule ((place_is room past so_far t 0 no_class Place.HandleOrNull r rule).0 k))
-      go false e k = absurd (none-ne-some rule k)
+      go false e k = absurd (none-some rule k)
   place_right (C t env f a b c n) rule place h = go (eqb place 1) refl (eqb place 2) refl (eqb place 3) refl h
     where
       go : (x : Bool) → eqb place 1 ≡ x → (y : Bool) → eqb place 2 ≡ y → (z : Bool) → eqb place 3 ≡ z
-          → rule_here (if_true x then class_a f else if_true y then class_b f else no_class) (if_true x then (fact_of f).a else if_true y then (fact_of f).b else if_true z then (fact_of f).c else Place.Unused) t f (if_true x then a else if_true y then b else c) (seen past) ≡ some rule
+          → rule_here (if_true x then class_a f else if_true y then class_b f else no_class) (if_true x then (fact_of f).a else if_true y then (fact_of f).b else if_true z then (fact_of f).c else Place.Unused) t f (if_true x then a else if_true y then b else c) (seen past) ≡ Some rule
           → Broken past (C t env f a b c n) rule place (if_true x then a else if_true y then b else c)
       go true e y ey z ez k = rw (eqb-true place 1 e) (at_a t env f a b c rule n ((place_is room past so_far t f (class_a f) (fact_of f).a a rule).0 k))
       go false e true ey z ez k = rw (eqb-true place 2 ey) (at_b t env f a b c rule n ((place_is room past so_far t f (class_b f) (fact_of f).b b rule).0 k))
       go false e false ey true ez k = rw (eqb-true place 3 ez) (at_c t env f a b c rule n ((place_is room past so_far t f no_class (fact_of f).c c rule).0 k))
-      go false e false ey false ez k = absurd (none-ne-some rule k)
-  place_right (R t f r p) rule place h = absurd (none-ne-some rule h)
-  place_right (A t env) rule place h = absurd (none-ne-some rule h)
-  place_right (D t) rule place h = absurd (none-ne-some rule h)
-  place_right Z rule place h = absurd (none-ne-some rule h)
-  place_right (states s) rule place h = absurd (none-ne-some rule h)
+      go false e false ey false ez k = absurd (none-some rule k)
+  place_right (R t f r p) rule place h = absurd (none-some rule h)
+  place_right (A t env) rule place h = absurd (none-some rule h)
+  place_right (D t) rule place h = absurd (none-some rule h)
+  place_right Z rule place h = absurd (none-some rule h)
+  place_right (states s) rule place h = absurd (none-some rule h)
 
   breach_right : (e : Line) (rule place : ℕ) → Right e rule place (breach e (seen past) rule place)
   unfolding breach
@@ -223,7 +224,7 @@ module _ (room : Room) (past : History) (so_far : Accepted room past) where
 
   -- ---- and each breach of document 01 is computed
 
-  at_place : (rule v : ℕ) (o : Option ℕ) → o ≡ some rule → when (is_rule rule o) v ≡ some v
+  at_place : (rule v : ℕ) (o : Option ℕ) → o ≡ Some rule → when (is_rule rule o) v ≡ Some v
   at_place rule v o h = rw (h, eqb_self rule)
 
   overflow_computed : (t f h p capacity : ℕ) (lower : List ℕ) → (fact_of f).result ≡ Result.Local → h ≢ 0 → capacities t (R t f (pos h) p ∷ past) ≡ capacity ∷ lower
@@ -233,10 +234,10 @@ module _ (room : Room) (past : History) (so_far : Accepted room past) where
       rw (is, ne_eqb h 0 nz, sym (other_status_capacities t f p (pos h) past (ne_eqb h 0 nz)) ∙ cs)
       (lt-ltb capacity (suc (alive_in t (depth t past) past)) (subst (λ (n : ℕ). capacity < n) (one_more t f h p past is nz) above))
 
-  counted : (x k : ℕ) → k ≡ x → 0 < k → some_of x ≡ some k
+  counted : (x k : ℕ) → k ≡ x → 0 < k → some_of x ≡ Some k
   counted x k e l = rw (sym e, lt-ltb 0 k l)
 
-  computed : (e : Line) (rule place v : ℕ) → Broken past e rule place v → breach e (seen past) rule place ≡ some v
+  computed : (e : Line) (rule place v : ℕ) → Broken past e rule place v → breach e (seen past) rule place ≡ Some v
   unfolding breach line_rule call_rule detach_rule end_rule rule_at seen
   computed _ _ _ _ (at_a t env f a b c rule n w) = at_place rule a (rule_here (class_a f) (fact_of f).a t f a (seen past)) ((place_is room past so_far t f (class_a f) (fact_of f).a a rule).1 w)
   computed _ _ _ _ (at_b t env f a b c rule n w) = at_place rule b (rule_here (class_b f) (fact_of f).b t f b (seen past)) ((place_is room past so_far t f (class_b f) (fact_of f).b b rule).1 w)
@@ -256,6 +257,6 @@ module _ (room : Room) (past : History) (so_far : Accepted room past) where
   computed _ _ _ _ (handles_left k e l) = counted (count global_or_weak (living past)) k (e ∙ sym left_handles) l
 
 -- what is computed of a line is what documents 01 and 02 say of it, and nothing besides
-pub breaches_are : (room : Room) (past : History) → Accepted room past → (e : Line) (rule place thing : ℕ) → (breach e (seen past) rule place ≡ some thing) ↔ Broken past e rule place thing
+pub breaches_are : (room : Room) (past : History) → Accepted room past → (e : Line) (rule place thing : ℕ) → (breach e (seen past) rule place ≡ Some thing) ↔ Broken past e rule place thing
 breaches_are room past so_far e rule place thing =
     (λ h. subst (λ (o : Option ℕ). Right room past so_far e rule place o) h (breach_right room past so_far e rule place), computed room past so_far e rule place thing)

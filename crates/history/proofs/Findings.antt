@@ -4,7 +4,7 @@ use mathlib.Core.Path.{◌≡◌, refl, sym, ap, ◌∙◌, subst}
 use mathlib.Core.Logic.{inl, inr, ◌↔◌}
 use mathlib.Core.List.Memᴰ
 use mathlib.Core.List.{List, [], ◌∷◌, ◌++◌, Memᴰ}
-use mathlib.Core.Option.{Option, none, some}
+use Rattle.std.specs.Prelude.{Option, None, Some}
 use native.Mathlib.Omega.{arith}
 use lib.ListN.{length}
 use Rattle.words.specs.Lists.{joined}
@@ -64,17 +64,17 @@ record Is (g : Finding) (line rule place : ℕ) (b : Option ℕ) : Type 0 where
   at_line : g.line ≡ line
   at_rule : g.rule ≡ rule
   at_place : g.place ≡ place
-  thing : b ≡ some g.thing
+  thing : b ≡ Some g.thing
 
 found_is : (g : Finding) (line rule place : ℕ) (b : Option ℕ) → Memᴰ g (found line rule place b) → Is g line rule place b
-found_is g line rule place none m = absurd (Memᴰ.not-nil m)
-found_is g line rule place (some v) m =
+found_is g line rule place None m = absurd (Memᴰ.not-nil m)
+found_is g line rule place (Some v) m =
     let e = Memᴰ.eq_of_singleton m in
     record {
       at_line = ap (λ (f : Finding). f.line) e;
       at_rule = ap (λ (f : Finding). f.rule) e;
       at_place = ap (λ (f : Finding). f.place) e;
-      thing = sym (ap (λ (f : Finding). some f.thing) e);
+      thing = sym (ap (λ (f : Finding). Some f.thing) e);
     }
 
 is_found : (g : Finding) (line rule place : ℕ) (b : Option ℕ) → Is g line rule place b → Memᴰ g (found line rule place b)
@@ -82,8 +82,8 @@ is_found g line rule place b k =
     rw k.thing (Memᴰ.head λ i. record { line = k.at_line i; rule = k.at_rule i; place = k.at_place i; thing = g.thing })
 
 found_ordered : (line rule place : ℕ) (b : Option ℕ) → Ordered (found line rule place b)
-found_ordered line rule place none = no_more
-found_ordered line rule place (some v) = then_more _ [] (λ g m. absurd (Memᴰ.not-nil m)) no_more
+found_ordered line rule place None = no_more
+found_ordered line rule place (Some v) = then_more _ [] (λ g m. absurd (Memᴰ.not-nil m)) no_more
 
 module _ (line : ℕ) (e : Line) (v : Seen) where
   of_place : ℕ → ℕ → List Finding

@@ -3,7 +3,7 @@ use Prim.Native.Nat.{ℕ, zero, suc, ◌+◌, ◌≤◌, ◌<◌}
 use mathlib.Core.Path.{◌≡◌, refl, sym, ap, ◌∙◌, fun_ext}
 use mathlib.Core.Bool.{Bool, true, false, not, ◌&&◌}
 use mathlib.Core.List.{List, [], ◌∷◌}
-use mathlib.Core.Option.{Option, none, some}
+use Rattle.std.specs.Prelude.{Option, None, Some}
 use native.Mathlib.Omega.{arith}
 use lib.Dec.{eqb, ltb}
 use lib.IntN.{ℤ}
@@ -91,12 +91,12 @@ once r (suc n) lo = go (eqb lo r) refl (once r n (suc lo))
 -- ---- the findings of a line, by place
 
 abbrev given : Option ℕ → ℕ
-given none = 0
-given (some x) = 1
+given None = 0
+given (Some x) = 1
 
 length_found : (line rule place : ℕ) (b : Option ℕ) → length (found line rule place b) ≡ given b
-length_found line rule place none = refl
-length_found line rule place (some x) = refl
+length_found line rule place None = refl
+length_found line rule place (Some x) = refl
 
 given_when : (b : Bool) (x : ℕ) → given (when b x) ≡ one b
 given_when true x = refl
@@ -111,8 +111,8 @@ by_place line b js ks =
 
 -- of a place that breaks a rule, that rule alone
 one_rule : (o : Option ℕ) (x : ℕ) → sum (λ rule. given (when (is_rule rule o) x)) rules ≤ 1
-one_rule none x = omega arith
-one_rule (some r) x = rw (ap (λ (f : ℕ → ℕ). sum f rules) (fun_ext λ rule. given_when (eqb rule r) x)) (once r 11 1)
+one_rule None x = omega arith
+one_rule (Some r) x = rw (ap (λ (f : ℕ → ℕ). sum f rules) (fun_ext λ rule. given_when (eqb rule r) x)) (once r 11 1)
 
 module _ (e : Line) (v : Seen) where
   at_place : ℕ → ℕ
@@ -122,7 +122,7 @@ module _ (e : Line) (v : Seen) where
   unfolding at_place breach
   used_place place l = rw (ne_eqb place 0 (λ z. omega (arith, z))) (one_rule (rule_at e v place) (value_at e place))
 
-  unused_place : (place : ℕ) → 1 ≤ place → rule_at e v place ≡ none → at_place place ≡ 0
+  unused_place : (place : ℕ) → 1 ≤ place → rule_at e v place ≡ None → at_place place ≡ 0
   unfolding at_place breach
   unused_place place l is = rw (ne_eqb place 0 (λ z. omega (arith, z)), is)
 
@@ -178,7 +178,7 @@ module _ (t env f a b c : ℕ) (n : ℤ) (v : Seen) where
       go false ex false ey w = omega (arith, line_counts call v line, all_places)
 
 -- a line that has no places
-no_places : (line : ℕ) (e : Line) (v : Seen) → ((place : ℕ) → rule_at e v place ≡ none) → length (of_line line e v) ≡ whole_line e v
+no_places : (line : ℕ) (e : Line) (v : Seen) → ((place : ℕ) → rule_at e v place ≡ None) → length (of_line line e v) ≡ whole_line e v
 no_places line e v h =
     omega (arith, line_counts e v line, unused_place e v 1 (omega arith) (h 1), unused_place e v 2 (omega arith) (h 2), unused_place e v 3 (omega arith) (h 3))
 

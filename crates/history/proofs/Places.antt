@@ -3,7 +3,7 @@ use Prim.Native.Nat.{ℕ, ◌≤◌}
 use mathlib.Core.Path.{◌≡◌, refl, sym, ap, ◌∙◌, subst}
 use mathlib.Core.Logic.{◌↔◌, ◌≢◌}
 use mathlib.Core.Bool.{Bool, true, false, not, ◌&&◌, ◌||◌}
-use mathlib.Core.Option.{Option, none, some, some-injective}
+use Rattle.std.specs.Prelude.{Option, None, Some, unwrap_or}
 use native.Mathlib.Omega.{arith}
 use lib.Dec.{eqb}
 use borrow.Author.Tests.{eqb-true, eqb-false, ne_eqb, eq-eqb}
@@ -73,27 +73,27 @@ module _ (room : Room) (past : History) (so_far : Accepted room past) (t v fixed
 
       wrong : OfOtherClass past t v fixed → class_here ≡ false
       wrong o =
-          let some = stated_some room past so_far o.handle o.class o.stated in
-          let is : (seen past).class t v ≡ o.class = class_named past t v o.handle o.named o.lives ∙ (class_is past o.handle o.class some).1 o.stated in
+          let Some = stated_some room past so_far o.handle o.class o.stated in
+          let is : (seen past).class t v ≡ o.class = class_named past t v o.handle o.named o.lives ∙ (class_is past o.handle o.class Some).1 o.stated in
           rw (
             ne_eqb fixed no_class o.some_fixed,
             is,
-            ne_eqb o.class no_class some,
+            ne_eqb o.class no_class Some,
             never_true (leads (super_of past) most_looks o.class fixed) (λ h. o.not_below ((leads_are room past so_far o.class fixed o.some_fixed).0 h)),
           )
 
   module _ (f : ℕ) where
     -- what is computed of a place is right
     abbrev Right : Place → Option ℕ → Type 0
-    Right p none = Unit {0}
-    Right p (some r) = Wrong past t f fixed p v r
+    Right p None = Unit {0}
+    Right p (Some r) = Wrong past t f fixed p v r
 
     handle_right : (p : Place) → HandlePlace p → v ≢ 0 → (kind v ≢ 0 → ¬ WrongKind p v) → Right p (handle_rule v (handle_alive t v (seen past)) class_here)
     unfolding handle_rule
     handle_right p hp nz fit = go (eqb (kind v) 0) refl (handle_alive t v (seen past)) refl class_here refl (eqb (kind v) 1) refl
       where
         go : (a : Bool) → eqb (kind v) 0 ≡ a → (b : Bool) → handle_alive t v (seen past) ≡ b → (c : Bool) → class_here ≡ c
-            → (d : Bool) → eqb (kind v) 1 ≡ d → Right p (if_true a then some 4 else if_true b then when (not c) 4 else if_true d then some 11 else some 10)
+            → (d : Bool) → eqb (kind v) 1 ≡ d → Right p (if_true a then Some 4 else if_true b then when (not c) 4 else if_true d then Some 11 else Some 10)
         go true ea b eb c ec d ed = wrong_kind p v nz (identity_there p v hp (eqb-true _ _ ea))
         go false ea true eb true ec d ed = tt
         go false ea true eb false ec d ed = other_class p v hp (fit (eqb-false (kind v) 0 ea)) ((class_wrong eb).0 ec)
@@ -109,7 +109,7 @@ module _ (room : Room) (past : History) (so_far : Accepted room past) (t v fixed
     unfolding kind_rule
     kind_right p k hp w only = go (eqb v 0) refl (eqb (kind v) k) refl
       where
-        go : (a : Bool) → eqb v 0 ≡ a → (b : Bool) → eqb (kind v) k ≡ b → Right p (if_true a then none else if_true b then handle_rule v (handle_alive t v (seen past)) class_here else some 4)
+        go : (a : Bool) → eqb v 0 ≡ a → (b : Bool) → eqb (kind v) k ≡ b → Right p (if_true a then None else if_true b then handle_rule v (handle_alive t v (seen past)) class_here else Some 4)
         go true ea b eb = tt
         go false ea true eb = handle_right p hp (eqb-false v 0 ea) (λ nz. right_kind p v hp nz (λ j u. eqb-true (kind v) k eb ∙ only j u))
         go false ea false eb = wrong_kind p v (eqb-false _ _ ea) (other_kind p k v w (eqb-false _ _ eb))
@@ -122,7 +122,7 @@ module _ (room : Room) (past : History) (so_far : Accepted room past) (t v fixed
         none_wanted : (k : ℕ) → Wants Place.Handle k → kind v ≡ k
         none_wanted k w = elim w [ ]
 
-        go : (a : Bool) → eqb v 0 ≡ a → Right Place.Handle (if_true a then some 7 else handle_rule v (handle_alive t v (seen past)) class_here)
+        go : (a : Bool) → eqb v 0 ≡ a → Right Place.Handle (if_true a then Some 7 else handle_rule v (handle_alive t v (seen past)) class_here)
         go true ea = rw (eqb-true v 0 ea) null_handle
         go false ea = handle_right Place.Handle at_r (eqb-false v 0 ea) (λ nz. right_kind Place.Handle v at_r nz none_wanted)
     place_right Place.HandleOrNull = go (eqb v 0) refl
@@ -130,7 +130,7 @@ module _ (room : Room) (past : History) (so_far : Accepted room past) (t v fixed
         none_wanted : (k : ℕ) → Wants Place.HandleOrNull k → kind v ≡ k
         none_wanted k w = elim w [ ]
 
-        go : (a : Bool) → eqb v 0 ≡ a → Right Place.HandleOrNull (if_true a then none else handle_rule v (handle_alive t v (seen past)) class_here)
+        go : (a : Bool) → eqb v 0 ≡ a → Right Place.HandleOrNull (if_true a then None else handle_rule v (handle_alive t v (seen past)) class_here)
         go true ea = tt
         go false ea = handle_right Place.HandleOrNull at_o (eqb-false _ _ ea) (λ nz. right_kind Place.HandleOrNull v at_o nz none_wanted)
     place_right Place.LocalOrNull = kind_right Place.LocalOrNull 1 at_l a_local only
@@ -151,7 +151,7 @@ module _ (room : Room) (past : History) (so_far : Accepted room past) (t v fixed
         x = identity_of past v
 
         go : (a : Bool) → eqb v 0 ≡ a → (b : Bool) → eqb (kind v) 0 ≡ b → (c : Bool) → is_wanted f x ≡ c → (w : Bool) → writes_field f ≡ w
-            → (d : Bool) → eqb x.isfinal 1 ≡ d → Right Place.Identity (if_true a then some 7 else if_true b then identity_rule c (not (w && d)) else some 4)
+            → (d : Bool) → eqb x.isfinal 1 ≡ d → Right Place.Identity (if_true a then Some 7 else if_true b then identity_rule c (not (w && d)) else Some 4)
         go true ea b eb c ec w ew d ed = rw (eqb-true v 0 ea) null_identity
         go false ea true eb false ec w ew d ed =
             either (identified_or_never past v)
@@ -174,7 +174,7 @@ module _ (room : Room) (past : History) (so_far : Accepted room past) (t v fixed
         go false ea false eb c ec w ew d ed = wrong_kind Place.Identity v (eqb-false _ _ ea) (handle_there v (eqb-false _ _ eb))
     place_right Place.Buffer = go (eqb v 0) refl (is_outstanding (same_pin (pin t f v)) (seen past)) refl
       where
-        go : (a : Bool) → eqb v 0 ≡ a → (b : Bool) → is_outstanding (same_pin (pin t f v)) (seen past) ≡ b → Right Place.Buffer (if_true a then some 7 else when (not b) 8)
+        go : (a : Bool) → eqb v 0 ≡ a → (b : Bool) → is_outstanding (same_pin (pin t f v)) (seen past) ≡ b → Right Place.Buffer (if_true a then Some 7 else when (not b) 8)
         go true ea b eb = rw (eqb-true v 0 ea) null_buffer
         go false ea true eb = tt
         go false ea false eb = not_outstanding v (eqb-false _ _ ea) (λ o. true_not_false _ ((pin_out past (pin t f v)).1 o) eb)
@@ -201,15 +201,15 @@ module _ (past : History) (t v f : ℕ) where
   by_handle _ fits at_g nz fit = wanted 2 _ _ nz (wanted_there Place.GlobalOrNull 2 a_global fit)
   by_handle _ fits at_w nz fit = wanted 3 _ _ nz (wanted_there Place.WeakOrNull 3 a_weak fit)
 
-  other_rule : (k : ℕ) (there fits : Bool) → v ≢ 0 → kind v ≢ k → kind_rule k v there fits ≡ some 4
+  other_rule : (k : ℕ) (there fits : Bool) → v ≢ 0 → kind v ≢ k → kind_rule k v there fits ≡ Some 4
   unfolding kind_rule
   other_rule k there fits nz d = rw (ne_eqb v 0 nz, ne_eqb (kind v) k d)
 
-  by_kind : (p : Place) (there fits : Bool) → v ≢ 0 → WrongKind p v → place_rule p v there fits ≡ some 4
+  by_kind : (p : Place) (there fits : Bool) → v ≢ 0 → WrongKind p v → place_rule p v there fits ≡ Some 4
   unfolding place_rule handle_rule kind_rule
   by_kind _ there fits nz (identity_there p _ hp z) = at_place p hp
     where
-      at_place : (p : Place) → HandlePlace p → place_rule p v there fits ≡ some 4
+      at_place : (p : Place) → HandlePlace p → place_rule p v there fits ≡ Some 4
       at_place _ at_r = rw (ne_eqb v 0 nz, z)
       at_place _ at_o = rw (ne_eqb v 0 nz, z)
       at_place _ at_l = rw (ne_eqb v 0 nz, z)
@@ -218,7 +218,7 @@ module _ (past : History) (t v f : ℕ) where
   by_kind _ there fits nz (handle_there _ k) = rw (ne_eqb v 0 nz, ne_eqb (kind v) 0 k)
   by_kind _ there fits nz (other_kind p k _ w d) = at_place p k w d
     where
-      at_place : (p : Place) (k : ℕ) → Wants p k → kind v ≢ k → place_rule p v there fits ≡ some 4
+      at_place : (p : Place) (k : ℕ) → Wants p k → kind v ≢ k → place_rule p v there fits ≡ Some 4
       at_place _ _ a_local d = other_rule 1 there fits nz d
       at_place _ _ a_global d = other_rule 2 there fits nz d
       at_place _ _ a_weak d = other_rule 3 there fits nz d
@@ -231,7 +231,7 @@ some_kind t _ _ (a_shared v j) z = omega (arith, j, z)
 -- and of a final field that is written
 wrong_by : (past : History) (t f fixed : ℕ) (p : Place) (v r : ℕ) (fits : Bool) → (HandlePlace p → OfOtherClass past t v fixed → fits ≡ false)
     → (p ≡ Place.Identity → Writes f → (identity_of past v).isfinal ≡ 1 → fits ≡ false) → Wrong past t f fixed p v r
-    → place_rule p v (is_there p t f v (seen past)) fits ≡ some r
+    → place_rule p v (is_there p t f v (seen past)) fits ≡ Some r
 unfolding place_rule handle_rule is_there seen
 wrong_by past t f fixed _ _ _ fits other written null_handle = refl
 wrong_by past t f fixed _ _ _ fits other written null_identity = refl
@@ -267,11 +267,11 @@ wrong_by past t f fixed _ _ _ fits other written (not_outstanding v nz out) =
 -- a value breaks one rule at most, after every history
 pub one_wrong : (past : History) (t f fixed : ℕ) (p : Place) (v r s : ℕ) → Wrong past t f fixed p v r → Wrong past t f fixed p v s → r ≡ s
 one_wrong past t f fixed p v r s x y =
-    some-injective r s (sym (wrong_by past t f fixed p v r false (λ hp o. refl) (λ i w k. refl) x) ∙ wrong_by past t f fixed p v s false (λ hp o. refl) (λ i w k. refl) y)
+    ap (λ o. unwrap_or o 0) (sym (wrong_by past t f fixed p v r false (λ hp o. refl) (λ i w k. refl) x) ∙ wrong_by past t f fixed p v s false (λ hp o. refl) (λ i w k. refl) y)
 
 -- a used place gives the rule that documents 01 and 02 say, the first that fits, and no other
 pub place_is : (room : Room) (past : History) → Accepted room past → (t f fixed : ℕ) (p : Place) (v r : ℕ)
-    → (rule_here fixed p t f v (seen past) ≡ some r) ↔ Wrong past t f fixed p v r
+    → (rule_here fixed p t f v (seen past) ≡ Some r) ↔ Wrong past t f fixed p v r
 place_is room past so_far t f fixed p v r = (
   λ e. subst (λ (o : Option ℕ). Right room past so_far t v fixed f p o) e (place_right room past so_far t v fixed f p),
   λ w.

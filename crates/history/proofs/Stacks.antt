@@ -3,7 +3,7 @@ use Prim.Native.Nat.{ℕ, suc, pred, ◌≤◌, ◌<◌}
 use mathlib.Core.Path.{◌≡◌, refl, sym, ap, ◌∙◌, subst}
 use mathlib.Core.Bool.{Bool, true, false, not, ◌&&◌, ◌||◌, false≢true}
 use mathlib.Core.List.{List, [], ◌∷◌, ◌++◌}
-use mathlib.Core.Option.{Option, none, some}
+use Rattle.std.specs.Prelude.{Option, None, Some}
 use native.Mathlib.Omega.{arith}
 use lib.Dec.{eqb, ltb}
 use borrow.Author.Tests.{lt-ltb, ltb-true}
@@ -24,7 +24,7 @@ use Rattle.history.proofs.Threads.{own_items, other_items, own_frames, other_fra
 use Rattle.history.proofs.Accepting.{passed}
 
 abbrev native_item : Item → Bool
-native_item i = native_or_attached (some i)
+native_item i = native_or_attached (Some i)
 
 abbrev native_frame : Frame → Bool
 native_frame entered = true
@@ -79,10 +79,10 @@ based_pushed true fs l h = and_both (ltb 0 (count native_frame fs)) (based fs) (
 based_pushed false fs l h = h
 
 no_native : (top : Option Item) → (is_empty top || is_call top) ≡ true → not (native_or_attached top) ≡ true
-no_native none h = refl
-no_native (some in_native) h = h
-no_native (some (in_call f n)) h = refl
-no_native (some attached) h = h
+no_native None h = refl
+no_native (Some in_native) h = h
+no_native (Some (in_call f n)) h = refl
+no_native (Some attached) h = h
 
 -- the lowest open item is a native or attached
 bottom : (is : List Item) → by_turns is ≡ true → 0 < length is → 0 < count native_item is
@@ -146,7 +146,7 @@ fit room _ (and_line e past n a r k) t = go (is_of t e) refl (fit room past k t)
     go false o ih = rw (other_items t e past o, other_frames t e past o) ih
 
 -- no more natives than frames
-pub natives_in_frames : (room : Room) (past : History) → Accepted room past → (t : ℕ) → count (λ (i : Item). native_or_attached (some i)) (items t past) ≤ depth t past
+pub natives_in_frames : (room : Room) (past : History) → Accepted room past → (t : ℕ) → count (λ (i : Item). native_or_attached (Some i)) (items t past) ≤ depth t past
 unfolding depth
 natives_in_frames room past a t = omega (arith, (fit room past a t).natives, count_length native_frame (frames t past))
 

@@ -1,6 +1,5 @@
 -- Which line is accepted after a history: the numbers 4 to 7, 9 and 10. Assumes nothing.
-use Rattle.std.specs.Prelude.{ℕ, Bool, true, false, not, ◌&&◌, ◌||◌, List, [], ◌∷◌, eqb, leb, ltb, length}
-use Rattle.std.proofs.Math.Option.{Option}
+use Rattle.std.specs.Prelude.{ℕ, Bool, true, false, not, ◌&&◌, ◌||◌, List, [], ◌∷◌, eqb, leb, ltb, length, Option}
 use Rattle.words.specs.Choice.{if_true◌then◌else◌}
 use Rattle.words.specs.Lists.{any}
 use Rattle.lines.specs.Line.{Line, if_opens◌then◌else◌, if_N◌then◌else◌, if_X◌then◌else◌, if_C◌then◌else◌, if_R◌then◌else◌, if_A◌then◌else◌, if_D◌then◌else◌, if_K◌then◌else◌, if_O◌then◌else◌, if_M◌then◌else◌}

@@ -1,6 +1,5 @@
 -- What refusal 8 tests of a thread: after accepted lines it never finds fault. Assumes nothing.
-use Rattle.std.specs.Prelude.{ℕ, ◌≤◌, ◌<◌, length}
-use Rattle.std.proofs.Math.Option.{some}
+use Rattle.std.specs.Prelude.{ℕ, ◌≤◌, ◌<◌, length, Some}
 use Rattle.words.specs.Lists.{count}
 use Rattle.history.specs.Past.{History}
 use Rattle.history.specs.Items.{Item, items, native_or_attached}
@@ -12,7 +11,7 @@ pub record Bounded (t : ℕ) (past : History) : Type 0 where
   pub items_fit : length (items t past) ≤ 64
   pub frames_fit : depth t past ≤ 64
   -- no more natives than frames, attached items counted as natives
-  pub natives_fit : count (λ (i : Item). native_or_attached (some i)) (items t past) ≤ depth t past
+  pub natives_fit : count (λ (i : Item). native_or_attached (Some i)) (items t past) ≤ depth t past
   -- no open items in a thread without a frame
   pub framed : 0 < length (items t past) → 0 < depth t past
   -- a monitor and a line count of at most 1,000,000

@@ -1,6 +1,5 @@
 -- The breaches of a line, by rule and place. Everything is judged before the line acts, except overflow and Z. Assumes nothing.
-use Rattle.std.specs.Prelude.{ℕ, suc, Bool, true, false, not, ◌&&◌, List, [], ◌∷◌, eqb, ltb, length}
-use Rattle.std.proofs.Math.Option.{Option, none, some}
+use Rattle.std.specs.Prelude.{ℕ, suc, Bool, true, false, not, ◌&&◌, List, [], ◌∷◌, eqb, ltb, length, Option, None, Some}
 use Rattle.words.specs.Choice.{if_true◌then◌else◌}
 use Rattle.facts.specs.Table.{fact_of, is_allowed_pending, is_allowed_critical}
 use Rattle.facts.specs.Named.{PopLocalFrame, MonitorExit}
@@ -19,8 +18,8 @@ use Rattle.history.specs.Acceptance.{everything}
 use Rattle.history.specs.declared.Identity.{Identity}
 
 abbrev pub when : Bool → ℕ → Option ℕ
-when true n = some n
-when false n = none
+when true n = Some n
+when false n = None
 
 -- ---- the places a b c: the rule that a value breaks, the first that fits; `there` tells whether what it names is alive or outstanding, or
 -- stated as it is wanted, `fits` whether its stated class is right there, or it is no final field that is written
@@ -28,29 +27,29 @@ when false n = none
 -- wrong kind: 4; local not alive in this thread: 11; global or weak not alive: 10; a live handle of a wrong class: 4
 unfoldable pub handle_rule : ℕ → Bool → Bool → Option ℕ
 handle_rule h there fits =
-    if_true eqb (kind h) 0 then some 4
+    if_true eqb (kind h) 0 then Some 4
     else if_true there then when (not fits) 4
-    else if_true eqb (kind h) 1 then some 11
-    else some 10
+    else if_true eqb (kind h) 1 then Some 11
+    else Some 10
 
 -- another kind under l g w: 4
 unfoldable pub kind_rule : ℕ → ℕ → Bool → Bool → Option ℕ
-kind_rule k h there fits = if_true eqb h 0 then none else if_true eqb (kind h) k then handle_rule h there fits else some 4
+kind_rule k h there fits = if_true eqb h 0 then None else if_true eqb (kind h) k then handle_rule h there fits else Some 4
 
 -- an identity that is not stated, or of another sort or flag: 5; a final field written: 6
 abbrev pub identity_rule : Bool → Bool → Option ℕ
-identity_rule there fits = if_true there then when (not fits) 6 else some 5
+identity_rule there fits = if_true there then when (not fits) 6 else Some 5
 
 -- null where r, i or b stands: 7; buffer not outstanding in its family (and thread, if critical): 8
 unfoldable pub place_rule : Place → ℕ → Bool → Bool → Option ℕ
-place_rule Place.Unused h there fits = none
-place_rule Place.Handle h there fits = if_true eqb h 0 then some 7 else handle_rule h there fits
-place_rule Place.HandleOrNull h there fits = if_true eqb h 0 then none else handle_rule h there fits
+place_rule Place.Unused h there fits = None
+place_rule Place.Handle h there fits = if_true eqb h 0 then Some 7 else handle_rule h there fits
+place_rule Place.HandleOrNull h there fits = if_true eqb h 0 then None else handle_rule h there fits
 place_rule Place.LocalOrNull h there fits = kind_rule 1 h there fits
 place_rule Place.GlobalOrNull h there fits = kind_rule 2 h there fits
 place_rule Place.WeakOrNull h there fits = kind_rule 3 h there fits
-place_rule Place.Identity h there fits = if_true eqb h 0 then some 7 else if_true eqb (kind h) 0 then identity_rule there fits else some 4
-place_rule Place.Buffer h there fits = if_true eqb h 0 then some 7 else when (not there) 8
+place_rule Place.Identity h there fits = if_true eqb h 0 then Some 7 else if_true eqb (kind h) 0 then identity_rule there fits else Some 4
+place_rule Place.Buffer h there fits = if_true eqb h 0 then Some 7 else when (not there) 8
 
 -- what is stated of an identity is what function f wants
 abbrev pub is_wanted : ℕ → Identity → Bool
@@ -131,7 +130,7 @@ call_rule t env f v rule =
     else if_true eqb rule 3 then when (in_critical t v && not (is_allowed_critical f)) 0
     else if_true eqb rule 9 then when (eqb f MonitorExit && eqb (v.monitors t) 0) 0
     else if_true eqb rule 11 then when (eqb f PopLocalFrame && not (top_pushed (v.frames t))) 0
-    else none
+    else None
 
 -- a count, if above zero
 abbrev pub some_of : ℕ → Option ℕ
@@ -143,14 +142,14 @@ end_rule v rule =
     if_true eqb rule 8 then some_of (v.buffers everything)
     else if_true eqb rule 9 then some_of v.all_monitors
     else if_true eqb rule 10 then some_of (v.handles global_or_weak)
-    else none
+    else None
 
 -- on D: 3 as on X; 9 with monitors of the thread
 unfoldable pub detach_rule : ℕ → Seen → ℕ → Option ℕ
 detach_rule t v rule =
     if_true eqb rule 3 then when (in_critical t v) 0
     else if_true eqb rule 9 then some_of (v.monitors t)
-    else none
+    else None
 
 -- On X: 3 with a critical buffer of that thread outstanding. On R: 11 for overflow
 unfoldable pub line_rule : Line → Seen → ℕ → Option ℕ
@@ -160,13 +159,13 @@ line_rule e v rule =
     else if_R e then (λ t f r p. when (eqb rule 11 && overflows t f (above_zero r) v) (above_zero r))
     else if_D e then (λ t. detach_rule t v rule)
     else if_Z e then end_rule v rule
-    else none
+    else None
 
 -- ---- the thing of a breach of this rule at this place
 
 abbrev pub is_rule : ℕ → Option ℕ → Bool
-is_rule rule none = false
-is_rule rule (some r) = eqb rule r
+is_rule rule None = false
+is_rule rule (Some r) = eqb rule r
 
 unfoldable pub breach : Line → Seen → ℕ → ℕ → Option ℕ
 breach e v rule place = if_true eqb place 0 then line_rule e v rule else when (is_rule rule (rule_at e v place)) (value_at e place)

@@ -1,6 +1,5 @@
 -- The findings: all the breaches, ordered by line, rule and place. Assumes nothing.
-use Rattle.std.specs.Prelude.{ℕ, suc, List, [], ◌∷◌, ◌++◌, length}
-use Rattle.std.proofs.Math.Option.{Option, none, some}
+use Rattle.std.specs.Prelude.{ℕ, suc, List, [], ◌∷◌, ◌++◌, length, Option, None, Some}
 use Rattle.words.specs.Lists.{joined}
 use Rattle.lines.specs.Line.{Line}
 use Rattle.history.specs.Past.{History}
@@ -15,8 +14,8 @@ abbrev pub places : List ℕ
 places = 0 ∷ 1 ∷ 2 ∷ 3 ∷ []
 
 abbrev pub found : ℕ → ℕ → ℕ → Option ℕ → List Finding
-found line rule place none = []
-found line rule place (some thing) = record { line = line; rule = rule; place = place; thing = thing } ∷ []
+found line rule place None = []
+found line rule place (Some thing) = record { line = line; rule = rule; place = place; thing = thing } ∷ []
 
 -- of the line e, number `line`, which comes after what is seen
 unfoldable pub of_line : ℕ → Line → Seen → List Finding

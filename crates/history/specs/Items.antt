@@ -1,7 +1,6 @@
 -- Each thread has a stack of open items: natives, calls of functions, and that it is attached. Assumes nothing.
-use Rattle.std.specs.Prelude.{ℕ, Bool, true, false, ◌||◌, eqb}
+use Rattle.std.specs.Prelude.{ℕ, Bool, true, false, ◌||◌, eqb, Option, None, Some}
 use mathlib.Core.List.{List, [], ◌∷◌, tail}
-use Rattle.std.proofs.Math.Option.{Option, none, some}
 use Rattle.lines.specs.Line.{Line, if_N◌then◌else◌, if_X◌then◌else◌, if_C◌then◌else◌, if_R◌then◌else◌, if_A◌then◌else◌, if_D◌then◌else◌, above_zero}
 use Rattle.history.specs.Past.{History, through}
 
@@ -30,44 +29,44 @@ items = through items_after []
 -- ---- the top item
 
 abbrev pub top_of : List Item → Option Item
-top_of [] = none
-top_of (i ∷ is) = some i
+top_of [] = None
+top_of (i ∷ is) = Some i
 
 abbrev pub is_empty : Option Item → Bool
-is_empty none = true
-is_empty (some i) = false
+is_empty None = true
+is_empty (Some i) = false
 
 abbrev pub is_native : Option Item → Bool
-is_native none = false
-is_native (some in_native) = true
-is_native (some (in_call f n)) = false
-is_native (some attached) = false
+is_native None = false
+is_native (Some in_native) = true
+is_native (Some (in_call f n)) = false
+is_native (Some attached) = false
 
 abbrev pub is_attached : Option Item → Bool
-is_attached none = false
-is_attached (some in_native) = false
-is_attached (some (in_call f n)) = false
-is_attached (some attached) = true
+is_attached None = false
+is_attached (Some in_native) = false
+is_attached (Some (in_call f n)) = false
+is_attached (Some attached) = true
 
 -- C is allowed over an attached item as over a native
 abbrev pub native_or_attached : Option Item → Bool
 native_or_attached top = is_native top || is_attached top
 
 abbrev pub is_call : Option Item → Bool
-is_call none = false
-is_call (some in_native) = false
-is_call (some (in_call f n)) = true
-is_call (some attached) = false
+is_call None = false
+is_call (Some in_native) = false
+is_call (Some (in_call f n)) = true
+is_call (Some attached) = false
 
 abbrev pub is_call_of : ℕ → Option Item → Bool
-is_call_of f none = false
-is_call_of f (some in_native) = false
-is_call_of f (some (in_call g n)) = eqb f g
-is_call_of f (some attached) = false
+is_call_of f None = false
+is_call_of f (Some in_native) = false
+is_call_of f (Some (in_call g n)) = eqb f g
+is_call_of f (Some attached) = false
 
 -- n is that of the matching C
 abbrev pub asked : Option Item → ℕ
-asked none = 0
-asked (some in_native) = 0
-asked (some (in_call f n)) = n
-asked (some attached) = 0
+asked None = 0
+asked (Some in_native) = 0
+asked (Some (in_call f n)) = n
+asked (Some attached) = 0

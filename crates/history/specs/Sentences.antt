@@ -1,7 +1,6 @@
 -- What is proved of the definitions, subject by subject: each field is a theorem. Assumes nothing.
-use Rattle.std.specs.Prelude.{ℕ, suc, pred, ◌+◌, ◌≤◌, ◌<◌, max, ◌≡◌, ◌⊎◌, ◌≢◌, ◌↔◌, true, false, ◌&&◌, eqb, ℤ, pos, length}
+use Rattle.std.specs.Prelude.{ℕ, suc, pred, ◌+◌, ◌≤◌, ◌<◌, max, ◌≡◌, ◌⊎◌, ◌≢◌, ◌↔◌, true, false, ◌&&◌, eqb, ℤ, pos, length, Some}
 use mathlib.Core.List.{List, [], ◌∷◌, ◌++◌, map, tail, Memᴰ}
-use Rattle.std.proofs.Math.Option.{some}
 use Rattle.words.specs.Lists.{any, keep, count, joined}
 use Rattle.words.specs.Text.{bytes, line_feed}
 use Rattle.facts.specs.Table.{◌released_by◌, fact_of, is_function, families, family, is_critical}
@@ -53,7 +52,7 @@ use Rattle.history.specs.Bounds.{Bounded}
 pub record OnBreaches : Type 0 where
   -- what is computed of a line is what documents 01 and 02 say of it, and nothing besides, after accepted lines
   pub breaches_are : (room : Room) (past : History) → Accepted room past → (e : Line) (rule place thing : ℕ)
-      → (breach e (seen past) rule place ≡ some thing) ↔ Broken past e rule place thing
+      → (breach e (seen past) rule place ≡ Some thing) ↔ Broken past e rule place thing
   -- the findings are all the breaches of the accepted lines, and nothing besides
   pub findings_are : (room : Room) (past : History) → Accepted room past → (f : Finding) → Memᴰ f (findings past) ↔ Breached f past
   -- in order of line, rule and place

@@ -2,18 +2,15 @@
 use Prim.Native.Nat.{ℕ}
 use mathlib.Core.Path.{◌≡◌, sym, ap, ◌∙◌}
 use mathlib.Core.List.{List}
-use mathlib.Core.Option.{Option}
+use Rattle.std.specs.Prelude.{Option}
 use lib.IntN.{ℤ}
 use lib.ListN.{take}
 use Rattle.lines.specs.Line.{N, X, C, R, A, D, Z, K, O, M, states}
 use Rattle.lines.specs.Events.{result_in_line}
 use Rattle.lines.specs.declared.Event.{Event}
-use Rattle.lines.specs.declared.Event.TheVariants as Event
 use Rattle.history.specs.Items.{Item}
-use Rattle.answers.specs.declared.Answer.{Answer}
-use Rattle.answers.specs.Answer.{refused_with}
 use Rattle.tables.specs.Tables.{Tables}
-use Rattle.events.specs.Outcome.{Outcome, leaves, line_outcome}
+use Rattle.events.specs.Outcome.{Outcome, line_outcome}
 use Rattle.judge.specs.Event.{read_as}
 use Rattle.judge.specs.Outcome.{read_outcome, event_outcome}
 
@@ -54,6 +51,3 @@ module _ (line : ℕ) (ev : Event) (hs : List ℕ) (top : Option Item) (many : �
 
   pub of_end : ev ≡ Event.End → o ≡ line_outcome line Z top many T → o ≡ event_outcome line ev hs top many T
   of_end p q = of_read p q
-
-  pub of_refused : {j : ℕ} (a : Answer) → ev ≡ Event.Refused j → a ≡ refused_with j → o ≡ leaves a T → o ≡ event_outcome line ev hs top many T
-  of_refused a p q w = of_read p (w ∙ ap (λ (x : Answer). leaves x T) q)

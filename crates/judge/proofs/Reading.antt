@@ -1,8 +1,9 @@
 -- What the reader answers stands for the line that was read. Assumes nothing.
 use Prim.Native.Nat.{ℕ, ◌≤◌}
-use mathlib.Core.Path.{◌≡◌, refl, sym, ap₂, subst, ◌∙◌}
-use mathlib.Core.Bool.{Bool, true, false, not, ◌&&◌}
+use mathlib.Core.Path.{◌≡◌, refl, sym, ap, ap₂, subst, ◌∙◌}
+use mathlib.Core.Bool.{Bool, true, false, not, ◌&&◌, true≢false}
 use mathlib.Core.List.{List}
+use Rattle.std.specs.Prelude.{Result, Ok, Err}
 use native.Mathlib.Omega.{arith}
 use borrow.Author.Tests.{leb-true}
 use lib.Dec.{eqb, leb}
@@ -12,9 +13,9 @@ use Rattle.words.specs.Choice.{if_true◌then◌else◌}
 use Rattle.words.specs.Lists.{any}
 use Rattle.lines.specs.Line.{Line, N, X, C, R, A, D, Z, K, O, M, states, is_allowed, is_zero, most_handles, is_thread, is_env, is_argument, above_zero}
 use Rattle.lines.specs.Reading.{Read, says, refused, read}
-use Rattle.lines.specs.Events.{gives_status, event_of, slots_of, not_zero, with_slots, meant}
+use Rattle.lines.specs.Events.{gives_status, event_in, event_of, slots_of, not_zero, with_slots, meant_in}
+use Rattle.lines.specs.declared.refusal.Refusal.{Refusal}
 use Rattle.lines.specs.declared.Event.{Event}
-use Rattle.lines.specs.declared.Event.TheVariants as Event
 use Rattle.lines.proofs.Tests.{all4}
 use Rattle.lines.proofs.Numbered.{never}
 use Rattle.lines.proofs.RoundTrip.{read_exactly}
@@ -28,7 +29,7 @@ only_said false x e h = absurd (never h)
 slots_said : (n : ℕ) (hs : List ℕ) (x e : Line) → with_slots n hs x ≡ says e → says x ≡ says e
 slots_said n hs x e = only_said (leb n most_handles && not (any not_zero (drop n hs)) && is_allowed x) x e
 
-as_meant : (ev : Event) (hs : List ℕ) (e : Line) → meant ev hs ≡ says e → read_as ev hs ≡ says e
+as_meant : (ev : Event) (hs : List ℕ) (e : Line) → meant_in ev hs ≡ says e → read_as ev hs ≡ says e
 as_meant (Event.Enter t env n) hs e h = slots_said n hs (N t env (take n hs)) e h
 as_meant (Event.Leave t r) hs e h = slots_said 0 hs (X t r) e h
 as_meant (Event.Call t env f a b c n) hs e h = slots_said 0 hs (C t env f a b c n) e h
@@ -49,39 +50,53 @@ as_meant (Event.Declare c s) hs e h = slots_said 0 hs (states (K c s)) e h
 as_meant (Event.State t v c) hs e h = slots_said 0 hs (states (O t v c)) e h
 as_meant (Event.Identify x sort c static final) hs e h = slots_said 0 hs (states (M x sort c static final)) e h
 as_meant Event.End hs e h = slots_said 0 hs Z e h
-as_meant (Event.Refused k) hs e h = absurd (never h)
 
-as_read : (bs : List ℕ) (x : Read) → read bs ≡ x → read_as (event_of x) (slots_of x) ≡ x
-as_read bs (refused k) h = refl
-as_read bs (says e) h = as_meant (event_of (says e)) (slots_of (says e)) e (meant_read e ((read_exactly bs e).0 h).0)
+abbrev is_ok : Result Event Refusal → Bool
+is_ok (Ok v) = true
+is_ok (Err k) = false
+
+-- an event is that of a line
+line_of : (ev : Event) (x : Read) → Ok ev ≡ event_of x → (e : Line) × (x ≡ says e) × (ev ≡ event_in e)
+line_of ev (refused k) h = absurd (true≢false (ap is_ok h))
+line_of ev (says e) h = (e, refl, ap (λ (r : Result Event Refusal). or_else r) h)
+  where
+    or_else : Result Event Refusal → Event
+    or_else (Ok v) = v
+    or_else (Err k) = ev
+
+as_read : (bs : List ℕ) (e : Line) → read bs ≡ says e → read_as (event_in e) (slots_of (says e)) ≡ says e
+as_read bs e h = as_meant (event_in e) (slots_of (says e)) e (meant_read e ((read_exactly bs e).0 h).0)
 
 -- what the reader's event and slots stand for is what was read
-pub read_is : (bs : List ℕ) (ev : Event) (hs : List ℕ) → ev ≡ event_of (read bs) → hs ≡ slots_of (read bs) → read bs ≡ read_as ev hs
-read_is bs ev hs e s = sym (ap₂ read_as e s ∙ as_read bs (read bs) refl)
+pub read_is : (bs : List ℕ) (ev : Event) (hs : List ℕ) → Ok ev ≡ event_of (read bs) → hs ≡ slots_of (read bs) → read bs ≡ read_as ev hs
+read_is bs ev hs e s =
+    let l = line_of ev (read bs) e in
+    l.1 ∙ sym (ap₂ read_as l.2 (s ∙ ap slots_of l.1) ∙ as_read bs l.0 l.1)
 
 -- ---- N's handles are at most eight
 
-few_read : (bs : List ℕ) (x : Read) → read bs ≡ x → slots_named (event_of x) ≤ most_handles
-few_read bs (refused k) h = omega arith
-few_read bs (says (N t env hs)) h =
+few_read : (bs : List ℕ) (e : Line) → read bs ≡ says e → slots_named (event_in e) ≤ most_handles
+few_read bs (N t env hs) h =
     leb-true (length hs) most_handles
     (all4 (is_thread t) (is_env env) (leb (length hs) most_handles) (not (any (λ (g : ℕ). not (is_argument g)) hs)) ((read_exactly bs (N t env hs)).0 h).0).2
-few_read bs (says (X t r)) h = omega arith
-few_read bs (says (C t env f a b c n)) h = omega arith
-few_read bs (says (R t f r p)) h = go (gives_status f)
+few_read bs (X t r) h = omega arith
+few_read bs (C t env f a b c n) h = omega arith
+few_read bs (R t f r p) h = go (gives_status f)
   where
     go : (s : Bool) → slots_named (if_true s then Event.Return t f 0 r p else Event.Return t f (above_zero r) (pos 0) p) ≤ most_handles
     go true = omega arith
     go false = omega arith
-few_read bs (says (A t env)) h = omega arith
-few_read bs (says (D t)) h = omega arith
-few_read bs (says Z) h = omega arith
-few_read bs (says (states (K c s))) h = omega arith
-few_read bs (says (states (O t v c))) h = omega arith
-few_read bs (says (states (M x sort c static final))) h = omega arith
+few_read bs (A t env) h = omega arith
+few_read bs (D t) h = omega arith
+few_read bs Z h = omega arith
+few_read bs (states (K c s)) h = omega arith
+few_read bs (states (O t v c)) h = omega arith
+few_read bs (states (M x sort c static final)) h = omega arith
 
-pub few_slots : (bs : List ℕ) (ev : Event) → ev ≡ event_of (read bs) → slots_named ev ≤ most_handles
-few_slots bs ev r = subst (λ (v : Event). slots_named v ≤ most_handles) (sym r) (few_read bs (read bs) refl)
+pub few_slots : (bs : List ℕ) (ev : Event) → Ok ev ≡ event_of (read bs) → slots_named ev ≤ most_handles
+few_slots bs ev r =
+    let l = line_of ev (read bs) r in
+    subst (λ (v : Event). slots_named v ≤ most_handles) (sym l.2) (few_read bs l.0 l.1)
 
 pub few_named : (ev : Event) {t env n : ℕ} → slots_named ev ≤ most_handles → ev ≡ Event.Enter t env n → n ≤ most_handles
 few_named ev h p = subst (λ (v : Event). slots_named v ≤ most_handles) p h

@@ -1,10 +1,9 @@
--- What the reader's event and slots stand for. Assumes nothing.
+-- What an event that was read and its slots stand for. Assumes nothing.
 use Rattle.std.specs.Prelude.{ℕ, List, take}
 use Rattle.lines.specs.Line.{N, X, C, R, A, D, Z, K, O, M, states}
 use Rattle.lines.specs.Reading.{Read, says, refused}
 use Rattle.lines.specs.Events.{result_in_line}
 use Rattle.lines.specs.declared.Event.{Event}
-use Rattle.lines.specs.declared.Event.TheVariants as Event
 use Rattle.tables.specs.Acting.{items_moved}
 
 abbrev pub read_as : Event → List ℕ → Read
@@ -18,7 +17,6 @@ read_as (Event.Declare c s) hs = says (states (K c s))
 read_as (Event.State t h c) hs = says (states (O t h c))
 read_as (Event.Identify x sort c static final) hs = says (states (M x sort c static final))
 read_as Event.End hs = says Z
-read_as (Event.Refused k) hs = refused k
 
 -- the thread whose open items it is of, 0 for none
 abbrev pub thread_named : Event → ℕ
@@ -32,7 +30,6 @@ thread_named (Event.Declare c s) = 0
 thread_named (Event.State t h c) = 0
 thread_named (Event.Identify x sort c static final) = 0
 thread_named Event.End = 0
-thread_named (Event.Refused k) = 0
 
 -- how many of the slots it names
 abbrev pub slots_named : Event → ℕ
@@ -46,7 +43,6 @@ slots_named (Event.Declare c s) = 0
 slots_named (Event.State t h c) = 0
 slots_named (Event.Identify x sort c static final) = 0
 slots_named Event.End = 0
-slots_named (Event.Refused k) = 0
 
 -- the open items after what was read
 abbrev pub items_after : Read → List ℕ → List ℕ

@@ -1,6 +1,5 @@
 -- What a call of the step answers and leaves, as the code has it. Assumes nothing.
-use Rattle.std.specs.Prelude.{ℕ, List, leb}
-use Rattle.std.proofs.Math.Option.{Option}
+use Rattle.std.specs.Prelude.{ℕ, List, leb, Option}
 use Rattle.words.specs.Choice.{if_true◌then◌else◌}
 use Rattle.lines.specs.Reading.{Read, says, refused}
 use Rattle.lines.specs.declared.Event.{Event}

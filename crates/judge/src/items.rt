@@ -21,7 +21,6 @@ pub fn thread_of(event: Event) -> u32
         Event::State { .. } => 0,
         Event::Identify { .. } => 0,
         Event::End => 0,
-        Event::Refused(_) => 0,
     }
 }
 
@@ -52,6 +51,5 @@ pub fn move_item(book: &mut [u64], event: Event)
         Event::State { .. } => {}
         Event::Identify { .. } => {}
         Event::End => {}
-        Event::Refused(_) => {}
     }
 }

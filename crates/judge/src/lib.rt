@@ -5,6 +5,7 @@ pub mod items;
 
 ghost use Rattle.std.specs.Prelude.{◌≡◌, List, ℕ, suc, ◌<◌, ◌≤◌};
 ghost use Rattle.lines.specs.Line.{most_handles};
+ghost use Rattle.lines.specs.Numbered.{passes};
 ghost use Rattle.history.specs.Replies.{most_lines};
 ghost use Rattle.book.specs.Threads.{lines_in, top_is};
 ghost use Rattle.tables.specs.Tables.{tables};
@@ -16,6 +17,7 @@ ghost use Rattle.judge.specs.Outcome.{event_outcome, step_outcome, by_tables};
 use answers::Answer;
 use book::Top;
 use lines::Event;
+use lines::refusal::Refusal;
 use rows::Number;
 use words::Handle;
 
@@ -36,17 +38,17 @@ pub fn start(
     classes::clear(classes);
 }
 
-// 8 where the book is not fit or the class table is short, then 1 for line 1,000,001; else 0.
-pub fn refused_by_tables(book: &[u64], classes: &[Number]) -> u8
-    ensures { (rs ms ps ns : List ℕ) → result ≡ by_tables (tables rs ms ps ns book.now classes.now) }
+// Unfit where the book is not fit or the class table is short, then Length for line 1,000,001.
+pub fn allows(book: &[u64], classes: &[Number]) -> Result<(), Refusal>
+    ensures { (rs ms ps ns : List ℕ) → result ≡ passes (by_tables (tables rs ms ps ns book.now classes.now)) }
 {
     if book::unfit(book) | classes::is_short(classes) {
-        return 8;
+        return Err(Refusal::Unfit);
     }
     if book::MOST_LINES <= book::lines_of(book) {
-        return 1;
+        return Err(Refusal::Length);
     }
-    0
+    Ok(())
 }
 
 // The number of the next accepted line.
@@ -57,7 +59,7 @@ fn next_number(book: &[u64]) -> u32
     book::lines_of(book) as u32 + 1
 }
 
-// A line that was read, or the number given instead of it. Line number `line`; `top` is on top of its thread's `many` open items.
+// A line that was read. Line number `line`; `top` is on top of its thread's `many` open items.
 fn on_event(
     event: Event,
     handles: [Handle; 8],
@@ -132,11 +134,10 @@ fn on_event(
             isfinal,
         } => events::identify::identify(book, classes, identity, sort, class, isstatic, isfinal),
         Event::End => events::end::end(rows, marks, pins, pinmarks, book, line),
-        Event::Refused(k) => answers::refused(k),
     }
 }
 
-// One line of the trace, all its bytes with the LF: the number given instead of it, or its findings.
+// One line of the trace, all its bytes with the LF: why it is refused, or its findings.
 pub fn step(
     line: &[u8],
     rows: &mut [Number],
@@ -148,21 +149,16 @@ pub fn step(
 ) -> Answer
     ensures { leaves result (tables rows.new marks.new pins.new pinmarks.new book.new classes.new) ≡ step_outcome (tables rows.old marks.old pins.old pinmarks.old book.old classes.old) line.now }
 {
-    let k = refused_by_tables(book, classes);
-    if k != 0 {
-        return answers::refused(k);
-    }
+    allows(book, classes)?;
     let number = next_number(book);
     let mut handles = [0; 8];
-    let event = lines::read_line(line, &mut handles);
+    let event = lines::read_line(line, &mut handles)?;
     let t = items::thread_of(event);
     let top = book::top_item(book, t);
     let many = book::items_of(book, t);
-    let answer = on_event(
+    let found = on_event(
         event, handles, rows, marks, pins, pinmarks, book, classes, top, many, number,
-    );
-    if answer.refusal == 0 {
-        items::move_item(book, event);
-    }
-    answer
+    )?;
+    items::move_item(book, event);
+    Ok(found)
 }

@@ -2,7 +2,7 @@
 use Prim.Native.Nat.{ℕ, zero, suc, ◌+◌, ◌-◌, ◌≤◌, ◌<◌}
 use mathlib.Core.Path.{◌≡◌, refl, sym, ap, ◌∙◌}
 use mathlib.Core.List.{List, [], ◌∷◌, ◌++◌, append_assoc, append-nil}
-use mathlib.Core.Option.{Option, none, some}
+use Rattle.std.specs.Prelude.{Option, None, Some}
 use native.Mathlib.Nat.{add-zero}
 use native.Mathlib.Numerals.{add-one}
 use native.Mathlib.Omega.{arith}
@@ -20,18 +20,18 @@ use Rattle.leaks.specs.Entries.{first_reference}
 use Rattle.leaks.specs.Found.{of_pin, of_reference, found_at, found_from, Added}
 
 -- ---- at one place
-pub shared_leaks : (p : ℕ) (x : Reference) → x.thread ≡ 0 → some (record { place = p; thread = x.thread; value = x.handle; line = x.line }) ≡ of_reference p (some x)
+pub shared_leaks : (p : ℕ) (x : Reference) → x.thread ≡ 0 → Some (record { place = p; thread = x.thread; value = x.handle; line = x.line }) ≡ of_reference p (Some x)
 shared_leaks p x e = rw (eq-eqb x.thread 0 e)
 
-pub local_stays : (p : ℕ) (x : Reference) → (x.thread ≡ 0 → ⊥) → none ≡ of_reference p (some x)
+pub local_stays : (p : ℕ) (x : Reference) → (x.thread ≡ 0 → ⊥) → None ≡ of_reference p (Some x)
 local_stays p x n = rw (ne_eqb x.thread 0 n)
 
 module _ (R P : Table) (p : ℕ) (o : Option Entry) where
-  pub pin_found : p < first_reference → o ≡ of_pin p (get_or (view pins P) p none) → o ≡ found_at R P p
+  pub pin_found : p < first_reference → o ≡ of_pin p (get_or (view pins P) p None) → o ≡ found_at R P p
   unfolding found_at
   pin_found h e = rw (lt-ltb p first_reference h) e
 
-  pub reference_found : first_reference ≤ p → o ≡ of_reference p (get_or (view references R) (p - first_reference) none) → o ≡ found_at R P p
+  pub reference_found : first_reference ≤ p → o ≡ of_reference p (get_or (view references R) (p - first_reference) None) → o ≡ found_at R P p
   unfolding found_at
   reference_found h e = rw (le-ltb p first_reference h) e
 
@@ -56,8 +56,8 @@ held_last f (suc n) = go (f zero) (held_last (λ k. f (suc k)) n)
   where
     go : (o : Option Entry) → held (each (λ k. f (suc k)) (suc n)) ≡ held (each (λ k. f (suc k)) n) ++ held (f (suc n) ∷ [])
         → held (o ∷ each (λ k. f (suc k)) (suc n)) ≡ held (o ∷ each (λ k. f (suc k)) n) ++ held (f (suc n) ∷ [])
-    go none ih = ih
-    go (some x) ih = ap (λ (l : List Entry). x ∷ l) ih
+    go None ih = ih
+    go (Some x) ih = ap (λ (l : List Entry). x ∷ l) ih
 
 module _ (R P : Table) (a : ℕ) where
   found_more : (i : ℕ) → found_from R P a (suc i) ≡ found_from R P a i ++ held (found_at R P (a + i) ∷ [])

@@ -1,11 +1,10 @@
 -- The slice that the leaks fill, and the four answers. Assumes nothing.
-use Prim.Native.Nat.{ℕ, ◌+◌, ◌-◌, ◌*◌, ◌/◌, ◌≤◌, ◌<◌}
+use Prim.Native.Nat.{ℕ, ◌+◌, ◌*◌, ◌/◌, ◌≤◌, ◌<◌}
 use mathlib.Core.Path.{◌≡◌, refl, sym, ap, ap₂, ◌∙◌}
 use mathlib.Core.Bool.{Bool, true, false}
 use mathlib.Core.List.{List, [], ◌∷◌, ◌++◌, map}
 use native.Mathlib.Omega.{arith}
 use borrow.Author.Tests.{lt-ltb, le-ltb}
-use borrow.Rule.Slice.PartMut.{put_mid, Post-is}
 use lib.ListN.{length, take, drop, length-append, length-map}
 use lib.Seq.{take_all, length-take-le}
 use Rattle.words.specs.Lists.{joined}
@@ -59,8 +58,8 @@ module _ (R P : Table) (a g : ℕ) (outstanding : a ≡ alive pins P) (globals :
   pub few_leaks : a + g ≤ places
   few_leaks = let h : room pins P ≤ first_reference = unfold room in omega arith in omega (arith, alive_most pins P, counted_most references (of_thread 0) R)
 
-  pub front_fits : (ns : List ℕ) → a + g ≤ length ns / leak_numbers → length (take ((a + g) * leak_numbers - 0) ns) ≡ length (found_in R P) * leak_numbers
-  front_fits ns h = omega (arith, length-take-le ((a + g) * leak_numbers - 0) ns (omega arith), many_found R P)
+  pub front_fits : (ns : List ℕ) → a + g ≤ length ns / leak_numbers → length (take ((a + g) * leak_numbers) ns) ≡ length (found_in R P) * leak_numbers
+  front_fits ns h = omega (arith, length-take-le ((a + g) * leak_numbers) ns (omega arith), many_found R P)
 
 -- ---- a slice that they fill
 module _ (R P : Table) (n size : ℕ) (outstanding : n ≡ room pins P) (sized : size ≡ length (found_in R P) * leak_numbers) where
@@ -136,18 +135,16 @@ module _ (T : Tables) (ns : List ℕ) where
 
       -- at the front
       pub all_written : (vs : List ℕ) → a + g ≤ length ns / leak_numbers → vs ≡ joined (leaks_in T) numbers_of
-          → lists (written (a + g)) (put_mid 0 ((a + g) * leak_numbers - 0) ns vs) ≡ list_of T ns
+          → lists (written (a + g)) (vs ++ drop ((a + g) * leak_numbers) ns) ≡ list_of T ns
       all_written vs h e = enough ∙ into
         where
           l : length vs ≡ (a + g) * leak_numbers
           l = omega (arith, ap length e, length_records (leaks_in T), many)
 
-          left : put_mid 0 ((a + g) * leak_numbers - 0) ns vs ≡ joined (leaks_in T) numbers_of ++ drop (length (joined (leaks_in T) numbers_of)) ns
-          left =
-              ap (λ (x : List ℕ). vs ++ x) (Post-is 0 ((a + g) * leak_numbers) ns (omega arith) ∙ ap (λ (k : ℕ). drop k ns) (sym l))
-              ∙ ap (λ (x : List ℕ). x ++ drop (length x) ns) e
+          left : vs ++ drop ((a + g) * leak_numbers) ns ≡ joined (leaks_in T) numbers_of ++ drop (length (joined (leaks_in T) numbers_of)) ns
+          left = ap (λ (k : ℕ). vs ++ drop k ns) (sym l) ∙ ap (λ (x : List ℕ). x ++ drop (length x) ns) e
 
-          enough : lists (written (a + g)) (put_mid 0 ((a + g) * leak_numbers - 0) ns vs) ≡ list_into (leaks_in T) ns
+          enough : lists (written (a + g)) (vs ++ drop ((a + g) * leak_numbers) ns) ≡ list_into (leaks_in T) ns
           enough =
               unfold list_into in
               rw (le-ltb (length ns / leak_numbers) (length (leaks_in T)) (omega (arith, many)))

@@ -3,7 +3,7 @@ use Prim.Native.Nat.{ℕ, zero, suc, ◌+◌, ◌-◌, ◌≤◌, ◌<◌}
 use mathlib.Core.Path.{◌≡◌, refl}
 use mathlib.Core.Bool.{Bool, true, false}
 use mathlib.Core.List.{List, [], ◌∷◌, ◌++◌}
-use mathlib.Core.Option.{Option, none, some}
+use Rattle.std.specs.Prelude.{Option, None, Some}
 use native.Mathlib.Omega.{arith}
 use lib.Dec.{eqb, ltb}
 use lib.ListN.{get_or}
@@ -23,18 +23,18 @@ use Rattle.leaks.proofs.ByLine.{Climbing}
 
 -- ---- an entry's place is where it was found
 abbrev place_or : ℕ → Option Entry → ℕ
-place_or p none = p
-place_or p (some e) = e.place
+place_or p None = p
+place_or p (Some e) = e.place
 
 of_pin_place : (p : ℕ) (o : Option Pin) → place_or p (of_pin p o) ≡ p
-of_pin_place p none = refl
-of_pin_place p (some x) = refl
+of_pin_place p None = refl
+of_pin_place p (Some x) = refl
 
 of_reference_place : (p : ℕ) (o : Option Reference) → place_or p (of_reference p o) ≡ p
-of_reference_place p none = refl
-of_reference_place p (some x) = go (eqb x.thread 0)
+of_reference_place p None = refl
+of_reference_place p (Some x) = go (eqb x.thread 0)
   where
-    go : (b : Bool) → place_or p (if_true b then some (record { place = p; thread = x.thread; value = x.handle; line = x.line }) else none) ≡ p
+    go : (b : Bool) → place_or p (if_true b then Some (record { place = p; thread = x.thread; value = x.handle; line = x.line }) else None) ≡ p
     go true = refl
     go false = refl
 
@@ -43,9 +43,9 @@ unfolding found_at
 found_place R P p = go (ltb p first_reference)
   where
     go : (b : Bool)
-        → place_or p (if_true b then of_pin p (get_or (view pins P) p none) else of_reference p (get_or (view references R) (p - first_reference) none)) ≡ p
-    go true = of_pin_place p (get_or (view pins P) p none)
-    go false = of_reference_place p (get_or (view references R) (p - first_reference) none)
+        → place_or p (if_true b then of_pin p (get_or (view pins P) p None) else of_reference p (get_or (view references R) (p - first_reference) None)) ≡ p
+    go true = of_pin_place p (get_or (view pins P) p None)
+    go false = of_reference_place p (get_or (view references R) (p - first_reference) None)
 
 -- ---- place after place
 abbrev Between : ℕ → ℕ → Entry → Type 0
@@ -64,8 +64,8 @@ in_order f a (suc n) h = go (f zero) (h zero) (in_order (λ k. f (suc k)) (suc a
     go : (o : Option Entry) → place_or (a + 0) o ≡ a + 0
         → Climbing (held (each (λ k. f (suc k)) n)) × All (Between (suc a) (suc a + n)) (held (each (λ k. f (suc k)) n))
         → Climbing (held (o ∷ each (λ k. f (suc k)) n)) × All (Between a (a + suc n)) (held (o ∷ each (λ k. f (suc k)) n))
-    go none e ih = (ih.0, all_map (Between (suc a) (suc a + n)) (Between a (a + suc n)) (held (each (λ k. f (suc k)) n)) wider ih.1)
-    go (some x) e ih = (
+    go None e ih = (ih.0, all_map (Between (suc a) (suc a + n)) (Between a (a + suc n)) (held (each (λ k. f (suc k)) n)) wider ih.1)
+    go (Some x) e ih = (
       (all_map (Between (suc a) (suc a + n)) (λ y. x.place < y.place) (held (each (λ k. f (suc k)) n)) (λ y b. omega arith) ih.1, ih.0),
       (
         (omega arith, omega arith),

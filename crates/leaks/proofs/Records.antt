@@ -3,7 +3,7 @@ use Prim.Native.Nat.{ℕ, zero, suc, ◌+◌, ◌-◌, ◌≤◌, ◌<◌, suc-l
 use mathlib.Core.Path.{◌≡◌, refl, sym, ap, ap₂, ◌∙◌}
 use mathlib.Core.Bool.{Bool, true, false}
 use mathlib.Core.List.{List, [], ◌∷◌, ◌++◌, map, map-append, append_assoc}
-use mathlib.Core.Option.{Option, none, some}
+use Rattle.std.specs.Prelude.{Option, None, Some}
 use native.Mathlib.Nat.{zero-lt-suc}
 use native.Mathlib.Omega.{arith}
 use borrow.Author.Tests.{lt-ltb, le-ltb, eqb-true}
@@ -31,8 +31,8 @@ use Rattle.leaks.proofs.ByLine.{leak_of}
 
 -- ---- slot after slot
 held_cons : {A : Type 0} (o : Option A) (s : List (Option A)) → held (o ∷ s) ≡ held (o ∷ []) ++ held s
-held_cons none s = refl
-held_cons (some x) s = refl
+held_cons None s = refl
+held_cons (Some x) s = refl
 
 joined_append : {A : Type 0} (leaks : A → List Leak) (xs ys : List A) → joined (xs ++ ys) leaks ≡ joined xs leaks ++ joined ys leaks
 joined_append leaks [] ys = refl
@@ -57,8 +57,8 @@ buffers [] = refl
 buffers (x ∷ xs) = ap (λ (l : List Leak). buffer_leak (made_pin x) ∷ l) (buffers xs)
 
 at_pin : (p : ℕ) (o : Option Pin) → p < first_reference → map leak_of (held (of_pin p o ∷ [])) ≡ joined (held (o ∷ [])) of_buffer
-at_pin p none h = refl
-at_pin p (some x) h = rw (lt-ltb p first_reference h) (ap (λ (l : Leak). l ∷ []) (go (eqb x.thread 0) refl))
+at_pin p None h = refl
+at_pin p (Some x) h = rw (lt-ltb p first_reference h) (ap (λ (l : Leak). l ∷ []) (go (eqb x.thread 0) refl))
   where
     go : (b : Bool) → eqb x.thread 0 ≡ b
         → ◌≡◌ {A = Leak} (record { rule = 8; thread = x.thread; value = x.buffer; line = x.line })
@@ -81,11 +81,11 @@ handles (x ∷ xs) = go (eqb x.thread 0) (handles xs)
     go false ih = ih
 
 at_reference : (p : ℕ) (o : Option Reference) → first_reference ≤ p → map leak_of (held (of_reference p o ∷ [])) ≡ joined (held (o ∷ [])) of_handle
-at_reference p none h = refl
-at_reference p (some x) h = go (eqb x.thread 0) refl
+at_reference p None h = refl
+at_reference p (Some x) h = go (eqb x.thread 0) refl
   where
     go : (b : Bool) → eqb x.thread 0 ≡ b
-        → map leak_of (held ((if_true b then some (record { place = p; thread = x.thread; value = x.handle; line = x.line }) else none) ∷ []))
+        → map leak_of (held ((if_true b then Some (record { place = p; thread = x.thread; value = x.handle; line = x.line }) else None) ∷ []))
         ≡ (if_true b then handle_leak (record { what = if_true b then shared x.handle else local x.thread x.frame x.handle; line = x.line }) ∷ [] else []) ++ []
     go true e = rw (le-ltb p first_reference h) (λ i. record { rule = 10; thread = eqb-true x.thread 0 e i; value = x.handle; line = x.line } ∷ [])
     go false e = refl
@@ -100,7 +100,7 @@ module _ (R P : Table) where
       at i l =
           let h : i < first_reference = unfold room in omega arith in
           let e : 0 + i ≡ i = omega arith in
-          rw (e, lt-ltb i first_reference h, getD_each (slot pins P) (room pins P) i none l) (at_pin i (slot pins P i) h)
+          rw (e, lt-ltb i first_reference h, getD_each (slot pins P) (room pins P) i None l) (at_pin i (slot pins P i) h)
 
   references_found : map leak_of (found_from R P first_reference (room references R))
       ≡ map handle_leak (keep (λ x. global_or_weak x.what) (map made_alive (held (view references R))))
@@ -112,7 +112,7 @@ module _ (R P : Table) where
       at i l =
           let h : first_reference ≤ first_reference + i = omega arith in
           let e : first_reference + i - first_reference ≡ i = omega arith in
-          rw (le-ltb (first_reference + i) first_reference h, e, getD_each (slot references R) (room references R) i none l) (at_reference (first_reference + i) (slot references R i) h)
+          rw (le-ltb (first_reference + i) first_reference h, e, getD_each (slot references R) (room references R) i None l) (at_reference (first_reference + i) (slot references R i) h)
 
   pub leaks_found : map leak_of (found_in R P)
       ≡ map buffer_leak (map made_pin (held (view pins P))) ++ map handle_leak (keep (λ x. global_or_weak x.what) (map made_alive (held (view references R))))

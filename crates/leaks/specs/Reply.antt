@@ -1,8 +1,9 @@
 -- What is told of a listing. Assumes nothing.
-use Rattle.tables.specs.Listing.{Listed as Reply, written, not_written}
-use Rattle.leaks.specs.declared.Listed.{Listed}
-use Rattle.leaks.specs.declared.Listed.TheVariants.{Written, Refused}
+use Rattle.std.specs.Prelude.{ℕ, Result, Ok, Err}
+use Rattle.lines.specs.Numbered.{number_of}
+use Rattle.lines.specs.declared.refusal.Refusal.{Refusal}
+use Rattle.tables.specs.Listing.{Listed, written, not_written}
 
-abbrev pub reply_of : Listed → Reply
-reply_of (Written n) = written n
-reply_of (Refused k) = not_written k
+abbrev pub reply_of : Result ℕ Refusal → Listed
+reply_of (Ok n) = written n
+reply_of (Err k) = not_written (number_of k)

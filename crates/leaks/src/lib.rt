@@ -15,22 +15,9 @@ ghost use Rattle.leaks.specs.Reply.{reply_of};
 
 pub use entries::NUMBERS;
 use found::{FIRST_REFERENCE, collect};
+use lines::refusal::Refusal;
 use rows::Number;
 use sorting::sort;
-
-// How many records were written, or the number given instead.
-#[derive(Clone, Copy)]
-pub enum Listed {
-    Written(usize),
-    Refused(u8),
-}
-
-// A short book, a trace that is open, a slice with too little room.
-const SHORT_BOOK: u8 = 8;
-
-const OUT_OF_STEP: u8 = 4;
-
-const NO_ROOM: u8 = 7;
 
 // All leaks, in a slice that they fill.
 fn fill(rows: &[Number], marks: &[u64], pins: &[Number], pinmarks: &[u64], leaks: &mut [Number])
@@ -54,7 +41,8 @@ fn fill(rows: &[Number], marks: &[u64], pins: &[Number], pinmarks: &[u64], leaks
     entries::rule(leaks);
 }
 
-// Rule, thread, value and making line of each leak, ordered by making line, then rule and row, at the front of `leaks`.
+// Rule, thread, value and making line of each leak, ordered by making line, then rule and row, at the front of `leaks`: how many
+// records were written, or that the book is short, the trace is open, or there is too little room.
 pub fn list(
     rows: &[Number],
     marks: &[u64],
@@ -62,20 +50,20 @@ pub fn list(
     pinmarks: &[u64],
     book: &[u64],
     leaks: &mut [Number],
-) -> Listed
+) -> Result<usize, Refusal>
     ensures { (cs : List ℕ) → lists (reply_of result) leaks.new ≡ list_of (tables rows.now marks.now pins.now pinmarks.now book.now cs) leaks.old }
 {
     if book::unfit(book) {
-        return Listed::Refused(SHORT_BOOK);
+        return Err(Refusal::Unfit);
     }
     if !book::is_closed(book) {
-        return Listed::Refused(OUT_OF_STEP);
+        return Err(Refusal::OutOfStep);
     }
     let count = rows::pins::alive(pins, pinmarks) + rows::references::globals(rows, marks);
     if leaks.len() / NUMBERS < count {
-        return Listed::Refused(NO_ROOM);
+        return Err(Refusal::NoRoom);
     }
     let end = count * NUMBERS;
-    fill(rows, marks, pins, pinmarks, &mut leaks[0..end]);
-    Listed::Written(count)
+    fill(rows, marks, pins, pinmarks, &mut leaks[..end]);
+    Ok(count)
 }

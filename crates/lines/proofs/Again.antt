@@ -8,13 +8,14 @@ use lib.Dec.{leb}
 use lib.IntN.{ℤ, pos, negsuc}
 use lib.ListN.{length, replicate, length-map}
 use borrow.Author.Tests.{leb-true, lt-leb}
+use Rattle.std.specs.Prelude.{Ok}
 use Rattle.words.specs.Choice.{if_true◌then◌else◌}
 use Rattle.facts.specs.Table.{fact_of, is_function}
 use Rattle.numbers.specs.Signed.{largest_i32, is_i32}
 use Rattle.lines.specs.Line.{K, O, M, Line, N, X, C, R, A, D, Z, states, is_allowed, is_thread, above_zero, result_allows, largest, most_handles}
 use Rattle.lines.specs.Forms.{letter_of, numbers_of}
 use Rattle.lines.specs.Reading.{says}
-use Rattle.lines.specs.Events.{gives_status, event_of, slots_of, meant}
+use Rattle.lines.specs.Events.{gives_status, event_in, slots_of, meant_in, meant}
 use Rattle.lines.specs.Apart.{as_told, numbers_told}
 use Rattle.lines.specs.Handed.{signed_of, handed, handed_slots}
 use Rattle.lines.specs.declared.Event.TheVariants as Event
@@ -42,7 +43,7 @@ plain_result_told (negsuc n) h = let z : ◌≡◌ {A = ℕ} 0 1 = cc in absurd 
 
 -- the event that is handed over, and the slots beside it
 abbrev Handed : Line → Type 0
-Handed e = (handed (letter_of e) (length (numbers_of e)) (numbers_told e) ≡ event_of (says e)) × (handed_slots (letter_of e) (numbers_told e) ≡ slots_of (says e))
+Handed e = (handed (letter_of e) (length (numbers_of e)) (numbers_told e) ≡ event_in e) × (handed_slots (letter_of e) (numbers_told e) ≡ slots_of (says e))
 
 pub told_again : (e : Line) → is_allowed e ≡ true → Handed e
 told_again (N t env hs) h =
@@ -70,13 +71,13 @@ told_again (states (O t v c)) h = (refl, refl)
 told_again (states (M x sort c static final)) h = (refl, refl)
 
 -- the writers take it for the same line
-pub written_again : (e : Line) → is_allowed e ≡ true → meant (handed (letter_of e) (length (numbers_of e)) (numbers_told e)) (handed_slots (letter_of e) (numbers_told e)) ≡ says e
-written_again e h = let k = told_again e h in ap₂ meant k.0 k.1 ∙ meant_read e h
+pub written_again : (e : Line) → is_allowed e ≡ true → meant (Ok (handed (letter_of e) (length (numbers_of e)) (numbers_told e))) (handed_slots (letter_of e) (numbers_told e)) ≡ says e
+written_again e h = let k = told_again e h in ap₂ meant_in k.0 k.1 ∙ meant_read e h
 
 pub told_once : (e f : Line) → is_allowed e ≡ true → is_allowed f ≡ true → letter_of e ≡ letter_of f → length (numbers_of e) ≡ length (numbers_of f) → numbers_told e ≡ numbers_told f
     → says e ≡ says f
 told_once e f h g l n w =
     sym (written_again e h)
-    ∙ ap₂ (λ (b : ℕ) (ws : List ℕ). meant (handed b (length (numbers_of e)) ws) (handed_slots b ws)) l w
-    ∙ ap (λ (k : ℕ). meant (handed (letter_of f) k (numbers_told f)) (handed_slots (letter_of f) (numbers_told f))) n
+    ∙ ap₂ (λ (b : ℕ) (ws : List ℕ). meant_in (handed b (length (numbers_of e)) ws) (handed_slots b ws)) l w
+    ∙ ap (λ (k : ℕ). meant_in (handed (letter_of f) k (numbers_told f)) (handed_slots (letter_of f) (numbers_told f))) n
     ∙ written_again f g

@@ -1,36 +1,31 @@
--- An event that is a refusal, and one that is none: what was read. Assumes nothing.
+-- What the reader answers: a refusal, or the event of the line that was read. Assumes nothing.
 use mathlib.Core.Path.{◌≡◌, refl}
-use mathlib.Core.Bool.{Bool, true, false}
 use Prim.Native.Nat.{ℕ}
 use native.Mathlib.Omega.{arith}
-use lib.IntN.{pos}
-use Rattle.words.specs.Choice.{if_true◌then◌else◌}
-use Rattle.lines.specs.Line.{K, O, M, Line, N, X, C, R, A, D, Z, states, above_zero}
+use Rattle.std.specs.Prelude.{Ok, Err}
+use Rattle.lines.specs.Line.{Line}
 use Rattle.lines.specs.Reading.{Read, says, refused}
-use Rattle.lines.specs.Events.{gives_status, event_of}
+use Rattle.lines.specs.Numbered.{number_of, refusal_of}
+use Rattle.lines.specs.Events.{event_in, event_of}
 use Rattle.lines.specs.declared.Event.{Event}
+use Rattle.lines.specs.declared.refusal.Refusal.{Refusal}
 
-pub event_refused : (x : Read) (k : ℕ) → event_of x ≡ Event.Refused k → x ≡ refused k
-event_refused (refused j) k h = cc
-event_refused (says (N t env hs)) k h = let z : ◌≡◌ {A = ℕ} 0 1 = cc in absurd (omega arith)
-event_refused (says (X t r)) k h = let z : ◌≡◌ {A = ℕ} 0 1 = cc in absurd (omega arith)
-event_refused (says (C t env f a b c n)) k h = let z : ◌≡◌ {A = ℕ} 0 1 = cc in absurd (omega arith)
-event_refused (says (R t f r p)) k h = go (gives_status f) h
-  where
-    go : (s : Bool) → (if_true s then Event.Return t f 0 r p else Event.Return t f (above_zero r) (pos 0) p) ≡ Event.Refused k → says (R t f r p) ≡ refused k
-    go true h = let z : ◌≡◌ {A = ℕ} 0 1 = cc in absurd (omega arith)
-    go false h = let z : ◌≡◌ {A = ℕ} 0 1 = cc in absurd (omega arith)
-event_refused (says (A t env)) k h = let z : ◌≡◌ {A = ℕ} 0 1 = cc in absurd (omega arith)
-event_refused (says (D t)) k h = let z : ◌≡◌ {A = ℕ} 0 1 = cc in absurd (omega arith)
-event_refused (says Z) k h = let z : ◌≡◌ {A = ℕ} 0 1 = cc in absurd (omega arith)
-event_refused (says (states (K c s))) k h = let z : ◌≡◌ {A = ℕ} 0 1 = cc in absurd (omega arith)
-event_refused (says (states (O t v c))) k h = let z : ◌≡◌ {A = ℕ} 0 1 = cc in absurd (omega arith)
-event_refused (says (states (M x sort c static final))) k h = let z : ◌≡◌ {A = ℕ} 0 1 = cc in absurd (omega arith)
+pub number_back : (k : Refusal) → refusal_of (number_of k) ≡ k
+number_back Refusal.Length = refl
+number_back Refusal.Form = refl
+number_back Refusal.Range = refl
+number_back Refusal.OutOfStep = refl
+number_back Refusal.WrongEnv = refl
+number_back Refusal.AlreadyAlive = refl
+number_back Refusal.NoRoom = refl
+number_back Refusal.Unfit = refl
+number_back Refusal.WrongClass = refl
+number_back Refusal.NotAlive = refl
 
--- an event that is a line: no refusal
-abbrev pub IsLine : Event → Type 0
-IsLine e = (k : ℕ) → e ≡ Event.Refused k → ⊥
+pub event_refused : (x : Read) (k : Refusal) → event_of x ≡ Err k → (j : ℕ) × (x ≡ refused j) × (refusal_of j ≡ k)
+event_refused (refused j) k h = (j, refl, cc)
+event_refused (says e) k h = let z : ◌≡◌ {A = ℕ} 0 1 = cc in absurd (omega arith)
 
-pub event_said : (x : Read) → IsLine (event_of x) → (e : Line) × (x ≡ says e)
-event_said (refused j) w = absurd (w j refl)
-event_said (says e) w = (e, refl)
+pub event_said : (x : Read) (e : Event) → event_of x ≡ Ok e → (l : Line) × (x ≡ says l) × (event_in l ≡ e)
+event_said (refused j) e h = let z : ◌≡◌ {A = ℕ} 0 1 = cc in absurd (omega arith)
+event_said (says l) e h = (l, refl, cc)

@@ -2,7 +2,7 @@
 use mathlib.Core.Path.{◌≡◌, refl, ap, sym, ◌∙◌}
 use mathlib.Core.Bool.{Bool, true, false, ◌||◌, true≢false, false≢true}
 use mathlib.Core.List.{List, [], ◌∷◌}
-use mathlib.Core.Option.{Option, none, some}
+use Rattle.std.specs.Prelude.{Option, None, Some}
 use Prim.Native.Nat.{ℕ, suc, ◌-◌, ◌≤◌, ◌<◌}
 use native.Mathlib.Omega.{arith}
 use lib.Dec.{eqb, ltb}
@@ -22,8 +22,8 @@ use Rattle.lines.proofs.Formed.{no_count}
 -- a tab is no letter
 tab_two : (o : Option (List ℤ)) → if_numbers tab o ≡ refused 2
 unfolding line_of of_letter
-tab_two none = refl
-tab_two (some ns) = rw (no_count (length ns))
+tab_two None = refl
+tab_two (Some ns) = rw (no_count (length ns))
 
 two_bytes : (b x : ℕ) (ws : List (List ℕ)) → of_fields (onto_first b (onto_first x ws)) ≡ refused 2
 unfolding of_fields

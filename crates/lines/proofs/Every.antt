@@ -1,13 +1,22 @@
 -- A test of each element, one after the other. Assumes nothing.
 use mathlib.Core.Path.{◌≡◌, refl, ap, sym, ◌∙◌}
 use mathlib.Core.Bool.{Bool, true, false, not, ◌&&◌, ◌||◌}
-use mathlib.Core.List.{List}
+use mathlib.Core.List.{List, [], ◌∷◌}
+use Rattle.std.specs.List.{list_all}
 use Prim.Native.Nat.{ℕ, suc, ◌+◌, ◌≤◌, ◌<◌}
 use native.Mathlib.Numerals.{add-one}
 use lib.ListN.{length, get_or, drop, drop_of_length-le}
 use lib.Seq.{drop-cons}
 use Rattle.words.specs.Lists.{any}
 use Rattle.lines.proofs.Tests.{and_true}
+
+pub all_passed : (test : ℕ → Bool) (xs : List ℕ) → list_all test xs ≡ not (any (λ (x : ℕ). not (test x)) xs)
+all_passed test [] = refl
+all_passed test (x ∷ xs) = go (test x) (any (λ (x : ℕ). not (test x)) xs) (all_passed test xs)
+  where
+    go : (t b : Bool) {a : Bool} → a ≡ not b → (t && a) ≡ not (not t || b)
+    go true b h = h
+    go false b h = refl
 
 module _ (test : ℕ → Bool) where
   -- all from place i on pass

@@ -1,85 +1,27 @@
 -- The event that the code makes of a line's numbers. Assumes nothing.
 use mathlib.Core.Path.{◌≡◌, refl, ap, sym, subst, ◌∙◌}
-use mathlib.Core.Bool.{Bool, true, false, not, ◌&&◌, true≢false}
+use mathlib.Core.Bool.{Bool, true, false, true≢false}
 use mathlib.Core.Logic.{◌≢◌}
 use mathlib.Core.List.{List, [], ◌∷◌, map}
-use Prim.Native.Nat.{ℕ, zero, suc, ◌+◌, ◌-◌, ◌≤◌}
+use Prim.Native.Nat.{ℕ, zero, suc, ◌+◌, ◌≤◌}
 use Prim.Native.Char.{code}
 use native.Mathlib.Omega.{arith}
-use lib.Dec.{eqb, leb}
+use lib.Dec.{eqb}
 use lib.IntN.{ℤ, pos}
-use lib.ListN.{length, get_or, take, length-take, length-drop}
-use borrow.Author.Tests.{ne_eqb, eqb-true, leb-true}
+use lib.ListN.{length, get_or, take, length-take}
+use borrow.Author.Tests.{ne_eqb, eqb-true}
 use Rattle.words.specs.Choice.{within}
-use Rattle.facts.specs.Identities.{method, field}
-use Rattle.words.specs.Lists.{any}
-use Rattle.facts.specs.Table.{fact_of, is_function, first_function, last_function}
+use Rattle.facts.specs.Table.{fact_of, is_function}
 use Rattle.numbers.specs.Signed.{signed, is_i32}
-use Rattle.lines.specs.Line.{K, O, M, Line, N, X, C, R, A, D, Z, states, is_allowed, is_thread, is_env, is_value, is_class, is_identity, is_sort, is_argument, place_allows, capacity_allows, result_allows, threads, classes, most_handles}
+use Rattle.lines.specs.Line.{K, O, M, Line, N, X, C, R, A, D, Z, states, is_allowed, is_thread, is_env, place_allows, capacity_allows, most_handles}
 use Rattle.lines.specs.Forms.{most_fields, no_place, of_letter}
 use Rattle.lines.specs.Reading.{says, refused, if_allowed, line_of}
-use Rattle.lines.specs.Events.{gives_status, event_of}
 use Rattle.lines.specs.Sizes.{signed_at, numbers_in, right_count, line_in, named}
-use Rattle.lines.specs.declared.Event.{Event}
-use Rattle.lines.proofs.Tests.{both, all3, all4, all5, all7, and_false}
+use Rattle.lines.proofs.Tests.{all7}
 use Rattle.lines.proofs.Listed.{of_length}
-use Rattle.lines.proofs.Formed.{within_low, within_high, within_one, no_count}
+use Rattle.lines.proofs.Formed.{within_low, within_one, no_count}
 use Rattle.lines.proofs.Numbered.{enter_numbers}
-use Rattle.lines.proofs.RangeLaws.{capacity_i32, status_i32, plain_result}
-
--- ---- a line that is not allowed, and one that is
-
-module _ (e : Line) {t : Bool} (tested : t ≡ is_allowed e) where
-  pub not_made : t ≡ false → Event.Refused 3 ≡ event_of (if_allowed e)
-  not_made h = rw (sym tested ∙ h)
-
-  pub is_made : t ≡ true → event_of (says e) ≡ event_of (if_allowed e)
-  is_made h = rw (sym tested ∙ h)
-
--- ---- the numbers that keep to 32 bits, all but the function
-
-abbrev pub Narrow : Line → Type 0
-Narrow (N t env hs) = t ≤ threads
-Narrow (X t r) = t ≤ threads
-Narrow (C t env f a b c n) = t ≤ threads
-Narrow (R t f r p) = (t ≤ threads) × (p ≤ 1)
-Narrow (A t env) = t ≤ threads
-Narrow (D t) = t ≤ threads
-Narrow Z = Unit
-Narrow (states (K c s)) = (c ≤ classes) × (s ≤ classes)
-Narrow (states (O t h c)) = (t ≤ threads) × (c ≤ classes)
-Narrow (states (M x sort c static final)) = (sort ≤ field) × (c ≤ classes) × (static ≤ 1) × (final ≤ 1)
-
-pub narrow : (e : Line) → is_allowed e ≡ true → Narrow e
-narrow (N t env hs) h = within_high 1 threads t (all4 (is_thread t) (is_env env) (leb (length hs) most_handles) (not (any (λ (x : ℕ). not (is_argument x)) hs)) h).0
-narrow (X t r) h = within_high 1 threads t (both (is_thread t) (is_value r) h).0
-narrow (C t env f a b c n) h =
-    within_high 1 threads t
-    (all7 (is_thread t) (is_env env) (is_function f) (place_allows (fact_of f).a a) (place_allows (fact_of f).b b) (place_allows (fact_of f).c c) (capacity_allows f n) h).0
-narrow (R t f r p) h =
-    let k = all4 (is_thread t) (is_function f) (result_allows (fact_of f).result r) (leb p 1) h in
-    (within_high 1 threads t k.0, leb-true p 1 k.3)
-narrow (A t env) h = within_high 1 threads t (both (is_thread t) (is_env env) h).0
-narrow (D t) h = within_high 1 threads t h
-narrow Z h = tt
-narrow (states (K c s)) h = let k = both (is_class c) (is_class s) h in (within_high 1 classes c k.0, within_high 1 classes s k.1)
-narrow (states (O t v c)) h =
-    let k = all3 (is_thread t) (is_value v) (is_class c) h in
-    (within_high 1 threads t k.0, within_high 1 classes c k.2)
-narrow (states (M x sort c static final)) h =
-    let k = all5 (is_identity x) (is_sort sort) (is_class c) (leb static 1) (leb final 1) h in
-    (within_high method field sort k.1, within_high 1 classes c k.2, leb-true static 1 k.3, leb-true final 1 k.4)
-
-module _ (f : ℕ) where
-  pub narrow_function : is_function f ≡ true → f ≤ last_function
-  narrow_function h = within_high first_function last_function f h
-
-  -- no line calls or returns from a number that is no function
-  pub call_nothing : (t env a b c : ℕ) (n : ℤ) → is_function f ≡ false → Event.Refused 3 ≡ event_of (if_allowed (C t env f a b c n))
-  call_nothing t env a b c n h = rw (h, and_false (is_thread t && is_env env))
-
-  pub return_nothing : (t : ℕ) (r : ℤ) (p : ℕ) → is_function f ≡ false → Event.Refused 3 ≡ event_of (if_allowed (R t f r p))
-  return_nothing t r p h = rw (h, and_false (is_thread t))
+use Rattle.lines.proofs.RangeLaws.{capacity_i32}
 
 -- ---- capacity and status are signed 32-bit numbers
 
@@ -87,26 +29,6 @@ pub call_i32 : (t env f a b c : ℕ) (n : ℤ) → is_allowed (C t env f a b c n
 call_i32 t env f a b c n h =
     capacity_i32 f n
     (all7 (is_thread t) (is_env env) (is_function f) (place_allows (fact_of f).a a) (place_allows (fact_of f).b b) (place_allows (fact_of f).c c) (capacity_allows f n) h).6
-
-result_of : (t f : ℕ) (r : ℤ) (p : ℕ) → is_allowed (R t f r p) ≡ true → result_allows (fact_of f).result r ≡ true
-result_of t f r p h = (all4 (is_thread t) (is_function f) (result_allows (fact_of f).result r) (leb p 1) h).2
-
-module _ (t f : ℕ) (minus : Bool) (n p : ℕ) (h : is_allowed (R t f (signed minus n) p) ≡ true) where
-  pub return_i32 : gives_status f ≡ true → is_i32 (signed minus n) ≡ true
-  return_i32 s = status_i32 (fact_of f).result (signed minus n) s (result_of t f (signed minus n) p h)
-
-  pub status_made : {z : ℤ} → gives_status f ≡ true → z ≡ signed minus n → Event.Return t f 0 z p ≡ event_of (if_allowed (R t f (signed minus n) p))
-  status_made s e = rw (h, s, e)
-
-  pub result_made : gives_status f ≡ false → Event.Return t f n (pos 0) p ≡ event_of (if_allowed (R t f (signed minus n) p))
-  result_made s = rw (h, s, plain_result (fact_of f).result minus n s (result_of t f (signed minus n) p h))
-
--- the handles that N names are line-in
-pub enter_made : (t env n : ℕ) (vs : List ℕ) → length vs ≡ most_fields → within 2 most_fields n ≡ true → is_allowed (N t env (named n vs)) ≡ true
-    → Event.Enter t env (n - 2) ≡ event_of (if_allowed (N t env (named n vs)))
-enter_made t env n vs l c h =
-    let k : n - 2 ≡ length (named n vs) = omega (arith, length-drop 2 (take n vs), length-take n vs, within_high 2 most_fields n c) in
-    rw (h, k)
 
 pub wrong_count : (b n : ℕ) (minus : Bool) (vs : List ℕ) → right_count b n ≡ false → refused 2 ≡ line_in b n minus vs
 unfolding line_in

@@ -2,15 +2,15 @@
 use mathlib.Core.Path.{◌≡◌, refl, ap, ap₂, sym, ◌∙◌}
 use mathlib.Core.Bool.{Bool, true, false, ◌&&◌}
 use mathlib.Core.List.{List, [], ◌++◌, map}
-use mathlib.Core.Option.{Option, none, some}
-use Prim.Native.Nat.{ℕ, zero, suc, ◌+◌, ◌-◌, ◌≤◌, ◌<◌}
+use Rattle.std.specs.Prelude.{Option, None, Some, Ok}
+use Prim.Native.Nat.{ℕ, suc, ◌+◌, ◌-◌, ◌≤◌, ◌<◌}
 use native.Mathlib.Omega.{arith}
 use native.Mathlib.Decide.{dec_le}
-use native.Mathlib.Nat.{sub-zero}
 use lib.IntN.{ℤ, pos, nat_abs}
 use lib.ListN.{length, take, drop, replicate, length-map}
 use lib.Seq.{take_at, drop_at}
 use borrow.Author.Tests.{le-leb, lt-leb}
+use Rattle.std.proofs.lemmas.List.{drop-replicate}
 use Rattle.words.specs.Choice.{if_true◌then◌else◌}
 use Rattle.words.specs.Lists.{any}
 use Rattle.numbers.specs.Signed.{is_negative}
@@ -18,11 +18,12 @@ use Rattle.lines.specs.Line.{K, O, M, Line, N, X, C, R, A, D, Z, states, above_z
 use Rattle.lines.specs.Forms.{most_fields, form_of, numbers_of}
 use Rattle.lines.specs.Reading.{Read, says, refused, numbers, line_of, if_numbers}
 use Rattle.lines.specs.Writing.{lettered, written}
-use Rattle.lines.specs.Events.{gives_status, event_of, padded, slots_of}
+use Rattle.lines.specs.Events.{gives_status, event_in, event_of, padded, slots_of}
 use Rattle.lines.specs.Sizes.{numbers_in, right_count, line_in, named, slots_in}
 use Rattle.lines.specs.Gathered.{tally, nothing_yet, no_values, Gathered, gathered_as, gathered, made}
 use Rattle.lines.specs.declared.heads.Tally.{Tally}
 use Rattle.lines.specs.declared.Event.{Event}
+use Rattle.lines.proofs.Answered.{event_said}
 use Rattle.lines.proofs.Tests.{and_false}
 use Rattle.lines.proofs.Formed.{within_high, most_few}
 use Rattle.lines.proofs.Gathering.{any_wrong, counted_from, gathered_count, gathered_out, gathered_values}
@@ -72,17 +73,17 @@ made_right b ns r w =
     (ap (λ (vs : List ℕ). line_of b (numbers_in b (any is_negative ns) vs)) (take_at (map nat_abs ns) (drop (length (map nat_abs ns)) no_values) (length ns) (length-map ns nat_abs))
     ∙ ap (line_of b) (sizes_back b ns (right_most b (length ns) r) w))
 
-module _ (b : ℕ) (ws : List (List ℕ)) (ns : List ℤ) (e : numbers ws ≡ some ns) where
+module _ (b : ℕ) (ws : List (List ℕ)) (ns : List ℤ) (e : numbers ws ≡ Some ns) where
   many : most_fields < length ns → made_of b (gathered_of b ws) ≡ line_of b ns
   many l =
-      let c : counted_from 0 (some ns) ≡ suc most_fields = rw (lt-leb (0 + length ns) most_fields (omega arith)) in
-      made_two b (gathered_of b ws) (ap (right_count b) (count_of b ws (some ns) e ∙ c) ∙ over_most b (suc most_fields) (omega arith))
+      let c : counted_from 0 (Some ns) ≡ suc most_fields = rw (lt-leb (0 + length ns) most_fields (omega arith)) in
+      made_two b (gathered_of b ws) (ap (right_count b) (count_of b ws (Some ns) e ∙ c) ∙ over_most b (suc most_fields) (omega arith))
       ∙ sym (line_two b ns (over_most b (length ns) l))
 
   few_count : length ns ≤ most_fields → (gathered_of b ws).tally.count ≡ length ns
   few_count l =
       let z : 0 + length ns ≡ length ns = omega arith in
-      count_of b ws (some ns) e ∙ rw (le-leb (0 + length ns) most_fields (omega arith)) z
+      count_of b ws (Some ns) e ∙ rw (le-leb (0 + length ns) most_fields (omega arith)) z
 
   right_gathered : right_count b (length ns) ≡ true → any_wrong (form_of b).signed 0 ns ≡ false
       → gathered_of b ws ≡ gathered_as (tally (length ns) false (any is_negative ns)) (map nat_abs ns ++ drop (length (map nat_abs ns)) no_values)
@@ -105,8 +106,8 @@ pub made_numbers : (b : ℕ) (ws : List (List ℕ)) → made_of b (gathered_of b
 made_numbers b ws = go (numbers ws) refl
   where
     go : (o : Option (List ℤ)) → numbers ws ≡ o → made_of b (gathered_of b ws) ≡ if_numbers b o
-    go none e = made_two b (gathered_of b ws) (ap (right_count b) (count_of b ws none e) ∙ over_most b (suc most_fields) (omega arith))
-    go (some ns) e = by_length (dec_le (length ns) most_fields)
+    go None e = made_two b (gathered_of b ws) (ap (right_count b) (count_of b ws None e) ∙ over_most b (suc most_fields) (omega arith))
+    go (Some ns) e = by_length (dec_le (length ns) most_fields)
       where
         by_length : Dec (length ns ≤ most_fields) → made_of b (gathered_of b ws) ≡ line_of b ns
         by_length (yes l) = few b ws ns e l (right_count b (length ns)) refl (any_wrong (form_of b).signed 0 ns) refl
@@ -114,13 +115,8 @@ made_numbers b ws = go (numbers ws) refl
 
 -- no size stands past those of a line's numbers
 
-drop_replicate : (n i x : ℕ) → drop i (replicate n x) ≡ replicate (n - i) x
-drop_replicate n zero x = ap (λ (m : ℕ). replicate m x) (sym (sub-zero n))
-drop_replicate zero (suc i) x = let z : 0 - suc i ≡ 0 = omega arith in ap (λ (m : ℕ). replicate m x) (sym z)
-drop_replicate (suc n) (suc i) x = let z : suc n - suc i ≡ n - i = omega arith in drop_replicate n i x ∙ ap (λ (m : ℕ). replicate m x) (sym z)
-
 rest_none : (n : ℕ) → n ≤ most_fields → (vs : List ℕ) → length vs ≡ n → drop n (vs ++ drop (length vs) no_values) ≡ replicate (most_fields - n) 0
-rest_none n h vs l = drop_at vs (drop (length vs) no_values) n l ∙ ap (λ (i : ℕ). drop i no_values) l ∙ drop_replicate most_fields n 0
+rest_none n h vs l = drop_at vs (drop (length vs) no_values) n l ∙ ap (λ (i : ℕ). drop i no_values) l ∙ drop-replicate n most_fields 0
 
 said_right : (b : ℕ) (ns : List ℤ) (e : Line) → line_of b ns ≡ says e → (right_count b (length ns) ≡ true) × (any_wrong (form_of b).signed 0 ns ≡ false)
 unfolding line_of
@@ -136,8 +132,8 @@ made_rest b ws e = go (numbers ws) refl
   where
     go : (o : Option (List ℤ)) → numbers ws ≡ o → if_numbers b o ≡ says e
         → drop (length (numbers_of e)) (gathered_of b ws).values ≡ replicate (most_fields - length (numbers_of e)) 0
-    go none p h = absurd (never h)
-    go (some ns) p h =
+    go None p h = absurd (never h)
+    go (Some ns) p h =
         let k = said_right b ns e h in
         let l = right_most b (length ns) k.0 in
         ap₂ (λ (i : ℕ) (vs : List ℕ). drop i vs) (ap length (line_said b ns e h).numbers) (ap (λ (g : Gathered). g.values) (right_gathered b ws ns p k.0 k.1))
@@ -146,28 +142,27 @@ made_rest b ws e = go (numbers ws) refl
 
 -- ---- the slots beside it
 
-abbrev Slots : ℕ → List ℕ → Read → Type 0
-Slots n vs x = slots_in (event_of x) n vs ≡ slots_of x
+abbrev Slots : ℕ → List ℕ → Line → Type 0
+Slots n vs e = slots_in (event_in e) n vs ≡ slots_of (says e)
 
-return_slots : (n : ℕ) (vs : List ℕ) (t f : ℕ) (r : ℤ) (p : ℕ) → Slots n vs (says (R t f r p))
+return_slots : (n : ℕ) (vs : List ℕ) (t f : ℕ) (r : ℤ) (p : ℕ) → Slots n vs (R t f r p)
 return_slots n vs t f r p = go (gives_status f)
   where
     go : (s : Bool) → slots_in (if_true s then Event.Return t f 0 r p else Event.Return t f (above_zero r) (pos 0) p) n vs ≡ padded []
     go true = refl
     go false = refl
 
-slots_said : (n : ℕ) (vs : List ℕ) (x : Read) → ((t env : ℕ) (hs : List ℕ) → x ≡ says (N t env hs) → hs ≡ named n vs) → Slots n vs x
-slots_said n vs (refused k) h = refl
-slots_said n vs (says (N t env hs)) h = ap padded (sym (h t env hs refl))
-slots_said n vs (says (X t r)) h = refl
-slots_said n vs (says (C t env f a b c k)) h = refl
-slots_said n vs (says (R t f r p)) h = return_slots n vs t f r p
-slots_said n vs (says (A t env)) h = refl
-slots_said n vs (says (D t)) h = refl
-slots_said n vs (says Z) h = refl
-slots_said n vs (says (states (K c s))) h = refl
-slots_said n vs (says (states (O t k c))) h = refl
-slots_said n vs (says (states (M x sort c static final))) h = refl
+slots_said : (n : ℕ) (vs : List ℕ) (e : Line) → ((t env : ℕ) (hs : List ℕ) → e ≡ N t env hs → hs ≡ named n vs) → Slots n vs e
+slots_said n vs (N t env hs) h = ap padded (sym (h t env hs refl))
+slots_said n vs (X t r) h = refl
+slots_said n vs (C t env f a b c k) h = refl
+slots_said n vs (R t f r p) h = return_slots n vs t f r p
+slots_said n vs (A t env) h = refl
+slots_said n vs (D t) h = refl
+slots_said n vs Z h = refl
+slots_said n vs (states (K c s)) h = refl
+slots_said n vs (states (O t k c)) h = refl
+slots_said n vs (states (M x sort c static final)) h = refl
 
 -- N names the handles after thread and env
 module _ (b n : ℕ) (minus : Bool) (vs : List ℕ) (ten : length vs ≡ most_fields) where
@@ -185,8 +180,15 @@ module _ (b n : ℕ) (minus : Bool) (vs : List ℕ) (ten : length vs ≡ most_fi
       go true r s = same r s
       go false r s = absurd (never (rw r at s))
 
-  pub slots_made : {e : Event} → e ≡ event_of (line_in b n minus vs) → slots_in e n vs ≡ slots_of (line_in b n minus vs)
-  slots_made p = ap (λ (x : Event). slots_in x n vs) p ∙ slots_said n vs (line_in b n minus vs) handles_are
+  slots_made : {e : Event} → event_of (line_in b n minus vs) ≡ Ok e → slots_in e n vs ≡ slots_of (line_in b n minus vs)
+  slots_made {e} p =
+      let s = event_said (line_in b n minus vs) e p in
+      ap (λ (x : Event). slots_in x n vs) (sym s.2)
+      ∙ slots_said n vs s.0 (λ t env hs q. handles_are t env hs (s.1 ∙ ap says q))
+      ∙ ap slots_of (sym s.1)
+
+  pub event_left : {e : Event} {x : Read} {hs : List ℕ} → event_of (line_in b n minus vs) ≡ Ok e → line_in b n minus vs ≡ x → hs ≡ slots_in e n vs → (Ok e ≡ event_of x) × (hs ≡ slots_of x)
+  event_left p m h = (sym p ∙ ap event_of m, h ∙ slots_made p ∙ ap slots_of m)
 
 -- ---- for the code
 

@@ -2,7 +2,7 @@
 use mathlib.Core.Path.{◌≡◌, refl, ap, ap₂, sym, ◌∙◌}
 use mathlib.Core.Bool.{Bool, true, false, not, ◌&&◌, ◌||◌}
 use mathlib.Core.List.{List, [], ◌∷◌, map}
-use mathlib.Core.Option.{Option, none, some}
+use Rattle.std.specs.Prelude.{Option, None, Some}
 use Prim.Native.Nat.{ℕ, suc, ◌+◌, ◌≤◌, ◌<◌}
 use native.Mathlib.Omega.{arith}
 use native.Mathlib.Decide.{dec_le, dec_lt}
@@ -47,7 +47,7 @@ record Counted (k : ℕ) (g : Gathered) (z : ℤ) (r : Gathered) : Type 0 where
   count : r.tally.count ≡ g.tally.count + 1
   out : r.tally.out ≡ (g.tally.out || wrong_at k g.tally.count z)
 
-counted : (k : ℕ) (g : Gathered) (z : ℤ) → Counted k g z (and_field k g (bounded largest (some z)))
+counted : (k : ℕ) (g : Gathered) (z : ℤ) → Counted k g z (and_field k g (bounded largest (Some z)))
 counted k g (pos n) = go (leb n largest) refl
   where
     go : (t : Bool) → leb n largest ≡ t → Counted k g (pos n) (and_field k g (if_true t then Field.Plus n else Field.Out))
@@ -61,7 +61,7 @@ counted k g (negsuc n) = go (leb (suc n) largest) refl
 
 -- its size is kept, if it is not wrong
 valued : (k : ℕ) (g : Gathered) (z : ℤ) → wrong_at k g.tally.count z ≡ false
-    → and_field k g (bounded largest (some z))
+    → and_field k g (bounded largest (Some z))
     ≡ gathered_as (tally (g.tally.count + 1) g.tally.out (g.tally.minus || is_negative z)) (set g.values g.tally.count (nat_abs z))
 valued k g (pos n) h =
     let l = ltb-false largest n (neither (too_large (pos n)) false h).0 in
@@ -103,21 +103,21 @@ nothing_mends k g x ws h = let e = taken_over k g x h in ap (λ (r : Gathered). 
 
 -- how many numbers there are, from i on; one past the most where one is none or there are more
 abbrev pub counted_from : ℕ → Option (List ℤ) → ℕ
-counted_from i none = suc most_fields
-counted_from i (some ns) = if_true leb (i + length ns) most_fields then i + length ns else suc most_fields
+counted_from i None = suc most_fields
+counted_from i (Some ns) = if_true leb (i + length ns) most_fields then i + length ns else suc most_fields
 
 past_most : (i : ℕ) (o : Option (List ℤ)) → most_fields < i → counted_from i o ≡ suc most_fields
-past_most i none h = refl
-past_most i (some ns) h = rw (lt-leb (i + length ns) most_fields (omega arith))
+past_most i None h = refl
+past_most i (Some ns) h = rw (lt-leb (i + length ns) most_fields (omega arith))
 
 no_more : (i : ℕ) (o : Option (List ℤ)) (a : Option ℤ) → most_fields ≤ i → counted_from i (and_number a o) ≡ suc most_fields
-no_more i o none h = refl
-no_more i none (some n) h = refl
-no_more i (some ns) (some n) h = rw (lt-leb (i + suc (length ns)) most_fields (omega arith))
+no_more i o None h = refl
+no_more i None (Some n) h = refl
+no_more i (Some ns) (Some n) h = rw (lt-leb (i + suc (length ns)) most_fields (omega arith))
 
-one_more : (i : ℕ) (n : ℤ) (o : Option (List ℤ)) → counted_from (i + 1) o ≡ counted_from i (and_number (some n) o)
-one_more i n none = refl
-one_more i n (some ns) =
+one_more : (i : ℕ) (n : ℤ) (o : Option (List ℤ)) → counted_from (i + 1) o ≡ counted_from i (and_number (Some n) o)
+one_more i n None = refl
+one_more i n (Some ns) =
     let k : i + 1 + length ns ≡ i + suc (length ns) = omega arith in
     ap (λ (m : ℕ). if_true leb m most_fields then m else suc most_fields) k
 
@@ -137,12 +137,12 @@ gathered_count k (w ∷ ws) g h = go (dec_lt g.tally.count most_fields) (number 
     go : Dec (g.tally.count < most_fields) → (a : Option ℤ) → number w ≡ a
         → ((g : Gathered) → g.tally.count ≤ suc most_fields → (gathered k g ws).tally.count ≡ counted_from g.tally.count (numbers ws))
         → (gathered k (taken k g (bounded largest a)) ws).tally.count ≡ counted_from g.tally.count (and_number a (numbers ws))
-    go (yes l) none e ih =
-        let t : taken k g (bounded largest none) ≡ gathered_as wrong g.values = taken_one k g Field.Bad l in
+    go (yes l) None e ih =
+        let t : taken k g (bounded largest None) ≡ gathered_as wrong g.values = taken_one k g Field.Bad l in
         rw t (ih (gathered_as wrong g.values) (omega arith) ∙ past_most (suc most_fields) (numbers ws) (omega arith))
-    go (yes l) (some z) e ih =
-        let r = and_field k g (bounded largest (some z)) in
-        let t : taken k g (bounded largest (some z)) ≡ r = taken_one k g (bounded largest (some z)) l in
+    go (yes l) (Some z) e ih =
+        let r = and_field k g (bounded largest (Some z)) in
+        let t : taken k g (bounded largest (Some z)) ≡ r = taken_one k g (bounded largest (Some z)) l in
         let c : r.tally.count ≡ g.tally.count + 1 = (counted k g z).count in
         ap (λ (x : Gathered). (gathered k x ws).tally.count) t
         ∙ ih r (omega arith)
@@ -156,24 +156,24 @@ gathered_count k (w ∷ ws) g h = go (dec_lt g.tally.count most_fields) (number 
         ∙ sym (no_more g.tally.count (numbers ws) a (omega arith))
 
 -- whether one is wrong
-pub gathered_out : (k : ℕ) (ws : List (List ℕ)) (ns : List ℤ) (g : Gathered) → numbers ws ≡ some ns → g.tally.count + length ns ≤ most_fields
+pub gathered_out : (k : ℕ) (ws : List (List ℕ)) (ns : List ℤ) (g : Gathered) → numbers ws ≡ Some ns → g.tally.count + length ns ≤ most_fields
     → (gathered k g ws).tally.out ≡ (g.tally.out || any_wrong k g.tally.count ns)
 unfolding gathered numbers any_wrong
 gathered_out k [] ns g e h = let n : ns ≡ [] = cc in rw n (sym (or_false g.tally.out))
 gathered_out k (w ∷ ws) ns g e h = go (number w) refl (numbers ws) refl (gathered_out k ws) e
   where
     go : (a : Option ℤ) → number w ≡ a → (b : Option (List ℤ)) → numbers ws ≡ b
-        → ((ms : List ℤ) (g : Gathered) → numbers ws ≡ some ms → g.tally.count + length ms ≤ most_fields
+        → ((ms : List ℤ) (g : Gathered) → numbers ws ≡ Some ms → g.tally.count + length ms ≤ most_fields
         → (gathered k g ws).tally.out ≡ (g.tally.out || any_wrong k g.tally.count ms))
-        → and_number a b ≡ some ns
+        → and_number a b ≡ Some ns
         → (gathered k (taken k g (bounded largest a)) ws).tally.out ≡ (g.tally.out || any_wrong k g.tally.count ns)
-    go none p b q ih e = let z : ◌≡◌ {A = ℕ} 0 1 = cc in absurd (omega arith)
-    go (some z) p none q ih e = let z : ◌≡◌ {A = ℕ} 0 1 = cc in absurd (omega arith)
-    go (some z) p (some ms) q ih e =
+    go None p b q ih e = let z : ◌≡◌ {A = ℕ} 0 1 = cc in absurd (omega arith)
+    go (Some z) p None q ih e = let z : ◌≡◌ {A = ℕ} 0 1 = cc in absurd (omega arith)
+    go (Some z) p (Some ms) q ih e =
         let n : ns ≡ z ∷ ms = cc in
         let l : length ns ≡ suc (length ms) = ap length n in
-        let r = and_field k g (bounded largest (some z)) in
-        let t : taken k g (bounded largest (some z)) ≡ r = taken_one k g (bounded largest (some z)) (omega arith) in
+        let r = and_field k g (bounded largest (Some z)) in
+        let t : taken k g (bounded largest (Some z)) ≡ r = taken_one k g (bounded largest (Some z)) (omega arith) in
         let c = counted k g z in
         let i : r.tally.count ≡ g.tally.count + 1 = c.count in
         ap (λ (x : Gathered). (gathered k x ws).tally.out) t
@@ -183,7 +183,7 @@ gathered_out k (w ∷ ws) ns g e h = go (number w) refl (numbers ws) refl (gathe
         ∙ ap (λ (x : List ℤ). g.tally.out || any_wrong k g.tally.count x) (sym n)
 
 -- all of it, where none is wrong
-pub gathered_values : (k : ℕ) (ws : List (List ℕ)) (ns : List ℤ) (g : Gathered) → numbers ws ≡ some ns
+pub gathered_values : (k : ℕ) (ws : List (List ℕ)) (ns : List ℤ) (g : Gathered) → numbers ws ≡ Some ns
     → g.tally.count + length ns ≤ most_fields → length g.values ≡ most_fields → any_wrong k g.tally.count ns ≡ false
     → gathered k g ws
     ≡ gathered_as (tally (g.tally.count + length ns) g.tally.out (g.tally.minus || any is_negative ns)) (put g.values g.tally.count (map nat_abs ns))
@@ -197,23 +197,23 @@ gathered_values k [] ns g e h v f =
 gathered_values k (w ∷ ws) ns g e h v f = go (number w) refl (numbers ws) refl (gathered_values k ws) e
   where
     go : (a : Option ℤ) → number w ≡ a → (b : Option (List ℤ)) → numbers ws ≡ b
-        → ((ms : List ℤ) (g : Gathered) → numbers ws ≡ some ms
+        → ((ms : List ℤ) (g : Gathered) → numbers ws ≡ Some ms
         → g.tally.count + length ms ≤ most_fields → length g.values ≡ most_fields → any_wrong k g.tally.count ms ≡ false
         → gathered k g ws
         ≡ gathered_as (tally (g.tally.count + length ms) g.tally.out (g.tally.minus || any is_negative ms)) (put g.values g.tally.count (map nat_abs ms)))
-        → and_number a b ≡ some ns
+        → and_number a b ≡ Some ns
         → gathered k (taken k g (bounded largest a)) ws
         ≡ gathered_as (tally (g.tally.count + length ns) g.tally.out (g.tally.minus || any is_negative ns)) (put g.values g.tally.count (map nat_abs ns))
-    go none p b q ih e = let z : ◌≡◌ {A = ℕ} 0 1 = cc in absurd (omega arith)
-    go (some z) p none q ih e = let z : ◌≡◌ {A = ℕ} 0 1 = cc in absurd (omega arith)
-    go (some z) p (some ms) q ih e =
+    go None p b q ih e = let z : ◌≡◌ {A = ℕ} 0 1 = cc in absurd (omega arith)
+    go (Some z) p None q ih e = let z : ◌≡◌ {A = ℕ} 0 1 = cc in absurd (omega arith)
+    go (Some z) p (Some ms) q ih e =
         let n : ns ≡ z ∷ ms = cc in
         let l : length ns ≡ suc (length ms) = ap length n in
         let x : any_wrong k g.tally.count (z ∷ ms) ≡ false = ap (any_wrong k g.tally.count) (sym n) ∙ f in
         let y = neither (wrong_at k g.tally.count z) (any_wrong k (g.tally.count + 1) ms) x in
         let i = g.tally.count in
         let r = gathered_as (tally (i + 1) g.tally.out (g.tally.minus || is_negative z)) (set g.values i (nat_abs z)) in
-        let t : taken k g (bounded largest (some z)) ≡ r = taken_one k g (bounded largest (some z)) (omega arith) ∙ valued k g z y.0 in
+        let t : taken k g (bounded largest (Some z)) ≡ r = taken_one k g (bounded largest (Some z)) (omega arith) ∙ valued k g z y.0 in
         let c : i + 1 + length ms ≡ i + length ns = omega arith in
         let m : length (map nat_abs ms) ≡ length ms = length-map ms nat_abs in
         ap (λ (x : Gathered). gathered k x ws) t

@@ -9,14 +9,16 @@ use lib.IntN.{ℤ, pos, negsuc}
 use lib.ListN.{length, take, drop, replicate, length-drop, take-append-drop}
 use lib.Seq.{take-append_seam, drop-append_seam, length-take-le}
 use borrow.Author.Tests.{eqb-true, leb-true, not-false}
+use Rattle.std.specs.Prelude.{Result as Answer, Ok, Err}
 use Rattle.words.specs.Choice.{if_true◌then◌else◌}
 use Rattle.words.specs.Lists.{any}
 use Rattle.facts.specs.Table.{fact_of, is_function}
 use Rattle.facts.specs.declared.Result.{Result}
 use Rattle.lines.specs.Line.{K, O, M, Line, N, X, C, R, A, D, Z, states, is_allowed, is_thread, is_env, is_argument, is_zero, is_made, result_allows, value_allows, above_zero, most_handles}
 use Rattle.lines.specs.Reading.{says, refused}
-use Rattle.lines.specs.Events.{is_status, gives_status, event_of, padded, slots_of, not_zero, with_slots, meant}
+use Rattle.lines.specs.Events.{is_status, gives_status, event_in, event_of, padded, slots_of, not_zero, with_slots, meant_in, meant}
 use Rattle.lines.specs.declared.Event.{Event}
+use Rattle.lines.specs.declared.refusal.Refusal.{Refusal}
 use Rattle.lines.proofs.Tests.{all4, neither}
 use Rattle.lines.proofs.Numbered.{never}
 
@@ -72,11 +74,11 @@ plain_result Result.Buffer r s h = plain_value (λ v. true) r h
 plain_result Result.Status r s h = let z : ◌≡◌ {A = ℕ} 0 1 = cc in absurd (omega arith)
 plain_result Result.Nothing r s h = plain_zero r h
 
-return_meant : (t f : ℕ) (r : ℤ) (p : ℕ) → is_allowed (R t f r p) ≡ true → meant (event_of (says (R t f r p))) (padded []) ≡ says (R t f r p)
+return_meant : (t f : ℕ) (r : ℤ) (p : ℕ) → is_allowed (R t f r p) ≡ true → meant_in (event_in (R t f r p)) (padded []) ≡ says (R t f r p)
 return_meant t f r p h = go (gives_status f) refl
   where
     go : (s : Bool) → gives_status f ≡ s
-        → meant (if_true s then Event.Return t f 0 r p else Event.Return t f (above_zero r) (pos 0) p) (padded []) ≡ says (R t f r p)
+        → meant_in (if_true s then Event.Return t f 0 r p else Event.Return t f (above_zero r) (pos 0) p) (padded []) ≡ says (R t f r p)
     go true e = rw (e, h)
     go false e =
         let k = all4 (is_thread t) (is_function f) (result_allows (fact_of f).result r) (leb p 1) h in
@@ -101,7 +103,7 @@ meant_read (states (M x sort c static final)) h = rw h
 -- ---- reading what was written
 
 abbrev Same : Event → List ℕ → Line → Type 0
-Same ev hs e = (event_of (says e) ≡ ev) × (slots_of (says e) ≡ hs) × (is_allowed e ≡ true)
+Same ev hs e = (event_in e ≡ ev) × (slots_of (says e) ≡ hs) × (is_allowed e ≡ true)
 
 no_handles : (hs : List ℕ) → length hs ≡ most_handles → any not_zero hs ≡ false → padded [] ≡ hs
 no_handles hs l z = padded_take 0 hs l (omega arith) z
@@ -111,7 +113,7 @@ zero_is (pos n) h = ap pos (sym (eqb-true n 0 h))
 zero_is (negsuc n) h = let z : ◌≡◌ {A = ℕ} 0 1 = cc in absurd (omega arith)
 
 return_same : (t f r : ℕ) (s : ℤ) (p : ℕ) (hs : List ℕ) (e : Line) → length hs ≡ most_handles
-    → meant (Event.Return t f r s p) hs ≡ says e → Same (Event.Return t f r s p) hs e
+    → meant_in (Event.Return t f r s p) hs ≡ says e → Same (Event.Return t f r s p) hs e
 return_same t f r s p hs e l = go (gives_status f) refl (eqb r 0) refl (is_zero s) refl
   where
     go : (x : Bool) → gives_status f ≡ x → (y : Bool) → eqb r 0 ≡ y → (z : Bool) → is_zero s ≡ z
@@ -128,44 +130,47 @@ return_same t f r s p hs e l = go (gives_status f) refl (eqb r 0) refl (is_zero 
         (rw a (ap (λ (i : ℤ). Event.Return t f r i p) (zero_is s c)), no_handles hs l k.1, k.2)
     go false a y b false c h = absurd (never h)
 
-pub read_meant : (ev : Event) (hs : List ℕ) (e : Line) → length hs ≡ most_handles → meant ev hs ≡ says e
-    → (event_of (says e) ≡ ev) × (slots_of (says e) ≡ hs) × (is_allowed e ≡ true)
-read_meant (Event.Enter t env n) hs e l h =
+same_meant : (ev : Event) (hs : List ℕ) (e : Line) → length hs ≡ most_handles → meant_in ev hs ≡ says e → Same ev hs e
+same_meant (Event.Enter t env n) hs e l h =
     let k = with_slots_said n hs (N t env (take n hs)) e h in
     let a = length-take-le n hs (let m = k.0 in omega arith) in
     subst (Same (Event.Enter t env n) hs) k.3
     (ap (Event.Enter t env) a, padded_take n hs l k.0 k.1, k.2)
-read_meant (Event.Leave t r) hs e l h =
+same_meant (Event.Leave t r) hs e l h =
     let k = with_slots_said 0 hs (X t r) e h in
     subst (Same (Event.Leave t r) hs) k.3
     (refl, no_handles hs l k.1, k.2)
-read_meant (Event.Call t env f a b c n) hs e l h =
+same_meant (Event.Call t env f a b c n) hs e l h =
     let k = with_slots_said 0 hs (C t env f a b c n) e h in
     subst (Same (Event.Call t env f a b c n) hs) k.3
     (refl, no_handles hs l k.1, k.2)
-read_meant (Event.Return t f r s p) hs e l h = return_same t f r s p hs e l h
-read_meant (Event.Attach t env) hs e l h =
+same_meant (Event.Return t f r s p) hs e l h = return_same t f r s p hs e l h
+same_meant (Event.Attach t env) hs e l h =
     let k = with_slots_said 0 hs (A t env) e h in
     subst (Same (Event.Attach t env) hs) k.3
     (refl, no_handles hs l k.1, k.2)
-read_meant (Event.Detach t) hs e l h =
+same_meant (Event.Detach t) hs e l h =
     let k = with_slots_said 0 hs (D t) e h in
     subst (Same (Event.Detach t) hs) k.3
     (refl, no_handles hs l k.1, k.2)
-read_meant (Event.Declare c s) hs e l h =
+same_meant (Event.Declare c s) hs e l h =
     let k = with_slots_said 0 hs (states (K c s)) e h in
     subst (Same (Event.Declare c s) hs) k.3
     (refl, no_handles hs l k.1, k.2)
-read_meant (Event.State t v c) hs e l h =
+same_meant (Event.State t v c) hs e l h =
     let k = with_slots_said 0 hs (states (O t v c)) e h in
     subst (Same (Event.State t v c) hs) k.3
     (refl, no_handles hs l k.1, k.2)
-read_meant (Event.Identify x sort c static final) hs e l h =
+same_meant (Event.Identify x sort c static final) hs e l h =
     let k = with_slots_said 0 hs (states (M x sort c static final)) e h in
     subst (Same (Event.Identify x sort c static final) hs) k.3
     (refl, no_handles hs l k.1, k.2)
-read_meant Event.End hs e l h =
+same_meant Event.End hs e l h =
     let k = with_slots_said 0 hs Z e h in
     subst (Same Event.End hs) k.3
     (refl, no_handles hs l k.1, refl)
-read_meant (Event.Refused k) hs e l h = absurd (never h)
+
+pub read_meant : (r : Answer Event Refusal) (hs : List ℕ) (e : Line) → length hs ≡ most_handles → meant r hs ≡ says e
+    → (event_of (says e) ≡ r) × (slots_of (says e) ≡ hs) × (is_allowed e ≡ true)
+read_meant (Ok ev) hs e l h = let k = same_meant ev hs e l h in (ap Ok k.0, k.1, k.2)
+read_meant (Err k) hs e l h = absurd (never h)

@@ -8,9 +8,7 @@ use lib.IntN.{ℤ, pos, negsuc}
 use borrow.Author.Tests.{ne_eqb}
 use Rattle.words.specs.Choice.{if_true◌then◌else◌}
 use Rattle.facts.specs.declared.Result.{Result}
-use Rattle.numbers.specs.Signed.{signed, is_i32, as_int}
-use Rattle.numbers.specs.declared.Int.{Int}
-use Rattle.numbers.proofs.Bounds.{int_was, int_was_out}
+use Rattle.numbers.specs.Signed.{signed, is_i32}
 use Rattle.lines.specs.Line.{is_zero, capacity_allows, result_allows}
 use Rattle.lines.specs.Events.{is_status}
 
@@ -34,23 +32,7 @@ zero_i32 (pos zero) h = refl
 zero_i32 (pos (suc n)) h = absurd (false≢true (sym (ne_eqb (suc n) 0 (λ e. omega arith)) ∙ h))
 zero_i32 (negsuc n) h = absurd (false≢true h)
 
--- ---- what `numbers` answers of a sign and a size
-
-module _ (minus : Bool) (n : ℕ) {x : Int} (answer : x ≡ as_int (signed minus n)) where
-  pub value_i32 : {y : ℤ} → x ≡ Int.Value y → (signed minus n ≡ y) × (is_i32 (signed minus n) ≡ true)
-  value_i32 h = int_was (signed minus n) (sym answer ∙ h)
-
-  pub out_i32 : x ≡ Int.Out → is_i32 (signed minus n) ≡ false
-  out_i32 h = int_was_out (signed minus n) (sym answer ∙ h)
-
 -- ---- capacity
-
-module _ (f : ℕ) (minus : Bool) (n : ℕ) where
-  pub used_capacity : (eqb f 19 || eqb f 26) ≡ true → is_i32 (signed minus n) ≡ capacity_allows f (signed minus n)
-  used_capacity h = rw h
-
-  pub unused_capacity : (eqb f 19 || eqb f 26) ≡ false → eqb n 0 ≡ capacity_allows f (signed minus n)
-  unused_capacity h = rw h (zero_is minus n)
 
 pub capacity_i32 : (f : ℕ) (z : ℤ) → capacity_allows f z ≡ true → is_i32 z ≡ true
 capacity_i32 f z = go (eqb f 19 || eqb f 26)
@@ -75,9 +57,6 @@ module _ (minus : Bool) (n : ℕ) where
       go true (suc n) h Result.Identity = refl
       go true (suc n) h Result.Buffer = refl
       go true (suc n) h Result.Nothing = refl
-
-  pub other_result : (k : Result) → is_below minus n ≡ false → result_allows k (pos n) ≡ result_allows k (signed minus n)
-  other_result k h = rw (not_below minus n h)
 
 pub status_i32 : (k : Result) (z : ℤ) → is_status k ≡ true → result_allows k z ≡ true → is_i32 z ≡ true
 status_i32 Result.Status z s h = h

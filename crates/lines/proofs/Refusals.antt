@@ -2,7 +2,7 @@
 use mathlib.Core.Path.{◌≡◌, subst}
 use mathlib.Core.Bool.{Bool, true, false, not, ◌||◌}
 use mathlib.Core.List.{List, [], ◌∷◌}
-use mathlib.Core.Option.{Option, none, some}
+use Rattle.std.specs.Prelude.{Option, None, Some}
 use Prim.Native.Nat.{ℕ, suc, ◌-◌, ◌≤◌}
 use native.Mathlib.Omega.{arith}
 use lib.Dec.{eqb, ltb}
@@ -38,8 +38,8 @@ form_low f ns =
 
 numbers_low : (b : ℕ) (o : Option (List ℤ)) → Low (if_numbers b o)
 unfolding line_of
-numbers_low b none = two
-numbers_low b (some ns) = form_low (form_of b) ns
+numbers_low b None = two
+numbers_low b (Some ns) = form_low (form_of b) ns
 
 of_low : (ws : List (List ℕ)) → Low (of_fields ws)
 unfolding of_fields

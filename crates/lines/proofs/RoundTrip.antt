@@ -3,7 +3,7 @@ use mathlib.Core.Path.{◌≡◌, refl, ap, ap₂, sym, ◌∙◌}
 use mathlib.Core.Logic.{◌↔◌}
 use mathlib.Core.Bool.{Bool, true, false, not, ◌||◌}
 use mathlib.Core.List.{List, [], ◌∷◌, ◌++◌, map}
-use mathlib.Core.Option.{Option, none, some}
+use Rattle.std.specs.Prelude.{Option, None, Some}
 use Prim.Native.Nat.{ℕ, suc, ◌-◌, ◌<◌}
 use native.Mathlib.Omega.{arith}
 use lib.Dec.{eqb, ltb}
@@ -85,7 +85,7 @@ no_line_feed e = rest (letter_of e) (letter_plain e).1 (numbers_of e)
 
 -- ---- reading what was written
 
-pub numbers_shown : (ns : List ℤ) → numbers (map shown ns) ≡ some ns
+pub numbers_shown : (ns : List ℤ) → numbers (map shown ns) ≡ Some ns
 unfolding numbers
 numbers_shown [] = refl
 numbers_shown (n ∷ ns) = ap₂ and_number (written_is_read n) (numbers_shown ns)
@@ -114,16 +114,16 @@ read_written e h =
 -- ---- writing what was read
 
 -- all that was read as numbers is what is written of them
-pub shown_numbers : (ws : List (List ℕ)) (ns : List ℤ) → numbers ws ≡ some ns → ws ≡ map shown ns
+pub shown_numbers : (ws : List (List ℕ)) (ns : List ℤ) → numbers ws ≡ Some ns → ws ≡ map shown ns
 unfolding numbers
 shown_numbers [] ns h = let k : ns ≡ [] = cc in rw k
 shown_numbers (w ∷ ws) ns h = go (number w) refl (numbers ws) refl (shown_numbers ws) h
   where
     go : (a : Option ℤ) → number w ≡ a → (b : Option (List ℤ)) → numbers ws ≡ b
-        → ((ms : List ℤ) → numbers ws ≡ some ms → ws ≡ map shown ms) → and_number a b ≡ some ns → w ∷ ws ≡ map shown ns
-    go none p b q ih h = let z : ◌≡◌ {A = ℕ} 0 1 = cc in absurd (omega arith)
-    go (some n) p none q ih h = let z : ◌≡◌ {A = ℕ} 0 1 = cc in absurd (omega arith)
-    go (some n) p (some ms) q ih h =
+        → ((ms : List ℤ) → numbers ws ≡ Some ms → ws ≡ map shown ms) → and_number a b ≡ Some ns → w ∷ ws ≡ map shown ns
+    go None p b q ih h = let z : ◌≡◌ {A = ℕ} 0 1 = cc in absurd (omega arith)
+    go (Some n) p None q ih h = let z : ◌≡◌ {A = ℕ} 0 1 = cc in absurd (omega arith)
+    go (Some n) p (Some ms) q ih h =
         let k : ns ≡ n ∷ ms = cc in
         rw k (ap₂ (λ (x : List ℕ) (y : List (List ℕ)). x ∷ y) (sym (read_was_written w n p)) (ih ms q))
 
@@ -138,8 +138,8 @@ of_said ([] ∷ ws) e h = absurd (never h)
 of_said ((b ∷ []) ∷ ws) e h = go (numbers ws) refl h
   where
     go : (a : Option (List ℤ)) → numbers ws ≡ a → if_numbers b a ≡ says e → Said (b ∷ tails ws) e
-    go none p h = absurd (never h)
-    go (some ns) p h =
+    go None p h = absurd (never h)
+    go (Some ns) p h =
         let k = line_said b ns e h in
         record {
           content = ap₂ (λ (x : ℕ) (y : List ℤ). x ∷ tabbed y) k.letter k.numbers ∙ ap (λ (x : List ℕ). b ∷ x) (tabbed_tails ns ∙ ap tails (sym (shown_numbers ws ns p)));

@@ -1,5 +1,5 @@
 -- The handles that N names, slot by slot. Assumes nothing.
-use mathlib.Core.Path.{◌≡◌, ap, sym, ◌∙◌}
+use mathlib.Core.Path.{◌≡◌, refl, ap, sym, ◌∙◌}
 use mathlib.Core.List.{List, [], ◌∷◌, ◌++◌, append_assoc}
 use Prim.Native.Nat.{ℕ, suc, ◌+◌, ◌-◌, ◌≤◌, ◌<◌}
 use native.Mathlib.Omega.{arith}
@@ -9,7 +9,8 @@ use lib.Seq.{set_at, take-suc, take_all, get_or-take, get_or-drop, length-take-l
 use Rattle.lines.specs.Line.{most_handles}
 use Rattle.lines.specs.Forms.{most_fields}
 use Rattle.lines.specs.Events.{padded}
-use Rattle.lines.specs.Sizes.{named}
+use Rattle.lines.specs.Sizes.{named, slots_in}
+use Rattle.lines.specs.declared.Event.{Event}
 
 -- ---- how many
 
@@ -44,3 +45,17 @@ slot_put hs i {x} h few e =
 
 pub slots_put : (hs : List ℕ) (i : ℕ) → length hs ≤ i → padded (take i hs) ≡ padded hs
 slots_put hs i h = ap padded (take_all i hs h)
+
+-- ---- the slots beside an event that is not N
+
+pub not_enter : (e : Event) (n : ℕ) (vs : List ℕ) → ((t env k : ℕ) → e ≡ Event.Enter t env k → ⊥) → padded [] ≡ slots_in e n vs
+not_enter (Event.Enter t env k) n vs h = absurd (h t env k refl)
+not_enter (Event.Leave t r) n vs h = refl
+not_enter (Event.Call t env f a b c k) n vs h = refl
+not_enter (Event.Return t f r s p) n vs h = refl
+not_enter (Event.Attach t env) n vs h = refl
+not_enter (Event.Detach t) n vs h = refl
+not_enter (Event.Declare c s) n vs h = refl
+not_enter (Event.State t k c) n vs h = refl
+not_enter (Event.Identify x sort c static final) n vs h = refl
+not_enter Event.End n vs h = refl

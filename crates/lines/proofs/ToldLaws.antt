@@ -1,28 +1,29 @@
 -- Sizes and a sign as the numbers that are told to C, and a line's numbers among them. Assumes nothing.
-use mathlib.Core.Path.{◌≡◌, refl, ap, ap₂, sym, subst, ◌∙◌}
+use mathlib.Core.Path.{◌≡◌, refl, ap, ap₂, sym, ◌∙◌}
 use mathlib.Core.Bool.{Bool, true, false}
 use mathlib.Core.List.{List, [], ◌∷◌, ◌++◌, map, map-append}
 use mathlib.Core.Logic.{inl, inr}
 use Prim.Native.Nat.{ℕ, zero, suc, ◌+◌, ◌-◌, ◌≤◌, ◌<◌}
 use native.Mathlib.Omega.{arith}
 use lib.Dec.{eqb}
+use Rattle.std.specs.Prelude.{Result, Ok}
 use lib.IntN.{ℤ}
 use lib.ListN.{length, get_or, set, take, drop, replicate, take-append-drop}
 use lib.Seq.{length-take-le}
 use borrow.Author.Tests.{eq-eqb, ne_eqb}
 use Rattle.numbers.specs.Signed.{signed}
-use Rattle.lines.specs.Line.{Line, largest}
+use Rattle.lines.specs.Line.{K, O, M, Line, N, X, C, R, A, D, Z, states, largest}
 use Rattle.lines.specs.Forms.{most_fields, no_place, form_of, numbers_of}
 use Rattle.lines.specs.Reading.{Read, says}
-use Rattle.lines.specs.Events.{event_of}
-use Rattle.lines.specs.Apart.{as_told, numbers_told}
+use Rattle.lines.specs.Events.{event_in, event_of}
+use Rattle.lines.specs.Apart.{as_told, numbers_told, apart, apart_of, numbers_left}
 use Rattle.lines.specs.Sizes.{signed_at, minus_place, line_in, sizes_told}
-use Rattle.lines.specs.Gathered.{Headed, Tells}
+use Rattle.lines.specs.Gathered.{Headed}
 use Rattle.lines.specs.declared.Event.{Event}
-use Rattle.lines.specs.declared.apart.Apart.TheVariants as Apart
-use Rattle.lines.specs.declared.heads.Head.TheVariants as Head
+use Rattle.lines.specs.declared.heads.Head.{Head}
+use Rattle.lines.specs.declared.refusal.Refusal.{Refusal}
 use Rattle.lines.proofs.Signs.{Away, away, away_next}
-use Rattle.lines.proofs.Answered.{event_refused, IsLine, event_said}
+use Rattle.lines.proofs.Answered.{event_said}
 use Rattle.lines.proofs.GatheredLaws.{line_in_numbered}
 
 pub below : (size : ℕ) → (size ≡ 0 → ⊥) → largest - (size - 1) ≡ as_told (signed true size)
@@ -100,17 +101,34 @@ line_told b n minus vs e ten h none =
     ∙ map-append as_told (signed_at 0 k (take n vs)) (signed_at (0 + length (take n vs)) k rest)
     ∙ ap₂ (λ (us ws : List ℕ). us ++ ws) (ap (map as_told) (sym same)) (none_told (0 + length (take n vs)) k (most_fields - length (numbers_of e)))
 
+-- N has two numbers at least
+enters_two : (e : Line) {t env k : ℕ} → event_in e ≡ Event.Enter t env k → 2 ≤ length (numbers_of e)
+enters_two (N t env hs) h = omega arith
+enters_two (X t r) h = omega arith
+enters_two (C t env f a b c n) h = omega arith
+enters_two (R t f r p) h = omega arith
+enters_two (A t env) h = omega arith
+enters_two (D t) h = let z : ◌≡◌ {A = ℕ} 0 1 = cc in absurd (omega arith)
+enters_two Z h = let z : ◌≡◌ {A = ℕ} 0 1 = cc in absurd (omega arith)
+enters_two (states (K c s)) h = omega arith
+enters_two (states (O t v c)) h = omega arith
+enters_two (states (M x sort c static final)) h = omega arith
+
+pub enter_few : (b n : ℕ) (minus : Bool) (vs : List ℕ) {t env k : ℕ} → length vs ≡ most_fields → event_of (line_in b n minus vs) ≡ Ok (Event.Enter t env k) → (2 ≤ n) × (n ≤ most_fields)
+enter_few b n minus vs {t} {env} {k} ten h =
+    let s = event_said (line_in b n minus vs) (Event.Enter t env k) h in
+    let c = counted b n minus vs s.0 ten s.1 in
+    let two = enters_two s.0 s.2 in
+    (omega arith, (line_in_numbered b n minus vs s.0 s.1).0)
+
 -- ---- what is told of what was read
 
-module _ (b n : ℕ) (minus : Bool) (vs ws : List ℕ) {e : Event} (told : e ≡ event_of (line_in b n minus vs)) where
-  pub apart_refused : {k : ℕ} → e ≡ Event.Refused k → (x : Read) → Headed x (Head.Numbers b n minus) vs → Tells x ws (Apart.Refused k) ws
-  apart_refused {k} h x r = rw (sym r.read ∙ event_refused (line_in b n minus vs) k (sym told ∙ h)) (refl, refl)
-
-  module _ (ten : length vs ≡ most_fields) (tag : IsLine e) where
-    pub apart_line : {left : List ℕ} → left ≡ sizes_told b minus vs → (x : Read) → Headed x (Head.Numbers b n minus) vs → Tells x ws (Apart.Line b n) left
-    apart_line w x r =
-        let s = event_said (line_in b n minus vs) (subst IsLine told tag) in
-        let l = s.0 in
-        let k = line_in_numbered b n minus vs l s.1 in
-        let q : x ≡ says l = sym r.read ∙ s.1 in
-        rw q (sym (ap₂ Apart.Line k.1.letter (counted b n minus vs l ten s.1)), w ∙ line_told b n minus vs l ten s.1 (r.rest l q))
+module _ (b n : ℕ) (minus : Bool) (vs : List ℕ) (ten : length vs ≡ most_fields) {e : Event} (told : event_of (line_in b n minus vs) ≡ Ok e) where
+  pub apart_line : {x : Read} {r : Result Head Refusal} {left : List ℕ} (ws : List ℕ) → Headed x r vs → line_in b n minus vs ≡ x → left ≡ sizes_told b minus vs
+      → (Ok (apart b n) ≡ apart_of x) × (left ≡ numbers_left x ws)
+  apart_line {x} ws r same w =
+      let s = event_said (line_in b n minus vs) e told in
+      let l = s.0 in
+      let k = line_in_numbered b n minus vs l s.1 in
+      let q : x ≡ says l = sym same ∙ s.1 in
+      rw q (sym (ap₂ (λ (c : ℕ) (m : ℕ). Ok (apart c m)) k.1.letter (counted b n minus vs l ten s.1)), w ∙ line_told b n minus vs l ten s.1 (r.rest l q))

@@ -6,6 +6,7 @@ use Prim.Native.Char.{code}
 use Prim.Native.String.{String}
 use lib.IntN.{pos, negsuc}
 use lib.ListN.{length, replicate}
+use Rattle.std.specs.Prelude.{Result, Ok, Err}
 use Rattle.words.specs.Text.{bytes, with_tabs}
 use Rattle.numbers.specs.Decimal.{read_on, digits, digits_in}
 use Rattle.facts.specs.Table.{table, fact_of}
@@ -13,9 +14,9 @@ use Rattle.lines.specs.Line.{K, O, M, N, X, C, R, A, D, Z, states}
 use Rattle.lines.specs.Forms.{of_letter}
 use Rattle.lines.specs.Reading.{Read, says, refused, fields, numbers, line_of, of_fields, read}
 use Rattle.lines.specs.Writing.{tabbed, written}
-use Rattle.lines.specs.Apart.{apart_of, numbers_left}
+use Rattle.lines.specs.Apart.{apart, apart_of, numbers_left}
 use Rattle.lines.specs.declared.apart.Apart.{Apart}
-use Rattle.lines.specs.declared.apart.Apart.TheVariants.{Line, Refused}
+use Rattle.lines.specs.declared.refusal.Refusal.{Refusal}
 
 -- a line with its tabs shown as spaces, and what it says
 pub record Worked : Type 0 where
@@ -219,31 +220,31 @@ written_lines = (refl, refl, refl, refl, refl, refl, refl, refl, refl, refl)
 -- a line with its tabs shown as spaces, its letter and how many numbers it has, and ten slots that each held 7
 pub record Told : Type 0 where
   pub line : String
-  pub answer : Apart
+  pub answer : Result Apart Refusal
   pub slots : List ℕ
 
 infix 80 ◌tells◌and◌
-abbrev pub ◌tells◌and◌ : String → Apart → List ℕ → Told
+abbrev pub ◌tells◌and◌ : String → Result Apart Refusal → List ℕ → Told
 s tells a and ws = record { line = s; answer = a; slots = ws }
 
 abbrev pub told : List Told
 told =
-    "N 1 100 5 9\n" tells Line (code "N") 4 and (1 ∷ 100 ∷ 5 ∷ 9 ∷ 0 ∷ 0 ∷ 0 ∷ 0 ∷ 0 ∷ 0 ∷ [])
-    ∷ "N 1 100 1 5 9 13 17 21 25 29\n" tells Line (code "N") 10 and (1 ∷ 100 ∷ 1 ∷ 5 ∷ 9 ∷ 13 ∷ 17 ∷ 21 ∷ 25 ∷ 29 ∷ [])
-    ∷ "X 16 18446744073709551615\n" tells Line (code "X") 2 and (16 ∷ 18446744073709551615 ∷ 0 ∷ 0 ∷ 0 ∷ 0 ∷ 0 ∷ 0 ∷ 0 ∷ 0 ∷ [])
-    ∷ "C 1 100 19 0 0 0 -5\n" tells Line (code "C") 7 and (1 ∷ 100 ∷ 19 ∷ 0 ∷ 0 ∷ 0 ∷ 18446744073709551611 ∷ 0 ∷ 0 ∷ 0 ∷ [])
-    ∷ "R 1 26 -1 1\n" tells Line (code "R") 4 and (1 ∷ 26 ∷ 18446744073709551615 ∷ 1 ∷ 0 ∷ 0 ∷ 0 ∷ 0 ∷ 0 ∷ 0 ∷ [])
-    ∷ "R 1 19 -2147483648 0\n" tells Line (code "R") 4 and (1 ∷ 19 ∷ 18446744071562067968 ∷ 0 ∷ 0 ∷ 0 ∷ 0 ∷ 0 ∷ 0 ∷ 0 ∷ [])
-    ∷ "R 1 169 18446744073709551615 0\n" tells Line (code "R") 4 and (1 ∷ 169 ∷ 18446744073709551615 ∷ 0 ∷ 0 ∷ 0 ∷ 0 ∷ 0 ∷ 0 ∷ 0 ∷ [])
-    ∷ "A 16 18446744073709551615\n" tells Line (code "A") 2 and (16 ∷ 18446744073709551615 ∷ 0 ∷ 0 ∷ 0 ∷ 0 ∷ 0 ∷ 0 ∷ 0 ∷ 0 ∷ [])
-    ∷ "D 16\n" tells Line (code "D") 1 and (16 ∷ 0 ∷ 0 ∷ 0 ∷ 0 ∷ 0 ∷ 0 ∷ 0 ∷ 0 ∷ 0 ∷ [])
-    ∷ "K 5 1\n" tells Line (code "K") 2 and (5 ∷ 1 ∷ 0 ∷ 0 ∷ 0 ∷ 0 ∷ 0 ∷ 0 ∷ 0 ∷ 0 ∷ [])
-    ∷ "O 16 18446744073709551615 4095\n" tells Line (code "O") 3 and (16 ∷ 18446744073709551615 ∷ 4095 ∷ 0 ∷ 0 ∷ 0 ∷ 0 ∷ 0 ∷ 0 ∷ 0 ∷ [])
-    ∷ "M 18446744073709551612 2 4095 0 1\n" tells Line (code "M") 5 and (18446744073709551612 ∷ 2 ∷ 4095 ∷ 0 ∷ 1 ∷ 0 ∷ 0 ∷ 0 ∷ 0 ∷ 0 ∷ [])
-    ∷ "Z\n" tells Line (code "Z") 0 and replicate 10 0
-    ∷ "N 1 100 1 5 9 13 17 21 25 29 33\n" tells Refused 2 and replicate 10 7
-    ∷ "X 17 5\n" tells Refused 3 and replicate 10 7
-    ∷ "X 1 5" tells Refused 1 and replicate 10 7
+    "N 1 100 5 9\n" tells Ok (apart (code "N") 4) and (1 ∷ 100 ∷ 5 ∷ 9 ∷ 0 ∷ 0 ∷ 0 ∷ 0 ∷ 0 ∷ 0 ∷ [])
+    ∷ "N 1 100 1 5 9 13 17 21 25 29\n" tells Ok (apart (code "N") 10) and (1 ∷ 100 ∷ 1 ∷ 5 ∷ 9 ∷ 13 ∷ 17 ∷ 21 ∷ 25 ∷ 29 ∷ [])
+    ∷ "X 16 18446744073709551615\n" tells Ok (apart (code "X") 2) and (16 ∷ 18446744073709551615 ∷ 0 ∷ 0 ∷ 0 ∷ 0 ∷ 0 ∷ 0 ∷ 0 ∷ 0 ∷ [])
+    ∷ "C 1 100 19 0 0 0 -5\n" tells Ok (apart (code "C") 7) and (1 ∷ 100 ∷ 19 ∷ 0 ∷ 0 ∷ 0 ∷ 18446744073709551611 ∷ 0 ∷ 0 ∷ 0 ∷ [])
+    ∷ "R 1 26 -1 1\n" tells Ok (apart (code "R") 4) and (1 ∷ 26 ∷ 18446744073709551615 ∷ 1 ∷ 0 ∷ 0 ∷ 0 ∷ 0 ∷ 0 ∷ 0 ∷ [])
+    ∷ "R 1 19 -2147483648 0\n" tells Ok (apart (code "R") 4) and (1 ∷ 19 ∷ 18446744071562067968 ∷ 0 ∷ 0 ∷ 0 ∷ 0 ∷ 0 ∷ 0 ∷ 0 ∷ [])
+    ∷ "R 1 169 18446744073709551615 0\n" tells Ok (apart (code "R") 4) and (1 ∷ 169 ∷ 18446744073709551615 ∷ 0 ∷ 0 ∷ 0 ∷ 0 ∷ 0 ∷ 0 ∷ 0 ∷ [])
+    ∷ "A 16 18446744073709551615\n" tells Ok (apart (code "A") 2) and (16 ∷ 18446744073709551615 ∷ 0 ∷ 0 ∷ 0 ∷ 0 ∷ 0 ∷ 0 ∷ 0 ∷ 0 ∷ [])
+    ∷ "D 16\n" tells Ok (apart (code "D") 1) and (16 ∷ 0 ∷ 0 ∷ 0 ∷ 0 ∷ 0 ∷ 0 ∷ 0 ∷ 0 ∷ 0 ∷ [])
+    ∷ "K 5 1\n" tells Ok (apart (code "K") 2) and (5 ∷ 1 ∷ 0 ∷ 0 ∷ 0 ∷ 0 ∷ 0 ∷ 0 ∷ 0 ∷ 0 ∷ [])
+    ∷ "O 16 18446744073709551615 4095\n" tells Ok (apart (code "O") 3) and (16 ∷ 18446744073709551615 ∷ 4095 ∷ 0 ∷ 0 ∷ 0 ∷ 0 ∷ 0 ∷ 0 ∷ 0 ∷ [])
+    ∷ "M 18446744073709551612 2 4095 0 1\n" tells Ok (apart (code "M") 5) and (18446744073709551612 ∷ 2 ∷ 4095 ∷ 0 ∷ 1 ∷ 0 ∷ 0 ∷ 0 ∷ 0 ∷ 0 ∷ [])
+    ∷ "Z\n" tells Ok (apart (code "Z") 0) and replicate 10 0
+    ∷ "N 1 100 1 5 9 13 17 21 25 29 33\n" tells Err Refusal.Form and replicate 10 7
+    ∷ "X 17 5\n" tells Err Refusal.Range and replicate 10 7
+    ∷ "X 1 5" tells Err Refusal.Length and replicate 10 7
     ∷ []
 
 abbrev tell : String → Told

@@ -1,5 +1,5 @@
 -- The reader's own bookkeeping: numbers as the code gathers them, and the line that they are; the law `made_numbers` (proofs/GatheredLaws.antt) ties it to Reading.antt. Assumes nothing.
-use Rattle.std.specs.Prelude.{ℕ, suc, ◌+◌, ◌-◌, ◌≡◌, Bool, true, false, not, ◌&&◌, ◌||◌, List, [], ◌∷◌, eqb, leb, ltb, length, get_or, set, drop, replicate}
+use Rattle.std.specs.Prelude.{ℕ, suc, ◌+◌, ◌-◌, ◌≡◌, Bool, true, false, not, ◌&&◌, ◌||◌, List, [], ◌∷◌, eqb, leb, ltb, length, get_or, set, drop, replicate, Result, Ok, Err}
 use Rattle.words.specs.Choice.{if_true◌then◌else◌}
 use Rattle.words.specs.Text.{tab}
 use Rattle.numbers.specs.Decimal.{number}
@@ -8,9 +8,9 @@ use Rattle.numbers.specs.declared.Field.{Field}
 use Rattle.lines.specs.Line.{Line, largest}
 use Rattle.lines.specs.Forms.{most_fields, numbers_of}
 use Rattle.lines.specs.Reading.{Read, says, refused, fields}
-use Rattle.lines.specs.Apart.{apart_of, numbers_left}
 use Rattle.lines.specs.Sizes.{right_count, line_in}
-use Rattle.lines.specs.declared.apart.Apart.{Apart}
+use Rattle.lines.specs.Numbered.{number_of}
+use Rattle.lines.specs.declared.refusal.Refusal.{Refusal}
 use Rattle.lines.specs.declared.heads.Tally.{Tally}
 use Rattle.lines.specs.declared.heads.Head.{Head}
 
@@ -68,15 +68,11 @@ nothing_yet = tally 0 false false
 unfoldable pub made : ℕ → Tally → List ℕ → Read
 made letter t vs = if_true t.out && right_count letter t.count then refused 3 else line_in letter t.count t.minus vs
 
-abbrev pub said : Head → List ℕ → Read
-said (Head.Numbers letter n minus) vs = line_in letter n minus vs
-said (Head.Refused k) vs = refused k
+abbrev pub said : Result Head Refusal → List ℕ → Read
+said (Ok h) vs = line_in h.letter h.count h.minus vs
+said (Err k) vs = refused (number_of k)
 
 -- what is read of a line: what it says, and that no size stands past those of a line's numbers
-pub record Headed (x : Read) (h : Head) (vs : List ℕ) : Type 0 where
+pub record Headed (x : Read) (h : Result Head Refusal) (vs : List ℕ) : Type 0 where
   pub read : said h vs ≡ x
   pub rest : (e : Line) → x ≡ says e → drop (length (numbers_of e)) vs ≡ replicate (most_fields - length (numbers_of e)) 0
-
--- the answer r and the slots that are left, of those that there were, where x is what was read
-abbrev pub Tells : Read → List ℕ → Apart → List ℕ → Type 0
-Tells x ws r left = (r ≡ apart_of x) × (left ≡ numbers_left x ws)

@@ -1,6 +1,5 @@
 -- What the bytes of a line say, or why they say nothing. Assumes nothing.
-use Rattle.std.specs.Prelude.{ℕ, suc, ◌-◌, not, ◌||◌, List, [], ◌∷◌, ◌++◌, eqb, ltb, ℤ, length, get_or, take, drop}
-use Rattle.std.proofs.Math.Option.{Option, none, some}
+use Rattle.std.specs.Prelude.{ℕ, suc, ◌-◌, not, ◌||◌, List, [], ◌∷◌, ◌++◌, eqb, ltb, ℤ, length, get_or, take, drop, Option, None, Some}
 use Rattle.words.specs.Choice.{if_true◌then◌else◌, within}
 use Rattle.words.specs.Lists.{any}
 use Rattle.words.specs.Text.{tab, line_feed}
@@ -26,12 +25,12 @@ fields (b ∷ bs) = if_true eqb b tab then [] ∷ fields bs else onto_first b (f
 
 -- all the fields as numbers, if each is one
 abbrev pub and_number : Option ℤ → Option (List ℤ) → Option (List ℤ)
-and_number none ns = none
-and_number (some n) none = none
-and_number (some n) (some ns) = some (n ∷ ns)
+and_number None ns = None
+and_number (Some n) None = None
+and_number (Some n) (Some ns) = Some (n ∷ ns)
 
 unfoldable pub numbers : List (List ℕ) → Option (List ℤ)
-numbers [] = some []
+numbers [] = Some []
 numbers (w ∷ ws) = and_number (number w) (numbers ws)
 
 -- ---- the line that a letter and numbers are
@@ -55,8 +54,8 @@ unfoldable pub line_of : ℕ → List ℤ → Read
 line_of letter ns = in_form (form_of letter) ns
 
 abbrev pub if_numbers : ℕ → Option (List ℤ) → Read
-if_numbers letter none = refused 2
-if_numbers letter (some ns) = line_of letter ns
+if_numbers letter None = refused 2
+if_numbers letter (Some ns) = line_of letter ns
 
 -- the first field is a letter, the others are numbers
 unfoldable pub of_fields : List (List ℕ) → Read

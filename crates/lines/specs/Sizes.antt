@@ -48,7 +48,6 @@ slots_in (Event.Declare c s) n vs = padded []
 slots_in (Event.State t h c) n vs = padded []
 slots_in (Event.Identify x sort c static final) n vs = padded []
 slots_in Event.End n vs = padded []
-slots_in (Event.Refused k) n vs = padded []
 
 -- sizes as they are told to C, all of them
 abbrev pub sizes_told : ℕ → Bool → List ℕ → List ℕ

@@ -1,9 +1,10 @@
-// The forms of lines: how many numbers a letter has, and the event that they are, or the number given instead.
+// The forms of lines: how many numbers a letter has, and the event that they are, or why they are none.
 ghost use Rattle.std.specs.Prelude.{◌≡◌, true, get_or};
 ghost use Rattle.words.specs.Choice.{within};
 ghost use Rattle.numbers.specs.Signed.{signed};
 
-use crate::{Event, FORM, MOST_FIELDS, RANGE, ranges};
+use crate::refusal::Refusal;
+use crate::{Event, MOST_FIELDS, ranges};
 use words::Handle;
 // `A` and `M` are taken in a contract.
 ghost use Rattle.lines.specs.Line.{K, O, M as line_M, N, X, C, R, A as line_A, D, states};
@@ -20,7 +21,7 @@ pub struct Counts {
     pub signed: usize,
 }
 
-// None of the numbers may be below zero.
+// None of the numbers may be below zero. An Option is no plainer: a place past the last is compared as any other, and specs/Forms.antt has it so.
 pub const NO_PLACE: usize = MOST_FIELDS;
 
 pub fn counts_of(letter: u8) -> Counts
@@ -93,30 +94,30 @@ pub(crate) fn right_count(letter: u8, n: usize) -> bool
     (c.least <= n) & (n <= c.most)
 }
 
-fn enter(v: [Handle; 10], n: usize) -> Event
+fn enter(v: [Handle; 10], n: usize) -> Result<Event, Refusal>
     requires { within 2 10 n ≡ true }
     ensures { result ≡ event_of (if_allowed (N (get_or v 0 0) (get_or v 1 0) (named n v))) }
 {
     if !ranges::enter_allows(v[0], v[1], v, n) {
-        return Event::Refused(RANGE);
+        return Err(Refusal::Range);
     }
-    Event::Enter {
+    Ok(Event::Enter {
         thread: v[0] as u32,
         env: v[1],
         count: (n - 2) as u32,
-    }
+    })
 }
 
-fn leave(thread: Handle, res: Handle) -> Event
+fn leave(thread: Handle, res: Handle) -> Result<Event, Refusal>
     ensures { result ≡ event_of (if_allowed (X thread res)) }
 {
     if !ranges::leave_allows(thread, res) {
-        return Event::Refused(RANGE);
+        return Err(Refusal::Range);
     }
-    Event::Leave {
+    Ok(Event::Leave {
         thread: thread as u32,
         result: res,
-    }
+    })
 }
 
 fn call(
@@ -128,17 +129,17 @@ fn call(
     c: Handle,
     minus: bool,
     n: Handle,
-) -> Event
+) -> Result<Event, Refusal>
     ensures { result ≡ event_of (if_allowed (C thread env function a b c (signed minus n))) }
 {
     if !ranges::is_function(function) {
-        return Event::Refused(RANGE);
+        return Err(Refusal::Range);
     }
     let f = function as u32;
     if !ranges::call_allows(thread, env, f, a, b, c, minus, n) {
-        return Event::Refused(RANGE);
+        return Err(Refusal::Range);
     }
-    Event::Call {
+    Ok(Event::Call {
         thread: thread as u32,
         env: env,
         function: f,
@@ -146,84 +147,90 @@ fn call(
         b: b,
         c: c,
         n: ranges::int_of(minus, n),
-    }
+    })
 }
 
-fn returns(thread: Handle, function: Handle, minus: bool, res: Handle, pending: Handle) -> Event
+fn returns(
+    thread: Handle,
+    function: Handle,
+    minus: bool,
+    res: Handle,
+    pending: Handle,
+) -> Result<Event, Refusal>
     ensures { result ≡ event_of (if_allowed (R thread function (signed minus res) pending)) }
 {
     if !ranges::is_function(function) {
-        return Event::Refused(RANGE);
+        return Err(Refusal::Range);
     }
     let f = function as u32;
     let k = facts::result_of(f);
     if !ranges::return_allows(thread, f, k, minus, res, pending) {
-        return Event::Refused(RANGE);
+        return Err(Refusal::Range);
     }
     if ranges::is_status(k) {
-        return Event::Return {
+        return Ok(Event::Return {
             thread: thread as u32,
             function: f,
             result: 0,
             status: ranges::int_of(minus, res),
             pending: pending as u32,
-        };
+        });
     }
-    Event::Return {
+    Ok(Event::Return {
         thread: thread as u32,
         function: f,
         result: res,
         status: 0,
         pending: pending as u32,
-    }
+    })
 }
 
-fn attach(thread: Handle, env: Handle) -> Event
+fn attach(thread: Handle, env: Handle) -> Result<Event, Refusal>
     ensures { result ≡ event_of (if_allowed (line_A thread env)) }
 {
     if !ranges::attach_allows(thread, env) {
-        return Event::Refused(RANGE);
+        return Err(Refusal::Range);
     }
-    Event::Attach {
+    Ok(Event::Attach {
         thread: thread as u32,
         env: env,
-    }
+    })
 }
 
-fn detach(thread: Handle) -> Event
+fn detach(thread: Handle) -> Result<Event, Refusal>
     ensures { result ≡ event_of (if_allowed (D thread)) }
 {
     if !ranges::detach_allows(thread) {
-        return Event::Refused(RANGE);
+        return Err(Refusal::Range);
     }
-    Event::Detach {
+    Ok(Event::Detach {
         thread: thread as u32,
-    }
+    })
 }
 
-fn declare(class: Handle, superclass: Handle) -> Event
+fn declare(class: Handle, superclass: Handle) -> Result<Event, Refusal>
     ensures { result ≡ event_of (if_allowed (states (K class superclass))) }
 {
     if !ranges::declare_allows(class, superclass) {
-        return Event::Refused(RANGE);
+        return Err(Refusal::Range);
     }
-    Event::Declare {
+    Ok(Event::Declare {
         class: class as u32,
         superclass: superclass as u32,
-    }
+    })
 }
 
-fn state(thread: Handle, handle: Handle, class: Handle) -> Event
+fn state(thread: Handle, handle: Handle, class: Handle) -> Result<Event, Refusal>
     ensures { result ≡ event_of (if_allowed (states (O thread handle class))) }
 {
     if !ranges::state_allows(thread, handle, class) {
-        return Event::Refused(RANGE);
+        return Err(Refusal::Range);
     }
-    Event::State {
+    Ok(Event::State {
         thread: thread as u32,
         handle: handle,
         class: class as u32,
-    }
+    })
 }
 
 fn identify(
@@ -232,27 +239,27 @@ fn identify(
     class: Handle,
     isstatic: Handle,
     isfinal: Handle,
-) -> Event
+) -> Result<Event, Refusal>
     ensures { result ≡ event_of (if_allowed (states (line_M identity sort class isstatic isfinal))) }
 {
     if !ranges::identify_allows(identity, sort, class, isstatic, isfinal) {
-        return Event::Refused(RANGE);
+        return Err(Refusal::Range);
     }
-    Event::Identify {
+    Ok(Event::Identify {
         identity: identity,
         sort: sort as u32,
         class: class as u32,
         isstatic: isstatic as u32,
         isfinal: isfinal as u32,
-    }
+    })
 }
 
 // The event of a letter and n numbers: their sizes, and whether the one that may be below zero is.
-pub fn event_of(letter: u8, n: usize, minus: bool, v: [Handle; 10]) -> Event
+pub fn event_of(letter: u8, n: usize, minus: bool, v: [Handle; 10]) -> Result<Event, Refusal>
     ensures { result ≡ event_of (line_in letter n minus v) }
 {
     if !right_count(letter, n) {
-        return Event::Refused(FORM);
+        return Err(Refusal::Form);
     }
     match letter {
         b'N' => enter(v, n),
@@ -264,6 +271,6 @@ pub fn event_of(letter: u8, n: usize, minus: bool, v: [Handle; 10]) -> Event
         b'K' => declare(v[0], v[1]),
         b'O' => state(v[0], v[1], v[2]),
         b'M' => identify(v[0], v[1], v[2], v[3], v[4]),
-        _ => Event::End,
+        _ => Ok(Event::End),
     }
 }

@@ -8,7 +8,6 @@ use facts::functions::{ENSURE_LOCAL_CAPACITY, PUSH_LOCAL_FRAME};
 use facts::handles::{GLOBAL, IDENTITY, KINDS, LOCAL, WEAK};
 use facts::identities::{FIELD, METHOD};
 use facts::{Place, Result};
-use numbers::Int;
 use words::{Handle, LARGEST};
 // `A` and `M` are taken in a contract.
 ghost use Rattle.lines.specs.Line.{K, O, M as line_M, N, X, C, R, A as line_A, D, states, is_allowed, is_thread, is_env, is_class, is_identity, is_sort, is_argument, is_made, value_allows, place_allows, capacity_allows, result_allows};
@@ -27,15 +26,7 @@ const LAST_FUNCTION: Handle = 232;
 pub(crate) fn is_status(k: Result) -> bool
     ensures { result ≡ is_status k }
 {
-    match k {
-        Result::Status => true,
-        Result::Local => false,
-        Result::Global => false,
-        Result::Weak => false,
-        Result::Identity => false,
-        Result::Buffer => false,
-        Result::Nothing => false,
-    }
+    matches!(k, Result::Status)
 }
 
 pub fn gives_status(f: u32) -> bool
@@ -91,13 +82,7 @@ fn place_allows(p: Place, v: Handle) -> bool
 {
     match p {
         Place::Unused => v == 0,
-        Place::Handle => v <= LARGEST,
-        Place::HandleOrNull => v <= LARGEST,
-        Place::LocalOrNull => v <= LARGEST,
-        Place::GlobalOrNull => v <= LARGEST,
-        Place::WeakOrNull => v <= LARGEST,
-        Place::Identity => v <= LARGEST,
-        Place::Buffer => v <= LARGEST,
+        _ => v <= LARGEST,
     }
 }
 
@@ -105,20 +90,14 @@ fn place_allows(p: Place, v: Handle) -> bool
 fn is_i32(minus: bool, size: Handle) -> bool
     ensures { result ≡ is_i32 (signed minus size) }
 {
-    match numbers::int_of(minus, size) {
-        Int::Value(_) => true,
-        Int::Out => false,
-    }
+    numbers::int_of(minus, size).is_some()
 }
 
 pub(crate) fn int_of(minus: bool, size: Handle) -> i32
     requires { is_i32 (signed minus size) ≡ true }
     ensures { result ≡ signed minus size }
 {
-    match numbers::int_of(minus, size) {
-        Int::Value(n) => n,
-        Int::Out => 0,
-    }
+    numbers::int_of(minus, size).unwrap()
 }
 
 fn capacity_allows(f: u32, minus: bool, size: Handle) -> bool
@@ -161,16 +140,14 @@ fn result_allows(k: Result, minus: bool, size: Handle) -> bool
     value_allows(k, size)
 }
 
-// The handles that N names, after thread and env.
+// The handles that N names, after thread and env. By their places: a slice of them takes the array a place on the stack, for which the functions for C have a bound.
 fn are_arguments(v: [Handle; 10], n: usize) -> bool
     requires { n ≤ 10 }
     ensures { result ≡ not (any (λ x. not (is_argument x)) (named n v)) }
 {
     let mut ok = true;
-    let mut i = 2;
-    while i < n {
-        ok = ok & is_argument(v[i]);
-        i += 1;
+    for i in 2..n {
+        ok &= is_argument(v[i]);
     }
     ok
 }

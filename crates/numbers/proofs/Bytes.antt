@@ -2,7 +2,7 @@
 use mathlib.Core.Path.{◌≡◌, refl, ap, sym, ◌∙◌}
 use mathlib.Core.Bool.{Bool, true, false, ◌||◌, false≢true}
 use mathlib.Core.List.{List, [], ◌∷◌, ◌++◌}
-use mathlib.Core.Option.{some}
+use Rattle.std.specs.Prelude.{Some}
 use Prim.Native.Nat.{ℕ, suc, zero, ◌+◌, ◌/◌, ◌%◌, ◌≤◌, ◌<◌}
 use native.Mathlib.Omega.{arith}
 use native.Mathlib.Decide.{dec_lt}
@@ -51,7 +51,7 @@ module _ {x : ℕ} (parts : Parts x) where
   not_in_shown (pos n) = digits_other n n (omega arith)
   not_in_shown (negsuc n) = rw parts.no_minus (digits_other (suc n) (suc n) (omega arith))
 
-  pub not_in_number : (s : List ℕ) (z : ℤ) → number s ≡ some z → has x s ≡ false
+  pub not_in_number : (s : List ℕ) (z : ℤ) → number s ≡ Some z → has x s ≡ false
   not_in_number s z e = ap (has x) (sym (read_was_written s z e)) ∙ not_in_shown z
 
 -- ---- the bytes before the first x

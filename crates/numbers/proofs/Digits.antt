@@ -5,6 +5,7 @@ use Prim.Native.Nat.{ℕ, suc, zero, ◌+◌, ◌*◌, ◌/◌, ◌%◌, ◌^◌
 use native.Mathlib.Omega.{arith}
 use native.Mathlib.Decide.{dec_lt}
 use native.Mathlib.Nat.{pow-succ'}
+use Rattle.std.proofs.Math.Nat.{one-le-pow}
 use lib.ListN.{length, length-append}
 use borrow.Author.Tests.{lt-ltb, le-ltb}
 use Rattle.numbers.specs.Decimal.{zero_digit, digits_in, digits}
@@ -80,3 +81,13 @@ length_some n = go (dec_lt n 10)
     go : Dec (n < 10) → 1 ≤ length (digits n)
     go (yes l) = let e = length_one n l in omega arith
     go (no l) = let e : length (digits n) ≡ length (digits (n / 10)) + 1 = length_step n (omega arith) in omega arith
+
+-- and from there on there are more than k
+pub length_above : (k n : ℕ) → 10 ^ k ≤ n → suc k ≤ length (digits n)
+length_above zero n h = length_some n
+length_above (suc k) n h =
+    let p : 10 ^ suc k ≡ 10 * 10 ^ k = pow-succ' 10 k in
+    let o : 1 ≤ 10 ^ k = one-le-pow k 10 (omega arith) in
+    let r = length_above k (n / 10) (omega arith) in
+    let e : length (digits n) ≡ length (digits (n / 10)) + 1 = length_step n (omega arith) in
+    omega arith

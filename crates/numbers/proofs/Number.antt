@@ -2,34 +2,35 @@
 use mathlib.Core.Path.{◌≡◌, refl, ap, ap₂, sym, ◌∙◌}
 use mathlib.Core.Bool.{Bool, true, false, not, ◌&&◌, false≢true}
 use mathlib.Core.List.{List, [], ◌∷◌}
-use mathlib.Core.Option.{Option, none, some}
+use Rattle.std.specs.Prelude.{Option, None, Some}
 use Prim.Native.Nat.{ℕ, zero, suc, ◌+◌, ◌-◌, ◌≤◌, ◌<◌}
 use native.Mathlib.Omega.{arith}
+use native.Mathlib.Decide.{dec_lt}
 use lib.Dec.{leb, ltb, eqb}
 use lib.ListN.{length, get_or}
-use borrow.Author.Tests.{le-leb, eqb-true, eqb-false, lt-ltb, ne_eqb}
+use borrow.Author.Tests.{le-leb, lt-leb, eqb-true, eqb-false, lt-ltb, ne_eqb}
 use Rattle.words.specs.Choice.{if_true◌then◌else◌}
 use Rattle.numbers.specs.Decimal.{zero_digit, minus_sign, read_on, decimal, not_negative, negative, number}
-use Rattle.numbers.specs.Reading.{bounded, field_at, found, found_decimal, found_on, starts_minus, negated}
+use Rattle.numbers.specs.Reading.{bounded, field_at, found, found_decimal, found_on, tested, starts_minus, negated}
 use Rattle.numbers.specs.declared.Field.{Field}
 use Rattle.numbers.specs.declared.Field.TheVariants.{Plus, Minus, Out, Bad}
 use Rattle.numbers.specs.declared.Found.{Found}
 use Rattle.numbers.proofs.Reading.{answer, field_end, field_stop, field_more, next_more, field_some, field_first}
 
-decimal_empty : (f : List ℕ) → length f ≡ 0 → decimal f ≡ none
+decimal_empty : (f : List ℕ) → length f ≡ 0 → decimal f ≡ None
 decimal_empty [] h = refl
 decimal_empty (b ∷ f) h = absurd (omega arith)
 
-decimal_zero : (f : List ℕ) → (eqb (get_or f 0 0) zero_digit && ltb 1 (length f)) ≡ true → decimal f ≡ none
+decimal_zero : (f : List ℕ) → (eqb (get_or f 0 0) zero_digit && ltb 1 (length f)) ≡ true → decimal f ≡ None
 decimal_zero [] h = refl
 decimal_zero (b ∷ []) h = go (eqb b zero_digit) h
   where
-    go : (t : Bool) → (t && ltb 1 1) ≡ true → (if_true t then some 0 else read_on 0 (b ∷ [])) ≡ none
+    go : (t : Bool) → (t && ltb 1 1) ≡ true → (if_true t then Some 0 else read_on 0 (b ∷ [])) ≡ None
     go true h = absurd (false≢true h)
     go false h = absurd (false≢true h)
 decimal_zero (b ∷ x ∷ f) h = go (eqb b zero_digit) h
   where
-    go : (t : Bool) → (t && ltb 1 (suc (suc (length f)))) ≡ true → (if_true t then none else read_on 0 (b ∷ x ∷ f)) ≡ none
+    go : (t : Bool) → (t && ltb 1 (suc (suc (length f)))) ≡ true → (if_true t then None else read_on 0 (b ∷ x ∷ f)) ≡ None
     go true h = refl
     go false h = absurd (false≢true h)
 
@@ -38,12 +39,12 @@ unfolding read_on
 decimal_run [] l h = absurd (omega arith)
 decimal_run (b ∷ []) l h = go (eqb b zero_digit) refl
   where
-    go : (t : Bool) → eqb b zero_digit ≡ t → (if_true t then some 0 else read_on 0 (b ∷ [])) ≡ read_on 0 (b ∷ [])
+    go : (t : Bool) → eqb b zero_digit ≡ t → (if_true t then Some 0 else read_on 0 (b ∷ [])) ≡ read_on 0 (b ∷ [])
     go true e = let k = eqb-true b zero_digit e in rw k
     go false e = refl
 decimal_run (b ∷ x ∷ f) l h = go (eqb b zero_digit) h
   where
-    go : (t : Bool) → (t && ltb 1 (suc (suc (length f)))) ≡ false → (if_true t then none else read_on 0 (b ∷ x ∷ f)) ≡ read_on 0 (b ∷ x ∷ f)
+    go : (t : Bool) → (t && ltb 1 (suc (suc (length f)))) ≡ false → (if_true t then None else read_on 0 (b ∷ x ∷ f)) ≡ read_on 0 (b ∷ x ∷ f)
     go true h = absurd (false≢true (sym h ∙ lt-ltb 1 (suc (suc (length f))) (omega arith)))
     go false h = refl
 
@@ -62,18 +63,18 @@ module _ (max stop : ℕ) (s : List ℕ) (at : ℕ) {r : Found} (e : r ≡ found
   leads : at < r.next → (eqb (get_or s at 0) zero_digit && ltb 1 (r.next - at)) ≡ (eqb (get_or (field_at s at stop) 0 0) zero_digit && ltb 1 (length (field_at s at stop)))
   leads h = let k = length_is in ap₂ (λ b l. eqb b zero_digit && ltb 1 l) (field_first s at stop (omega arith)) k
 
-  pub decimal_of_none : r.next ≤ at → answer Bad r.next ≡ found_decimal max stop s at
+  decimal_of_none : r.next ≤ at → answer Bad r.next ≡ found_decimal max stop s at
   unfolding found_decimal
   decimal_of_none h =
       let k = length_is in
       ap₂ answer (sym (ap (λ o. bounded max (not_negative o)) (decimal_empty (field_at s at stop) (omega arith)))) next_is
 
-  pub decimal_of_zero : at < r.next → (eqb (get_or s at 0) zero_digit && ltb 1 (r.next - at)) ≡ true → answer Bad r.next ≡ found_decimal max stop s at
+  decimal_of_zero : at < r.next → (eqb (get_or s at 0) zero_digit && ltb 1 (r.next - at)) ≡ true → answer Bad r.next ≡ found_decimal max stop s at
   unfolding found_decimal
   decimal_of_zero h t =
       ap₂ answer (sym (ap (λ o. bounded max (not_negative o)) (decimal_zero (field_at s at stop) (sym (leads h) ∙ t)))) next_is
 
-  pub decimal_of_run : at < r.next → (eqb (get_or s at 0) zero_digit && ltb 1 (r.next - at)) ≡ false → r ≡ found_decimal max stop s at
+  decimal_of_run : at < r.next → (eqb (get_or s at 0) zero_digit && ltb 1 (r.next - at)) ≡ false → r ≡ found_decimal max stop s at
   unfolding found_decimal found_on
   decimal_of_run h t =
       let k = length_is in
@@ -81,12 +82,24 @@ module _ (max stop : ℕ) (s : List ℕ) (at : ℕ) {r : Found} (e : r ≡ found
       ∙ ap (λ o. answer (bounded max (not_negative o)) (at + length (field_at s at stop)))
       (sym (decimal_run (field_at s at stop) (omega arith) (sym (leads h) ∙ t)))
 
+  -- a run of digits, tested, is a decimal
+  pub tested_is : tested s at r ≡ found_decimal max stop s at
+  tested_is = go (dec_lt at r.next)
+    where
+      some : at < r.next → (t : Bool) → (eqb (get_or s at 0) zero_digit && ltb 1 (r.next - at)) ≡ t → (if_true t then answer Bad r.next else r) ≡ found_decimal max stop s at
+      some l true h = decimal_of_zero l h
+      some l false h = decimal_of_run l h
+
+      go : Dec (at < r.next) → tested s at r ≡ found_decimal max stop s at
+      go (yes l) = rw (lt-leb r.next at l) (some l (eqb (get_or s at 0) zero_digit && ltb 1 (r.next - at)) refl)
+      go (no l) = rw (le-leb r.next at (omega arith)) (decimal_of_none (omega arith))
+
 -- ---- a number by its sign
 
 negated_is : (max : ℕ) (o : Option ℕ) → negated (bounded max (not_negative o)) ≡ bounded max (negative o)
-negated_is max none = refl
-negated_is max (some zero) = rw (le-leb 0 max (omega arith))
-negated_is max (some (suc n)) = go (leb (suc n) max)
+negated_is max None = refl
+negated_is max (Some zero) = rw (le-leb 0 max (omega arith))
+negated_is max (Some (suc n)) = go (leb (suc n) max)
   where
     go : (t : Bool) → negated (if_true t then Plus (suc n) else Out) ≡ (if_true t then Minus (suc n) else Out)
     go true = refl

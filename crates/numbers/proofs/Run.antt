@@ -1,17 +1,23 @@
 -- A run of digits read on, place by place: what the loops of the reader keep. Assumes nothing.
 use mathlib.Core.Path.{◌≡◌, refl, ap, ap₂, sym, ◌∙◌}
-use mathlib.Core.Bool.{Bool, true, false, not, ◌&&◌, ◌||◌, false≢true, and-true}
+use mathlib.Core.Bool.{Bool, true, false, not, ◌&&◌, ◌||◌, false≢true}
 use mathlib.Core.List.{List, [], ◌∷◌}
-use mathlib.Core.Option.{none}
-use Prim.Native.Nat.{ℕ, ◌+◌, ◌-◌, ◌*◌, ◌≤◌, ◌<◌}
+use Rattle.std.specs.Prelude.{None, Some, unwrap_or, cond}
+use Prim.Native.Nat.{ℕ, max, ◌+◌, ◌-◌, ◌*◌, ◌≤◌, ◌<◌}
 use native.Mathlib.Omega.{arith}
-use native.Mathlib.Nat.{add-zero}
-use lib.Dec.{leb}
-use lib.ListN.{length, get_or}
-use borrow.Author.Tests.{le-leb, lt-leb, leb-true, not-true, not-false}
+use native.Mathlib.Nat.{add-zero, add_comm}
+use native.Mathlib.Numerals.{add-one}
+use lib.Dec.{leb, eqb, ltb}
+use lib.ListN.{length, get_or, take, drop, length-drop}
+use lib.Seq.{length-take-le}
+use native.Mathlib.Decide.{dec_lt}
+use Rattle.std.proofs.lemmas.List.{take_all}
+use Rattle.std.proofs.lemmas.List.Sums.{prefix_len-le-length}
+use Rattle.std.specs.List.{list_all, position_or_len}
+use borrow.Author.Tests.{le-leb, lt-leb, lt-ltb, le-ltb, leb-true, not-true, not-false}
 use Rattle.words.specs.Lists.{any}
 use Rattle.numbers.specs.Decimal.{zero_digit, is_digit, read_on, not_negative}
-use Rattle.numbers.specs.Reading.{bounded, field_at, found_on, out_or_bad, not_digit, skipped}
+use Rattle.numbers.specs.Reading.{bounded, field_at, found_on, out_or_bad, not_digit, until, skipped}
 use Rattle.numbers.specs.declared.Field.{Field}
 use Rattle.numbers.specs.declared.Field.TheVariants.{Plus}
 use Rattle.numbers.specs.declared.Found.{Found}
@@ -28,7 +34,7 @@ pub read_on_digit : (n b : ℕ) (f : List ℕ) → is_digit b ≡ true → read_
 unfolding read_on
 read_on_digit n b f t = rw t
 
-pub read_on_other : (n b : ℕ) (f : List ℕ) → is_digit b ≡ false → read_on n (b ∷ f) ≡ none
+pub read_on_other : (n b : ℕ) (f : List ℕ) → is_digit b ≡ false → read_on n (b ∷ f) ≡ None
 unfolding read_on
 read_on_other n b f t = rw t
 
@@ -137,44 +143,57 @@ module _ {max stop : ℕ} {s : List ℕ} {at start i n : ℕ} (g : Going max sto
                 (next_more s i stop h d.apart);
           }
 
+-- where a loop ends that goes from `at` to the end
+pub end_is : (at n i : ℕ) → (at ≤ n → i ≤ n) → n ≤ i → (n ≤ at → i ≡ at) → max at n ≡ i
+end_is at n i a h b = go (dec_lt at n)
+  where
+    go : Dec (at < n) → max at n ≡ i
+    go (yes l) = let k = a (omega arith) in omega arith
+    go (no l) = let k = b (omega arith) in omega arith
+
 -- ---- the rest of a field skipped
 
-abbrev pub skipped_on : Bool → ℕ → List ℕ → ℕ → Found
-skipped_on ok stop s i = answer (out_or_bad (ok && not (any not_digit (field_at s i stop)))) (i + length (field_at s i stop))
-
--- the bytes before i are digits or not
-pub record Skipping (stop : ℕ) (s : List ℕ) (at i : ℕ) (ok : Bool) : Type 0 where
-  pub rest : skipped stop s at ≡ skipped_on ok stop s i
-
-pub skip_out : (stop : ℕ) (s : List ℕ) (at : ℕ) → Skipping stop s at at true
-unfolding skipped
-skip_out stop s at = record { rest = refl }
-
-module _ {stop : ℕ} {s : List ℕ} {at i : ℕ} {ok : Bool} (g : Skipping stop s at i ok) {f : Field} (p : f ≡ out_or_bad ok) where
-  none_skipped : field_at s i stop ≡ [] → answer f i ≡ skipped stop s at
-  none_skipped e = ap (λ x. answer x i) p ∙ rw e (ap₂ answer (ap out_or_bad (sym (and-true ok))) (sym (add-zero i))) ∙ sym g.rest
-
-  pub skipped_end : length s ≤ i → answer f i ≡ skipped stop s at
-  skipped_end h = none_skipped (field_end s i stop h)
-
-  pub skipped_stop : i < length s → get_or s i 0 ≡ stop → answer f i ≡ skipped stop s at
-  skipped_stop h e = none_skipped (field_stop s i stop h e)
-
-pub one_skipped :
-    {stop : ℕ} {s : List ℕ} {at i : ℕ} {ok t : Bool} → Skipping stop s at i ok → i < length s → (get_or s i 0 ≡ stop → ⊥) → t ≡ is_digit (get_or s i 0)
-    → Skipping stop s at (i + 1) (ok && t)
-one_skipped {stop} {s} {at} {i} {ok} {t} g h e p =
-    record {
-      rest =
-          g.rest
-          ∙ ap₂ answer
-          (ap (λ f. out_or_bad (ok && not (any not_digit f))) (field_more s i stop h e)
-          ∙ ap (λ u. out_or_bad (ok && not (not u || any not_digit (field_at s (i + 1) stop)))) (sym p)
-          ∙ ap out_or_bad (both ok t))
-          (next_more s i stop h e);
-    }
+-- where the first byte is that passes, or the end
+pub first_or_end : (test : ℕ → Bool) (xs : List ℕ) → unwrap_or (cond (ltb (position_or_len test xs) (length xs)) (Some (position_or_len test xs)) None) (length xs) ≡ position_or_len test xs
+first_or_end test xs = go (dec_lt (position_or_len test xs) (length xs))
   where
-    both : (t d : Bool) → (t && not (not d || any not_digit (field_at s (i + 1) stop))) ≡ (t && d && not (any not_digit (field_at s (i + 1) stop)))
-    both true true = refl
-    both true false = refl
-    both false d = refl
+    go :
+        Dec (position_or_len test xs < length xs)
+        → unwrap_or (cond (ltb (position_or_len test xs) (length xs)) (Some (position_or_len test xs)) None) (length xs) ≡ position_or_len test xs
+    go (yes l) = rw (lt-ltb (position_or_len test xs) (length xs) l)
+    go (no l) =
+        let m : position_or_len test xs ≤ length xs = prefix_len-le-length (λ x. not (test x)) xs in
+        rw (le-ltb (position_or_len test xs) (length xs) (omega arith)) (omega arith)
+
+abbrev stop_at : ℕ → ℕ → Bool
+stop_at stop b = eqb b stop
+
+until_is : (stop : ℕ) (s : List ℕ) → until stop s ≡ take (position_or_len (stop_at stop) s) s
+unfolding until
+until_is stop [] = refl
+until_is stop (b ∷ s) = go (eqb b stop) refl (until_is stop s)
+  where
+    go :
+        (t : Bool) → eqb b stop ≡ t → until stop s ≡ take (position_or_len (stop_at stop) s) s
+        → until stop (b ∷ s) ≡ take (position_or_len (stop_at stop) (b ∷ s)) (b ∷ s)
+    go true e ih = rw e
+    go false e ih = rw e (ap (λ x. b ∷ x) ih ∙ sym (ap (λ k. take k (b ∷ s)) (add_comm 1 (position_or_len (stop_at stop) s) ∙ add-one _)))
+
+all_or_any : (f : List ℕ) → list_all is_digit f ≡ not (any not_digit f)
+all_or_any [] = refl
+all_or_any (b ∷ f) = go (is_digit b) (all_or_any f)
+  where
+    go : (t : Bool) → list_all is_digit f ≡ not (any not_digit f) → (t && list_all is_digit f) ≡ not (not t || any not_digit f)
+    go true ih = ih
+    go false ih = refl
+
+pub skips :
+    {n : ℕ} {ok : Bool} {r : Field} (stop : ℕ) (s : List ℕ) (at : ℕ) → n ≡ position_or_len (λ b. eqb b stop) (take (length s - at) (drop at s))
+    → ok ≡ list_all is_digit (take n (take (length s - at) (drop at s))) → r ≡ out_or_bad ok → answer r (at + n) ≡ skipped stop s at
+unfolding skipped
+skips {n} {ok} {r} stop s at p q e =
+    let w : take (length s - at) (drop at s) ≡ drop at s = take_all (length s - at) (drop at s) (omega (arith, length-drop at s)) in
+    let u : take n (drop at s) ≡ field_at s at stop = ap (λ k. take k (drop at s)) (p ∙ ap (position_or_len (stop_at stop)) w) ∙ sym (until_is stop (drop at s)) in
+    let m : n ≤ length (drop at s) = omega (arith, p ∙ ap (position_or_len (stop_at stop)) w, prefix_len-le-length (λ b. not (stop_at stop b)) (drop at s)) in
+    let l : n ≡ length (field_at s at stop) = sym (length-take-le n (drop at s) m) ∙ ap length u in
+    ap₂ answer (e ∙ ap out_or_bad (q ∙ ap (λ x. list_all is_digit (take n x)) w ∙ ap (list_all is_digit) u ∙ all_or_any (field_at s at stop))) (ap (λ k. at + k) l)

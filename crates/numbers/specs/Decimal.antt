@@ -1,7 +1,6 @@
 -- Decimal numbers as bytes: what is written of a number, and what a field of bytes says. Nothing here knows a width. Assumes nothing.
-use Rattle.std.specs.Prelude.{ℕ, zero, suc, ◌+◌, ◌-◌, ◌*◌, ◌/◌, ◌%◌, Bool, true, false, List, [], ◌∷◌, ◌++◌, ltb, eqb, ℤ, pos, negsuc}
+use Rattle.std.specs.Prelude.{ℕ, zero, suc, ◌+◌, ◌-◌, ◌*◌, ◌/◌, ◌%◌, Bool, true, false, List, [], ◌∷◌, ◌++◌, ltb, eqb, ℤ, pos, negsuc, Option, None, Some}
 use Prim.Native.Char.{code}
-use Rattle.std.proofs.Math.Option.{Option, none, some}
 use Rattle.words.specs.Choice.{if_true◌then◌else◌, within}
 
 abbrev pub zero_digit : ℕ
@@ -33,29 +32,29 @@ is_digit b = within zero_digit (code "9") b
 
 -- digits read on from n
 unfoldable pub read_on : ℕ → List ℕ → Option ℕ
-read_on n [] = some n
-read_on n (b ∷ s) = if_true is_digit b then read_on (n * 10 + (b - zero_digit)) s else none
+read_on n [] = Some n
+read_on n (b ∷ s) = if_true is_digit b then read_on (n * 10 + (b - zero_digit)) s else None
 
 abbrev pub nothing_more : List ℕ → Option ℕ
-nothing_more [] = some 0
-nothing_more (b ∷ s) = none
+nothing_more [] = Some 0
+nothing_more (b ∷ s) = None
 
 -- a decimal without sign or leading zeros
 abbrev pub decimal : List ℕ → Option ℕ
-decimal [] = none
+decimal [] = None
 decimal (b ∷ s) = if_true eqb b zero_digit then nothing_more s else read_on 0 (b ∷ s)
 
 abbrev pub not_negative : Option ℕ → Option ℤ
-not_negative none = none
-not_negative (some n) = some (pos n)
+not_negative None = None
+not_negative (Some n) = Some (pos n)
 
 -- `-0` is not a number
 abbrev pub negative : Option ℕ → Option ℤ
-negative none = none
-negative (some zero) = none
-negative (some (suc n)) = some (negsuc n)
+negative None = None
+negative (Some zero) = None
+negative (Some (suc n)) = Some (negsuc n)
 
 -- a field: a decimal, or one after a minus
 abbrev pub number : List ℕ → Option ℤ
-number [] = none
+number [] = None
 number (b ∷ s) = if_true eqb b minus_sign then negative (decimal s) else not_negative (decimal (b ∷ s))

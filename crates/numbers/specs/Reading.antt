@@ -1,18 +1,17 @@
 -- A field of a byte list, from a place up to a byte that stops it, and what the reader answers of it. Assumes nothing.
-use Rattle.std.specs.Prelude.{ℕ, zero, suc, ◌+◌, Bool, true, false, not, List, [], ◌∷◌, leb, eqb, ℤ, pos, negsuc, length, drop}
-use Rattle.std.proofs.Math.Option.{Option, none, some}
+use Rattle.std.specs.Prelude.{ℕ, zero, suc, ◌+◌, ◌-◌, Bool, true, false, not, ◌||◌, ◌&&◌, List, [], ◌∷◌, leb, ltb, eqb, get_or, ℤ, pos, negsuc, length, drop, Option, None, Some}
 use Rattle.words.specs.Choice.{if_true◌then◌else◌}
 use Rattle.words.specs.Lists.{any}
-use Rattle.numbers.specs.Decimal.{minus_sign, is_digit, read_on, decimal, not_negative, number}
+use Rattle.numbers.specs.Decimal.{zero_digit, minus_sign, is_digit, read_on, decimal, not_negative, number}
 use Rattle.numbers.specs.declared.Field.{Field}
 use Rattle.numbers.specs.declared.Field.TheVariants.{Plus, Minus, Out, Bad}
 use Rattle.numbers.specs.declared.Found.{Found}
 
 -- a reading held to sizes up to max
 abbrev pub bounded : ℕ → Option ℤ → Field
-bounded max none = Bad
-bounded max (some (pos n)) = if_true leb n max then Plus n else Out
-bounded max (some (negsuc n)) = if_true leb (suc n) max then Minus (suc n) else Out
+bounded max None = Bad
+bounded max (Some (pos n)) = if_true leb n max then Plus n else Out
+bounded max (Some (negsuc n)) = if_true leb (suc n) max then Minus (suc n) else Out
 
 -- the bytes before the first `stop`, or all
 unfoldable pub until : ℕ → List ℕ → List ℕ
@@ -44,6 +43,11 @@ found_on max stop s at n =
       field = bounded max (not_negative (read_on n (field_at s at stop)));
       next = at + length (field_at s at stop);
     }
+
+-- a run of digits as a decimal: no number where there are none, or a zero stands before others
+abbrev pub tested : List ℕ → ℕ → Found → Found
+tested s at r =
+    if_true leb r.next at || (eqb (get_or s at 0) zero_digit && ltb 1 (r.next - at)) then record { field = Bad; next = r.next } else r
 
 -- a number out of the bound, if all bytes after it are digits
 abbrev pub out_or_bad : Bool → Field

@@ -1,8 +1,6 @@
 -- Numbers by sign and size, and those that 32 bits hold. Assumes nothing.
-use Rattle.std.specs.Prelude.{ℕ, zero, suc, Bool, true, false, leb, ℤ, pos, negsuc}
+use Rattle.std.specs.Prelude.{ℕ, zero, suc, Bool, true, false, leb, ℤ, pos, negsuc, Option, None, Some}
 use Rattle.words.specs.Choice.{if_true◌then◌else◌}
-use Rattle.numbers.specs.declared.Int.{Int}
-use Rattle.numbers.specs.declared.Int.TheVariants.{Value, Out}
 
 -- a size, below zero where there is a minus
 abbrev pub signed : Bool → ℕ → ℤ
@@ -22,5 +20,6 @@ abbrev pub is_i32 : ℤ → Bool
 is_i32 (pos n) = leb n largest_i32
 is_i32 (negsuc n) = leb n largest_i32
 
-abbrev pub as_int : ℤ → Int
-as_int z = if_true is_i32 z then Value z else Out
+-- `None` is out of 32 bits
+abbrev pub as_int : ℤ → Option ℤ
+as_int z = if_true is_i32 z then Some z else None

@@ -1,9 +1,10 @@
 // Decimal numbers in byte slices: read without a copy, and written in place.
 #![tactic(auto)]
 
-ghost use Rattle.std.specs.Prelude.{◌≡◌, ◌∷◌, ◌+◌, ◌<◌, ◌≤◌, ◌^◌, pos, negsuc, nat_abs, length};
+ghost use Rattle.std.specs.Prelude.{◌≡◌, ◌∷◌, ◌+◌, ◌<◌, ◌≤◌, ◌==◌, nat_abs, length};
+ghost use Rattle.std.specs.List.{list_all, position_or_len};
 ghost use Rattle.numbers.specs.Decimal.{minus_sign, digits, shown, is_digit};
-ghost use Rattle.numbers.specs.Reading.{found, found_decimal, found_on, skipped, out_or_bad, field_at, starts_minus, negated};
+ghost use Rattle.numbers.specs.Reading.{found, found_on, tested, skipped, out_or_bad, field_at, starts_minus, negated};
 ghost use Rattle.numbers.specs.Writing.{put, Puts};
 ghost use Rattle.numbers.specs.Signed.{signed, is_negative, as_int};
 
@@ -31,16 +32,24 @@ pub struct Found {
     pub next: usize,
 }
 
+// By two comparisons, as the definition has it.
 fn is_digit(b: u8) -> bool
     ensures { result ≡ is_digit b }
 {
     (ZERO <= b) & (b <= NINE)
 }
 
-fn wide(b: u8) -> u64
-    ensures { result ≡ b }
+fn all_digits(s: &[u8]) -> bool
+    ensures { result ≡ list_all is_digit s.now }
 {
-    b as u64
+    s.iter().all(|b| is_digit(*b))
+}
+
+// The place of the first byte that stops a field, or the end.
+fn place_of(s: &[u8], stop: u8) -> usize
+    ensures { result ≡ position_or_len (λ b. b == stop) s.now }
+{
+    s.iter().position(|b| *b == stop).unwrap_or(s.len())
 }
 
 fn out_or_bad(ok: bool) -> Field
@@ -51,36 +60,25 @@ fn out_or_bad(ok: bool) -> Field
 
 // The rest of a field whose number is out of the bound already, or that is no number.
 fn skip(s: &[u8], at: usize, stop: u8) -> Found
+    requires { at ≤ length s.now }
     ensures { result ≡ skipped stop s.now at }
 {
-    let mut ok = true;
-    let mut i = at;
-    while i < s.len() {
-        let b = s[i];
-        if b == stop {
-            return Found {
-                field: out_or_bad(ok),
-                next: i,
-            };
-        }
-        ok = ok & is_digit(b);
-        i += 1;
-    }
+    let rest = &s[at..];
+    let n = place_of(rest, stop);
     Found {
-        field: out_or_bad(ok),
-        next: i,
+        field: out_or_bad(all_digits(&rest[..n])),
+        next: at + n,
     }
 }
 
 // Digits read on from a number, each tested against the bound.
 fn read_on(s: &[u8], at: usize, stop: u8, start: u64, max: u64) -> Found
-    requires { start ≤ max }
+    requires { (start ≤ max) × (at ≤ length s.now) }
     ensures { result ≡ found_on max stop s.now at start }
 {
     let tenth = max / 10;
     let mut n = start;
-    let mut i = at;
-    while i < s.len() {
+    for i in at..s.len() {
         let b = s[i];
         if b == stop {
             return Found {
@@ -94,17 +92,16 @@ fn read_on(s: &[u8], at: usize, stop: u8, start: u64, max: u64) -> Found
         if tenth < n {
             return skip(s, i, stop);
         }
-        let d = wide(b - ZERO);
+        let d = u64::from(b - ZERO);
         let tens = n * 10;
         if max - tens < d {
             return skip(s, i, stop);
         }
         n = tens + d;
-        i += 1;
     }
     Found {
         field: Field::Plus(n),
-        next: i,
+        next: s.len(),
     }
 }
 
@@ -115,8 +112,7 @@ fn read_digits(s: &[u8], at: usize, stop: u8, max: u64) -> Found
     let tenth = max / 10;
     let stop_is_digit = is_digit(stop);
     let mut n = 0;
-    let mut i = at;
-    while i < s.len() {
+    for i in at..s.len() {
         let b = s[i];
         if stop_is_digit | !is_digit(b) {
             if b == stop {
@@ -130,52 +126,23 @@ fn read_digits(s: &[u8], at: usize, stop: u8, max: u64) -> Found
         if tenth <= n {
             return read_on(s, i, stop, n, max);
         }
-        n = n * 10 + wide(b - ZERO);
-        i += 1;
+        n = n * 10 + u64::from(b - ZERO);
     }
     Found {
         field: Field::Plus(n),
-        next: i,
+        next: at.max(s.len()),
     }
 }
 
-// A decimal without a sign.
-fn read_decimal(s: &[u8], at: usize, stop: u8, max: u64) -> Found
-    ensures { result ≡ found_decimal max stop s.now at }
+// What digits say: no number where there are none, or where a zero stands before others.
+fn as_decimal(s: &[u8], at: usize, r: Found) -> Found
+    requires { at < r.next → at < length s.now }
+    ensures { result ≡ tested s.now at r }
 {
-    let r = read_digits(s, at, stop, max);
-    let next = r.next;
-    if next <= at {
+    if r.next <= at || (s[at] == ZERO && 1 < r.next - at) {
         return Found {
             field: Field::Bad,
-            next: next,
-        };
-    }
-    if (s[at] == ZERO) & (1 < next - at) {
-        return Found {
-            field: Field::Bad,
-            next: next,
-        };
-    }
-    r
-}
-
-// The same for what stands after a minus, with every digit tested: a body apart, so that the usual one is compiled into its caller.
-fn read_tested(s: &[u8], at: usize, stop: u8, max: u64) -> Found
-    ensures { result ≡ found_decimal max stop s.now at }
-{
-    let r = read_on(s, at, stop, 0, max);
-    let next = r.next;
-    if next <= at {
-        return Found {
-            field: Field::Bad,
-            next: next,
-        };
-    }
-    if (s[at] == ZERO) & (2 <= next - at) {
-        return Found {
-            field: Field::Bad,
-            next: next,
+            next: r.next,
         };
     }
     r
@@ -186,10 +153,10 @@ fn negate(f: Field) -> Field
     ensures { result ≡ negated f }
 {
     match f {
-        Field::Plus(n) => { if n == 0 { Field::Bad } else { Field::Minus(n) } }
-        Field::Minus(_) => Field::Bad,
+        Field::Plus(0) => Field::Bad,
+        Field::Plus(n) => Field::Minus(n),
         Field::Out => Field::Out,
-        Field::Bad => Field::Bad,
+        Field::Minus(_) | Field::Bad => Field::Bad,
     }
 }
 
@@ -197,10 +164,10 @@ fn negate(f: Field) -> Field
 fn starts_minus(s: &[u8], at: usize, stop: u8) -> bool
     ensures { result ≡ starts_minus (field_at s.now at stop) }
 {
-    if s.len() <= at {
-        return false;
+    match s.get(at) {
+        Some(b) => (*b == MINUS) & (stop != MINUS),
+        None => false,
     }
-    (s[at] == MINUS) & (stop != MINUS)
 }
 
 // The field of s from a place up to the first byte that stops it, or the end of s.
@@ -209,93 +176,54 @@ pub fn read(s: &[u8], at: usize, stop: u8, max: u64) -> Found
 {
     // A branch, not a sum of the place and the sign: the place of the next field then waits for no byte.
     if starts_minus(s, at, stop) {
-        let r = read_tested(s, at + 1, stop, max);
-        let f = r.field;
-        let next = r.next;
+        let past = at + 1;
+        let r = as_decimal(s, past, read_on(s, past, stop, 0, max));
         return Found {
-            field: negate(f),
-            next: next,
+            field: negate(r.field),
+            next: r.next,
         };
     }
-    read_decimal(s, at, stop, max)
+    as_decimal(s, at, read_digits(s, at, stop, max))
 }
 
-// A signed 32-bit number, or a number out of 32 bits.
-#[derive(Clone, Copy)]
-pub enum Int {
-    Value(i32),
-    Out,
-}
-
-// The size below -1.
-fn below(size: u64) -> i32
-    requires { size < 2 ^ 31 }
-    ensures { result ≡ negsuc size }
-{
-    -1 - (size as i32)
-}
-
-// The size itself.
-fn above(size: u64) -> i32
-    requires { size < 2 ^ 31 }
-    ensures { result ≡ pos size }
-{
-    size as i32
-}
-
-// A sign and a size as a signed 32-bit number.
-pub fn int_of(minus: bool, size: u64) -> Int
+// A sign and a size as a signed 32-bit number; none where it is out of 32 bits.
+pub fn int_of(minus: bool, size: u64) -> Option<i32>
     ensures { result ≡ as_int (signed minus size) }
 {
     if minus & (size != 0) {
         let n = size - 1;
-        if n <= LARGEST_I32 {
-            return Int::Value(below(n));
-        }
-        return Int::Out;
+        return if n <= LARGEST_I32 {
+            Some(-1 - (n as i32))
+        } else {
+            None
+        };
     }
     if size <= LARGEST_I32 {
-        return Int::Value(above(size));
+        Some(size as i32)
+    } else {
+        None
     }
-    Int::Out
 }
 
 // The size of a signed number.
 pub fn size_of(n: i32) -> u64
     ensures { result ≡ nat_abs n }
 {
-    if n < 0 {
-        let m = -1 - n;
-        return (m as u64) + 1;
-    }
-    n as u64
+    u64::from(n.unsigned_abs())
 }
 
 // A signed number is below zero.
 pub fn is_negative(n: i32) -> bool
     ensures { result ≡ is_negative n }
 {
-    n < 0
-}
-
-// Where a writer ended, or that there was no room.
-#[derive(Clone, Copy)]
-pub enum Room {
-    To(usize),
-    Short,
+    n.is_negative()
 }
 
 // How many digits n has.
 pub fn width(n: u64) -> usize
     ensures { (result ≡ length (digits n)) × (result ≤ 20) }
 {
-    let mut w = 1;
-    let mut rest = n;
-    while 10 <= rest {
-        rest = rest / 10;
-        w += 1;
-    }
-    w
+    n.checked_ilog10().unwrap_or(0) as usize + 1
 }
 
 // Writes the digits of n, of which there are w, from at on, the last one first; what is past them.
@@ -304,46 +232,35 @@ fn fill(d: &mut [u8], at: usize, w: usize, n: u64) -> usize
     ensures { (result ≡ at + length (digits n)) × (d.new ≡ put d.old at (digits n)) }
 {
     let end = at + w;
-    let mut m = n;
-    let mut i = end - 1;
-    while 10 <= m {
-        d[i] = ZERO + ((m % 10) as u8);
-        m = m / 10;
-        i -= 1;
+    let mut rest = n;
+    for i in (at..end).rev() {
+        d[i] = ZERO + (rest % 10) as u8;
+        rest = rest / 10;
     }
-    d[i] = ZERO + (m as u8);
     end
 }
 
-// Writes n at a place; where there is no room nothing is written.
-pub fn write(d: &mut [u8], at: usize, n: u64) -> Room
+// Writes n at a place; the place past it, or none where there is no room and nothing is written.
+pub fn write(d: &mut [u8], at: usize, n: u64) -> Option<usize>
     ensures { Puts d.old at (digits n) result d.new }
 {
     let w = width(n);
-    let room = d.len();
-    if room < w {
-        return Room::Short;
+    if d.len() < w || d.len() - w < at {
+        return None;
     }
-    if room - w < at {
-        return Room::Short;
-    }
-    Room::To(fill(d, at, w, n))
+    Some(fill(d, at, w, n))
 }
 
 // Writes a minus and the digits of n.
-fn write_below(d: &mut [u8], at: usize, n: u64) -> Room
+fn write_below(d: &mut [u8], at: usize, n: u64) -> Option<usize>
     ensures { Puts d.old at (minus_sign ∷ digits n) result d.new }
 {
     let w = width(n);
-    let room = d.len();
-    if room <= w {
-        return Room::Short;
-    }
-    if room - w <= at {
-        return Room::Short;
+    if d.len() <= w || d.len() - w <= at {
+        return None;
     }
     d[at] = MINUS;
-    Room::To(fill(d, at + 1, w, n))
+    Some(fill(d, at + 1, w, n))
 }
 
 // How many bytes a number has, by its sign and its size.
@@ -357,7 +274,7 @@ pub fn width_signed(minus: bool, size: u64) -> usize
 }
 
 // Writes a number by its sign and its size.
-pub fn write_signed(d: &mut [u8], at: usize, minus: bool, size: u64) -> Room
+pub fn write_signed(d: &mut [u8], at: usize, minus: bool, size: u64) -> Option<usize>
     ensures { Puts d.old at (shown (signed minus size)) result d.new }
 {
     if minus & (size != 0) {

@@ -1,30 +1,34 @@
 -- Laws of the first LF. Assumes nothing.
-use mathlib.Core.Path.{◌≡◌, refl, ap}
+use mathlib.Core.Path.{◌≡◌, refl, ap, sym, ◌∙◌}
 use mathlib.Core.Bool.{Bool, true, false, ◌||◌}
 use mathlib.Core.List.{List, [], ◌∷◌, ◌++◌}
-use Prim.Native.Nat.{ℕ, zero, suc, ◌+◌, ◌≤◌, ◌<◌}
+use Prim.Native.Nat.{ℕ, min, zero, suc, ◌≤◌, ◌<◌}
 use native.Mathlib.Omega.{arith}
-use native.Mathlib.Numerals.{add-one}
-use lib.ListN.{length, take, drop, get_or, length-take, drop_of_length-le}
-use lib.Seq.{drop-cons, take_all, get_or-take}
-use borrow.Author.Tests.{eq-eqb, ne_eqb}
+use native.Mathlib.Decide.{dec_le}
+use Rattle.std.specs.List.{position_or_len}
+use lib.ListN.{length, take, get_or, length-take}
+use lib.Seq.{take_all, get_or-take}
 use Rattle.words.specs.Choice.{if_true◌then◌else◌}
 use Rattle.words.specs.Lists.{any, place_of}
-use Rattle.words.specs.Text.{line_feed}
 use Rattle.lines.specs.Line.{longest}
 use Rattle.pieces.specs.Pieces.{ends_line, before_lf}
 
--- ---- turn by turn
+-- of at most k bytes
+pub take_least : (k : ℕ) (xs : List ℕ) → take (min (length xs) k) xs ≡ take k xs
+take_least k xs = go (dec_le (length xs) k)
+  where
+    go : Dec (length xs ≤ k) → take (min (length xs) k) xs ≡ take k xs
+    go (yes l) = let e : min (length xs) k ≡ length xs = omega arith in rw e (take_all (length xs) xs (omega arith) ∙ sym (take_all k xs l))
+    go (no l) = let e : min (length xs) k ≡ k = omega arith in rw e
 
-module _ (s : List ℕ) (i : ℕ) where
-  pub lf_here : i < length s → get_or s i 0 ≡ line_feed → place_of ends_line (drop i s) ≡ 0
-  lf_here h e = rw (drop-cons s i 0 h, eq-eqb (get_or s i 0) line_feed e)
-
-  pub lf_on : i < length s → (get_or s i 0 ≡ line_feed → ⊥) → place_of ends_line (drop i s) ≡ suc (place_of ends_line (drop (i + 1) s))
-  lf_on h n = rw (add-one, drop-cons s i 0 h, ne_eqb (get_or s i 0) line_feed n)
-
-  pub lf_end : length s ≤ i → place_of ends_line (drop i s) ≡ 0
-  lf_end h = rw (drop_of_length-le s h)
+-- as the library counts it
+pub place_is : (f : ℕ → Bool) (s : List ℕ) → place_of f s ≡ position_or_len f s
+place_is f [] = refl
+place_is f (x ∷ s) = go (f x) refl (place_is f s)
+  where
+    go : (t : Bool) → f x ≡ t → place_of f s ≡ position_or_len f s → place_of f (x ∷ s) ≡ position_or_len f (x ∷ s)
+    go true e ih = rw e
+    go false e ih = rw e (ap suc ih ∙ omega arith)
 
 -- ---- the first place that passes a test, of any list
 

@@ -8,7 +8,6 @@ use native.Mathlib.Omega.{arith}
 use lib.ListN.{length, take, drop, length-drop}
 use Rattle.lines.specs.Line.{longest}
 use Rattle.pieces.specs.declared.Next.{Next}
-use Rattle.pieces.specs.declared.Next.TheVariants as Next
 use Rattle.pieces.specs.Pieces.{before_lf, piece_length, next_by, next_of, cut_by, pieces_for, pieces_of}
 use Rattle.pieces.proofs.FirstLf.{before_most}
 use Rattle.pieces.proofs.Sizes.{size_some, size_none, piece_within, piece_none}

@@ -5,7 +5,6 @@ use Rattle.words.specs.Lists.{place_of}
 use Rattle.words.specs.Text.{line_feed}
 use Rattle.lines.specs.Line.{longest}
 use Rattle.pieces.specs.declared.Next.{Next}
-use Rattle.pieces.specs.declared.Next.TheVariants as Next
 
 abbrev pub ends_line : ℕ → Bool
 ends_line b = eqb b line_feed

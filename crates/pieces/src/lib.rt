@@ -1,8 +1,7 @@
 // Unread input, cut into the lines that are handed to the step one after another.
 #![tactic(auto)]
 
-ghost use Rattle.std.specs.Prelude.{◌≡◌, ◌+◌, ◌≤◌, length, drop};
-ghost use Rattle.std.proofs.Math.Seq.{paste};
+ghost use Rattle.std.specs.Prelude.{◌≡◌};
 ghost use Rattle.words.specs.Lists.{place_of};
 ghost use Rattle.pieces.specs.Pieces.{ends_line, before_lf, next_of};
 ghost use Rattle.pieces.specs.Shifted.{shifted};
@@ -13,24 +12,14 @@ use lines::{LINE_FEED, LONGEST};
 fn first_lf(s: &[u8]) -> usize
     ensures { result ≡ place_of ends_line s.now }
 {
-    let mut i = 0;
-    while i < s.len() {
-        if s[i] == LINE_FEED {
-            return i;
-        }
-        i += 1;
-    }
-    i
+    s.iter().position(|b| *b == LINE_FEED).unwrap_or(s.len())
 }
 
 // How many bytes stand before the first LF. No more than LONGEST are looked at.
 fn before_lf(s: &[u8]) -> usize
     ensures { result ≡ before_lf s.now }
 {
-    if LONGEST < s.len() {
-        return first_lf(&s[..LONGEST]);
-    }
-    first_lf(s)
+    first_lf(&s[..s.len().min(LONGEST)])
 }
 
 // What comes next: a line of so many bytes, more must be read, or the end.
@@ -50,35 +39,17 @@ pub fn next_line(s: &[u8], ended: bool) -> Next
     if k < s.len() {
         return Next::Line(k + 1);
     }
-    if ended {
-        if k == 0 {
-            return Next::End;
-        }
-        return Next::Line(k);
+    if !ended {
+        return Next::More;
     }
-    Next::More
-}
-
-fn move_down(d: &mut [u8], from: usize, n: usize)
-    requires { from + n ≤ length d.old }
-    ensures { d.new ≡ paste d.old 0 (drop from d.old) n }
-{
-    let mut i = 0;
-    while i < n {
-        d[i] = d[from + i];
-        i += 1;
-    }
+    if k == 0 { Next::End } else { Next::Line(k) }
 }
 
 // The unread bytes d[from..to] moved to the front.
 pub fn shift(d: &mut [u8], from: usize, to: usize)
     ensures { d.new ≡ shifted d.old from to }
 {
-    if d.len() < to {
-        return;
+    if to <= d.len() && from <= to {
+        d.copy_within(from..to, 0);
     }
-    if to < from {
-        return;
-    }
-    move_down(d, from, to - from);
 }

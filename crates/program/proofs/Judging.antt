@@ -7,6 +7,8 @@ use native.Mathlib.Omega.{arith}
 use Rattle.std.specs.Prelude.{Some}
 use lib.ListN.{length, take, drop, length-append}
 use lib.Seq.{take_at, drop_at}
+use Rattle.lines.specs.Numbered.{number_of}
+use Rattle.lines.specs.declared.refusal.Refusal.{Refusal}
 use Rattle.history.specs.Replies.{Reply, accepted, not_accepted}
 use Rattle.history.specs.Report.{run, lines_of, end_line}
 use Rattle.history.specs.Runs.{program_room}
@@ -178,8 +180,8 @@ module _ {T S : Tables} {s : Streams} {n : ℕ} {unread out out' : List ℕ} {p 
   pub judged_wants : p.stop ≡ Stop.More → Judged S (with_printed s p.put true) (n + p.findings) (drop p.taken unread)
   judged_wants q = goes_on Stop.More q (λ fs b. refl)
 
-  pub judged_refused : (refusal : ℕ) → p.stop ≡ Stop.Refused refusal → AllJudged S (with_printed s p.put true) (n + p.findings) refusal
-  judged_refused refusal q = ends refusal (Stop.Refused refusal) q (λ fs b. refl)
+  pub judged_refused : (refusal : Refusal) → p.stop ≡ Stop.Refused refusal → AllJudged S (with_printed s p.put true) (n + p.findings) (number_of refusal)
+  judged_refused refusal q = ends (number_of refusal) (Stop.Refused refusal) q (λ fs b. refl)
 
   pub judged_end : p.stop ≡ Stop.End → AllJudged S (with_printed s p.put true) (n + p.findings) 0
   judged_end q = ends 0 Stop.End q (λ fs b. refl)

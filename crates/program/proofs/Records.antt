@@ -19,7 +19,8 @@ use Rattle.report.proofs.Parts.{Parts}
 use Rattle.tables.specs.Tables.{Tables}
 use Rattle.tables.specs.Listing.{leak_numbers, numbers_of, Listing, lists, not_written, list_into, list_of}
 use Rattle.leaks.specs.Reply.{reply_of}
-use Rattle.leaks.specs.declared.Listed.{Listed as Reply}
+use Rattle.std.specs.Prelude.{Result}
+use Rattle.lines.specs.declared.refusal.Refusal.{Refusal}
 use Rattle.demands.specs.Tied.{AllTied}
 use Rattle.demands.specs.Leaks.{leaks, list_after, shown_leaks}
 use Rattle.demands.proofs.Listed.{list_tied, leaks_fit}
@@ -82,7 +83,7 @@ module _ {asked : Bool} (T : Tables) (ns : List ℕ) where
   unfolding listing_of
   none_asked is = rw is (record { count = refl; left = refl })
 
-  pub replied : {ns' : List ℕ} {n : ℕ} (r : Reply) → asked ≡ true → lists (reply_of r) ns' ≡ list_of T ns → n ≡ records_in (reply_of r) → Lists asked T ns n ns'
+  pub replied : {ns' : List ℕ} {n : ℕ} (r : Result ℕ Refusal) → asked ≡ true → lists (reply_of r) ns' ≡ list_of T ns → n ≡ records_in (reply_of r) → Lists asked T ns n ns'
   unfolding listing_of
   replied r is e count = rw is (record { count = count ∙ ap (λ (l : Listing). records_in l.reply) e; left = ap (λ (l : Listing). l.left) e })
 

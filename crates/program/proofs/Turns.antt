@@ -6,10 +6,11 @@ use mathlib.Core.List.{List, [], ◌++◌}
 use native.Mathlib.Nat.{sub-zero}
 use native.Mathlib.Omega.{arith}
 use borrow.Author.Tests.{eq-eqb}
-use Rattle.std.specs.Prelude.{Some}
+use Rattle.std.specs.Prelude.{Option, Some, None}
 use lib.ListN.{length, take, drop, length-drop}
 use lib.Seq.{length-take-le, take-add, drop-drop, drop_at}
 use Rattle.lines.specs.Line.{longest}
+use Rattle.lines.specs.declared.refusal.Refusal.{Refusal}
 use Rattle.history.specs.Replies.{most_lines}
 use Rattle.history.proofs.Stacks.{at_most_a_million}
 use Rattle.answers.specs.Answer.{most_found}
@@ -26,8 +27,8 @@ use Rattle.program.specs.declared.Run.{Run}
 use Rattle.program.specs.declared.streams.Streams.{Streams}
 use Rattle.program.specs.Progress.{buffer_size, most_findings, most_leaked, Few, lines_accepted, one_if, come_by, most_come_by}
 use Rattle.program.specs.Printing.{nothing_yet, with_read, with_printed}
-use Rattle.program.specs.Running.{at_judged, Failed, unread_in, Fits, Reads, PassesOn, EndsSo, Turned, is_full, wants_more, is_refused, is_at_end, failed, Finished, Ends, with_last, without, Good, LeaksLeft}
-use Rattle.program.proofs.Turning.{is_good}
+use Rattle.program.specs.Running.{at_judged, number_in, Failed, unread_in, Fits, Reads, PassesOn, EndsSo, Turned, is_full, wants_more, is_refused, is_at_end, failed, Finished, Ends, with_last, without, Good, LeaksLeft}
+use Rattle.program.proofs.Turning.{is_good, not_both, not_judged}
 use Rattle.program.proofs.Judging.{Judged, AllJudged, due, judged_more, judged_full, judged_wants, judged_refused, judged_end, last_due, leaks_left}
 
 -- ---- the lines accepted are those of the history
@@ -48,8 +49,8 @@ module _ {T : Tables} {n : ℕ} (k : Follows T n) where
 pub record Going (leaks : Bool) (T : Tables) (r : Run) (buf : List ℕ) : Type 0 where
   pub asked : r.streams.leaks ≡ leaks
   pub size : length buf ≡ buffer_size
-  pub goes : r.stop ≡ 0
-  pub none_refused : r.refusal ≡ 0
+  pub goes : r.stop ≡ None
+  pub none_refused : r.refusal ≡ None
   pub follows : Follows T (lines_accepted T)
   pub findings : r.findings ≤ most_found * lines_accepted T
   pub printed : r.streams.printed ≤ buffer_size * lines_accepted T
@@ -64,7 +65,7 @@ judged_as {T} {n} {m} {s} {q} {b} {d} es en eb j =
     subst (λ (x : Streams). Judged T x m d) (sym es) (subst (λ (x : ℕ). Judged T s x d) (sym en) (subst (Judged T s n) (sym eb) j))
 
 pub going_start : {leaks : Bool} {S : Tables} {r : Run} {buf : List ℕ} (T : Tables) → Long T → S ≡ start_of T → length buf ≡ buffer_size → r.from ≡ 0 → r.to ≡ 0 → r.streams ≡ nothing_yet leaks
-    → r.findings ≡ 0 → r.refusal ≡ 0 → r.stop ≡ 0 → Judged S (nothing_yet leaks) 0 [] → Going leaks S r buf
+    → r.findings ≡ 0 → r.refusal ≡ None → r.stop ≡ None → Judged S (nothing_yet leaks) 0 [] → Going leaks S r buf
 going_start {leaks} {S} {r} {buf} T long e size from to streams findings refusal stop judged =
     record {
       asked = ap (λ (x : Streams). x.leaks) streams;
@@ -177,7 +178,7 @@ module _ {leaks : Bool} {T S : Tables} {r : Run} {buf out' : List ℕ} {p : Pass
 
   -- ---- the turn goes on
 
-  module _ {q : Run} {buf' : List ℕ} (goes : q.stop ≡ 0) (same : length buf' ≡ length buf) where
+  module _ {q : Run} {buf' : List ℕ} (goes : q.stop ≡ None) (same : length buf' ≡ length buf) where
     after_read : p.stop ≡ Stop.More → (w : Run) → PassesOn r p w → (n : ℕ) → Reads w buf q buf' n → Going leaks S q buf'
     after_read h w on n reads =
         let rest = w.to - w.from in
@@ -223,9 +224,9 @@ module _ {leaks : Bool} {T S : Tables} {r : Run} {buf out' : List ℕ} {p : Pass
           judged = judged_as on.streams on.findings (ap (λ (b : List ℕ). unread_in b q) is ∙ unread_then on) (judged_full g.judged known h);
         }
     going_on (wants_more h w on n reads) = after_read h w on n reads
-    going_on (is_refused k h ends) = absurd (omega (arith, ends.stop, goes))
-    going_on (is_at_end h ends) = absurd (omega (arith, ends.stop, goes))
-    going_on (failed fails) = absurd (omega (arith, fails.stop, goes))
+    going_on (is_refused k h ends) = absurd (not_both ends.stop goes)
+    going_on (is_at_end h ends) = absurd (not_both ends.stop goes)
+    going_on (failed fails) = absurd (not_both fails.stop goes)
 
     more : Turned r p buf q buf' → come_by T r < come_by S q
     unfolding lines
@@ -250,29 +251,29 @@ module _ {leaks : Bool} {T S : Tables} {r : Run} {buf out' : List ℕ} {p : Pass
               ap (λ (x : Streams). one_if x.ended) reads.streams ∙ ap one_if (eq-eqb n 0 z),
             )
         go (suc m) z = omega (arith, covered, accepted, taken_within, on.from, on.to, reads.from, reads.to, z, ap one_if (before_end h))
-    more (is_refused k h ends) = absurd (omega (arith, ends.stop, goes))
-    more (is_at_end h ends) = absurd (omega (arith, ends.stop, goes))
-    more (failed fails) = absurd (omega (arith, fails.stop, goes))
+    more (is_refused k h ends) = absurd (not_both ends.stop goes)
+    more (is_at_end h ends) = absurd (not_both ends.stop goes)
+    more (failed fails) = absurd (not_both fails.stop goes)
 
     pub fewer_left : Turned r p buf q buf' → most_come_by - come_by S q < most_come_by - come_by T r
     fewer_left t = omega (arith, more t, come_by_most (going_on t))
 
   -- ---- or it is the last
 
-  module _ {q : Run} {buf' : List ℕ} (stops : q.stop ≡ 0 → ⊥) (t : Turned r p buf q buf') where
+  module _ {q : Run} {buf' : List ℕ} (stops : q.stop ≡ None → ⊥) (t : Turned r p buf q buf') where
     -- all is judged, and the last line and the leaks can be counted
     record Done : Type 0 where
-      judged : AllJudged S q.streams q.findings q.refusal
+      judged : AllJudged S q.streams q.findings (number_in q.refusal)
       findings : q.findings ≤ most_findings
       streams : Few q.streams (buffer_size + most_leaked)
 
-    done_so : (k : ℕ) → EndsSo r p k q → AllJudged S (with_printed r.streams p.put true) (r.findings + p.findings) k → Done
+    done_so : (k : Option Refusal) → EndsSo r p k q → AllJudged S (with_printed r.streams p.put true) (r.findings + p.findings) (number_in k) → Done
     done_so k so all =
         record {
           judged =
-              subst (λ (s : Streams). AllJudged S s q.findings q.refusal) (sym so.streams)
-              (subst (λ (n : ℕ). AllJudged S (with_printed r.streams p.put true) n q.refusal) (sym so.findings)
-              (subst (AllJudged S (with_printed r.streams p.put true) (r.findings + p.findings)) (sym so.refusal) all));
+              subst (λ (s : Streams). AllJudged S s q.findings (number_in q.refusal)) (sym so.streams)
+              (subst (λ (n : ℕ). AllJudged S (with_printed r.streams p.put true) n (number_in q.refusal)) (sym so.findings)
+              (subst (λ (o : Option Refusal). AllJudged S (with_printed r.streams p.put true) (r.findings + p.findings) (number_in o)) (sym so.refusal) all));
           findings = omega (arith, so.findings, few_found, few_lines);
           streams = record { read = omega (arith, ap (λ (x : Streams). x.read) so.streams, g.read, few_lines, accepted, g.within); printed = omega (arith, printed_then so.streams, few_lines) };
         }
@@ -283,9 +284,9 @@ module _ {leaks : Bool} {T S : Tables} {r : Run} {buf out' : List ℕ} {p : Pass
         go : Turned r p buf q buf' → Done
         go (is_full h on is) = absurd (stops on.stop)
         go (wants_more h w on n reads) = absurd (stops (reads.stop ∙ on.stop))
-        go (is_refused k h so) = done_so k so (judged_refused g.judged known k h)
-        go (is_at_end h so) = done_so r.refusal so (subst (AllJudged S (with_printed r.streams p.put true) (r.findings + p.findings)) (sym g.none_refused) (judged_end g.judged known h))
-        go (failed fails) = absurd (omega (arith, fails.stop, one))
+        go (is_refused k h so) = done_so (Some k) so (judged_refused g.judged known k h)
+        go (is_at_end h so) = done_so r.refusal so (subst (λ (o : Option Refusal). AllJudged S (with_printed r.streams p.put true) (r.findings + p.findings) (number_in o)) (sym g.none_refused) (judged_end g.judged known h))
+        go (failed fails) = absurd (not_judged fails.stop one)
 
     pub finished : Finished S.book q
     finished =

@@ -1,6 +1,8 @@
 -- A run of the program, from one function to the next. Assumes nothing.
-use Rattle.std.specs.Prelude.{ℕ, ◌+◌, ◌*◌, ◌-◌, ◌≤◌, ◌≡◌, true, false, List, Some, length, take, drop}
+use Rattle.std.specs.Prelude.{ℕ, ◌+◌, ◌*◌, ◌-◌, ◌≤◌, ◌≡◌, true, false, List, Option, Some, None, length, take, drop}
 use Rattle.lines.specs.Line.{longest}
+use Rattle.lines.specs.Numbered.{number_of}
+use Rattle.lines.specs.declared.refusal.Refusal.{Refusal}
 use Rattle.history.specs.Replies.{most_lines}
 use Rattle.history.specs.Report.{end_line}
 use Rattle.book.specs.Threads.{lines_in, closed_in}
@@ -10,17 +12,18 @@ use Rattle.tables.specs.Listing.{leak_numbers}
 use Rattle.run.specs.declared.Passed.{Passed}
 use Rattle.run.specs.declared.Stop.TheVariants as Stop
 use Rattle.program.specs.declared.Run.{Run}
+use Rattle.program.specs.declared.Why.{Why}
 use Rattle.program.specs.declared.streams.Streams.{Streams}
 use Rattle.program.specs.Printing.{Reports, Due, with_read, with_printed, HasPrinted}
 use Rattle.program.specs.Progress.{buffer_size, most_findings, most_leaks, Few}
 use Rattle.program.specs.Listing.{listing_of, records_in, shown_from}
 
--- why a run stops: the input was judged, or a call failed; 0 where it goes on
-abbrev pub at_judged : ℕ
-at_judged = 1
+-- why a run stops: the input was judged, or a call failed
+abbrev pub at_judged : Option Why
+at_judged = Some Why.Judged
 
-abbrev pub at_failure : ℕ
-at_failure = 2
+abbrev pub at_failure : Option Why
+at_failure = Some Why.Failed
 
 pub data Failed (s : Streams) : Type 0 where
   not_read : s.unreadable ≡ true → Failed s
@@ -59,7 +62,7 @@ pub data MoreRead (r : Run) (buf : List ℕ) (q : Run) (buf' : List ℕ) : Type 
 
 -- what the loop has passed can be counted, and its bytes come next in the report
 pub record Fits (r : Run) (p : Passed) (out : List ℕ) : Type 0 where
-  pub goes : r.stop ≡ 0
+  pub goes : r.stop ≡ None
   pub taken : r.from + p.taken ≤ r.to
   pub within : r.to ≤ buffer_size
   pub few : p.stop ≡ Stop.More → r.to - (r.from + p.taken) ≤ longest
@@ -75,10 +78,10 @@ pub record PassesOn (r : Run) (p : Passed) (q : Run) : Type 0 where
   pub streams : q.streams ≡ with_printed r.streams p.put true
   pub findings : q.findings ≡ r.findings + p.findings
   pub refusal : q.refusal ≡ r.refusal
-  pub stop : q.stop ≡ 0
+  pub stop : q.stop ≡ None
 
 -- and the run is at its end
-pub record EndsSo (r : Run) (p : Passed) (k : ℕ) (q : Run) : Type 0 where
+pub record EndsSo (r : Run) (p : Passed) (k : Option Refusal) (q : Run) : Type 0 where
   pub stop : q.stop ≡ at_judged
   pub streams : q.streams ≡ with_printed r.streams p.put true
   pub findings : q.findings ≡ r.findings + p.findings
@@ -87,15 +90,20 @@ pub record EndsSo (r : Run) (p : Passed) (k : ℕ) (q : Run) : Type 0 where
 pub data Turned (r : Run) (p : Passed) (buf : List ℕ) (q : Run) (buf' : List ℕ) : Type 0 where
   is_full : p.stop ≡ Stop.Full → PassesOn r p q → buf' ≡ buf → Turned r p buf q buf'
   wants_more : p.stop ≡ Stop.More → (w : Run) → PassesOn r p w → (n : ℕ) → Reads w buf q buf' n → Turned r p buf q buf'
-  is_refused : (k : ℕ) → p.stop ≡ Stop.Refused k → EndsSo r p k q → Turned r p buf q buf'
+  is_refused : (k : Refusal) → p.stop ≡ Stop.Refused k → EndsSo r p (Some k) q → Turned r p buf q buf'
   is_at_end : p.stop ≡ Stop.End → EndsSo r p r.refusal q → Turned r p buf q buf'
   failed : Fails r q → Turned r p buf q buf'
 
 -- ---- at the end
 
+-- the number in the last line: that of the refusal, or 0
+abbrev pub number_in : Option Refusal → ℕ
+number_in (Some k) = number_of k
+number_in None = 0
+
 -- the last line, of what stands in the book
 abbrev pub last_line : List ℕ → Run → List ℕ
-last_line book r = end_line (closed_in book) (lines_in book) r.refusal r.findings
+last_line book r = end_line (closed_in book) (lines_in book) (number_in r.refusal) r.findings
 
 -- where a run was judged, the last line can be told and comes next
 pub record Last (book : List ℕ) (r : Run) : Type 0 where

@@ -6,7 +6,7 @@ ghost use Rattle.tables.specs.Tables.{tables};
 ghost use Rattle.tables.specs.Listing.{leak_numbers};
 ghost use Rattle.program.specs.Listing.{Lists, leak_at, shown_from};
 
-use leaks::{Listed, NUMBERS};
+use leaks::NUMBERS;
 use rows::Number;
 
 // Lists the leaks at the front of the records: how many there are, none where the trace is open or nobody asks.
@@ -24,10 +24,9 @@ pub(crate) fn list(
     if !asked {
         return 0;
     }
-    let listed = leaks::list(rows, marks, pins, pinmarks, book, records);
-    match listed {
-        Listed::Written(n) => n,
-        Listed::Refused(_) => 0,
+    match leaks::list(rows, marks, pins, pinmarks, book, records) {
+        Ok(n) => n,
+        Err(_) => 0,
     }
 }
 
@@ -51,10 +50,8 @@ pub(crate) fn put_records(out: &mut [u8], records: &[Number], from: usize, to: u
     ensures { Fills out.old 0 (shown_from records.now from (to - from)) result out.new × (result ≤ longest_leak * (to - from)) }
 {
     let mut at = 0;
-    let mut i = from;
-    while i < to {
+    for i in from..to {
         at = put_record(out, at, records, i);
-        i += 1;
     }
     at
 }

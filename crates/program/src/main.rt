@@ -14,9 +14,10 @@ ghost use Rattle.report.specs.Shown.{longest_leak};
 ghost use Rattle.tables.specs.Tables.{tables};
 ghost use Rattle.program.specs.Printing.{Newest, Due, HasRead, HasPrinted, Reported};
 ghost use Rattle.program.specs.Progress.{buffer_size, most_findings, Few};
-ghost use Rattle.program.specs.Running.{Unread, MoreRead, Fits, Turned, last_line, Finished, Ends, Good, RecordsLeft, LeaksLeft};
+ghost use Rattle.program.specs.Running.{Unread, MoreRead, Fits, Turned, number_in, last_line, Finished, Ends, Good, RecordsLeft, LeaksLeft};
 
 use arguments::Asked;
+use lines::refusal::Refusal;
 use rows::Number;
 use run::{Passed, Stop};
 use streams::Streams;
@@ -51,27 +52,29 @@ const BUFFER: usize = 262144;
 const PIECE: usize = BUFFER / report::LONGEST_LEAK;
 
 // Why a run stops: a line was refused or the input is at its end, or a call failed.
-const JUDGED: u8 = 1;
-
-const FAILED: u8 = 2;
+#[derive(Clone, Copy)]
+enum Why {
+    Judged,
+    Failed,
+}
 
 // A run so far: which bytes of the input buffer are unread, what has gone through the streams, how many findings there are,
-// the refusal or 0, and why it stops or 0.
+// why a line was refused, if one was, and why the run stops, if it does.
 #[derive(Clone, Copy)]
 struct Run {
     from: usize,
     to: usize,
     streams: Streams,
     findings: usize,
-    refusal: u8,
-    stop: u8,
+    refusal: Option<Refusal>,
+    stop: Option<Why>,
 }
 
-fn stopped(run: Run, stop: u8) -> Run
-    ensures { (result.stop ≡ stop) × (result.streams ≡ run.streams) × (result.findings ≡ run.findings) × (result.refusal ≡ run.refusal) }
+fn stopped(run: Run, why: Why) -> Run
+    ensures { (result.stop ≡ Some why) × (result.streams ≡ run.streams) × (result.findings ≡ run.findings) × (result.refusal ≡ run.refusal) }
 {
     let mut next = run;
-    next.stop = stop;
+    next.stop = Some(why);
     next
 }
 
@@ -109,7 +112,7 @@ fn read_more(rt: HostRuntime, run: Run, moved: &mut usize, buf: &mut [u8]) -> Ru
     let mut next = run;
     next.streams = streams;
     if streams::is_unreadable(streams) {
-        return stopped(next, FAILED);
+        return stopped(next, Why::Failed);
     }
     next.from = 0;
     next.to = rest + (streams::bytes_read(streams) - streams::bytes_read(before));
@@ -135,17 +138,27 @@ fn turned(
     next.streams = streams;
     next.findings = run.findings + passed.findings;
     if streams::is_unwritable(streams) {
-        return stopped(next, FAILED);
+        return stopped(next, Why::Failed);
     }
     let stop = passed.stop;
     match stop {
         Stop::Refused(k) => {
-            next.refusal = k;
-            stopped(next, JUDGED)
+            next.refusal = Some(k);
+            stopped(next, Why::Judged)
         }
         Stop::Full => next,
         Stop::More => read_more(rt, next, moved, buf),
-        Stop::End => stopped(next, JUDGED),
+        Stop::End => stopped(next, Why::Judged),
+    }
+}
+
+// The number that is printed in the last line: that of the refusal, or 0.
+fn number_of(refusal: Option<Refusal>) -> u8
+    ensures { result ≡ number_in refusal }
+{
+    match refusal {
+        Some(k) => k.number(),
+        None => 0,
     }
 }
 
@@ -157,8 +170,9 @@ fn put_last(run: Run, book: &[u64; BOOK_NUMBERS], out: &mut [u8; BUFFER]) -> usi
     let closed = book::is_closed(book);
     let lines = book::lines_of(book) as u32;
     let findings = run.findings as u32;
-    let width = report::end_width(closed, lines, run.refusal, findings);
-    report::put_end(out, 0, closed, lines, run.refusal, findings);
+    let refusal = number_of(run.refusal);
+    let width = report::end_width(closed, lines, refusal, findings);
+    report::put_end(out, 0, closed, lines, refusal, findings);
     width
 }
 
@@ -166,19 +180,22 @@ fn put_last(run: Run, book: &[u64; BOOK_NUMBERS], out: &mut [u8; BUFFER]) -> usi
 fn finish(
     rt: HostRuntime,
     run: Run,
+    why: Why,
     moved: &mut usize,
     book: &[u64; BOOK_NUMBERS],
     out: &mut [u8; BUFFER],
 ) -> Streams
-    requires { Finished book.now run × Newest run.streams moved.old }
+    requires { (run.stop ≡ Some why) × Finished book.now run × Newest run.streams moved.old }
     ensures { Ends book.now run result × Newest result moved.new }
 {
     let streams = run.streams;
-    if run.stop != JUDGED {
-        return streams;
+    match why {
+        Why::Failed => streams,
+        Why::Judged => {
+            let n = put_last(run, book, out);
+            print(rt, streams, moved, out, n)
+        }
     }
-    let n = put_last(run, book, out);
-    print(rt, streams, moved, out, n)
 }
 
 // The records that fit the buffer go from `from` up to here.
@@ -186,10 +203,7 @@ fn piece_end(from: usize, count: usize) -> usize
     requires { from < count }
     ensures { (from < result) × (result ≤ count) × (longest_leak * (result - from) ≤ buffer_size) }
 {
-    if count - from < PIECE {
-        return count;
-    }
-    from + PIECE
+    from + usize::min(count - from, PIECE)
 }
 
 // Prints the first `count` records, a buffer of them after another. Where a call failed none follow.
@@ -263,9 +277,10 @@ fn judge_all(
         to: 0,
         streams: streams::untouched(leaks),
         findings: 0,
-        refusal: 0,
-        stop: 0,
+        refusal: None,
+        stop: None,
     };
+    // No range counts the pieces: the input ends where it ends.
     loop {
         let from = so_far.from;
         let to = so_far.to;
@@ -282,11 +297,14 @@ fn judge_all(
             out,
         );
         so_far = turned(rt, so_far, passed, &mut moved, buf, out);
-        if so_far.stop != 0 {
-            let finished = finish(rt, so_far, &mut moved, book, out);
-            return add_leaks(
-                rt, finished, &mut moved, rows, marks, pins, pinmarks, book, out,
-            );
+        match so_far.stop {
+            None => {}
+            Some(why) => {
+                let finished = finish(rt, so_far, why, &mut moved, book, out);
+                return add_leaks(
+                    rt, finished, &mut moved, rows, marks, pins, pinmarks, book, out,
+                );
+            }
         }
     }
 }

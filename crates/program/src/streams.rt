@@ -6,6 +6,7 @@ ghost use Rattle.program.specs.Printing.{nothing_yet, Newest, Due, with_read, Ha
 
 use std::io::{Read, Stdin, Stdout};
 
+// Three flags and no enum: a read and a write may both have failed, and what has ended stays so behind a read that fails.
 // Whether the leaks are printed behind the report; how many bytes were read, whether the input has ended behind them, whether a read failed, how many bytes were printed and whether a write failed.
 #[derive(Clone, Copy)]
 pub(crate) struct Streams {

@@ -1,21 +1,22 @@
 -- Calls of the judge: what the contracts say is the step over lent tables, and so what is proved of it. Assumes nothing.
-use Prim.Native.Nat.{ℕ, ◌≤◌}
+use Prim.Native.Nat.{ℕ}
 use mathlib.Core.Path.{◌≡◌, refl, ap, ap₂, sym, ◌∙◌}
-use mathlib.Core.Logic.{◌≢◌}
+use mathlib.Core.Bool.{Bool, true, false, true≢false}
 use mathlib.Core.List.{List, [], ◌∷◌}
-use native.Mathlib.Omega.{arith}
-use Rattle.history.specs.Replies.{Reply, accepted, not_accepted, reply}
-use Rattle.answers.specs.declared.Answer.{Answer}
-use Rattle.answers.specs.Answer.{refused_with, answer_of, answered}
-use Rattle.tables.specs.Tables.{Tables, tables}
+use Rattle.std.specs.Prelude.{Ok, Err}
+use Rattle.lines.specs.declared.refusal.Refusal.{Refusal}
+use Rattle.lines.specs.Numbered.{number_of}
+use Rattle.history.specs.Replies.{Reply, accepted, not_accepted}
+use Rattle.answers.specs.Answer.{Answer, answered}
+use Rattle.answers.proofs.Numbers.{its_number, number_most}
+use Rattle.tables.specs.Tables.{Tables}
 use Rattle.tables.specs.Stepping.{step_of, start_of}
 use Rattle.events.specs.Outcome.{Outcome}
 use Rattle.judge.specs.Outcome.{step_outcome}
-use Rattle.demands.specs.Demands.{Demands}
-use Rattle.demands.specs.Calls.{room_of, Long, after, from_start, heard_by}
+use Rattle.demands.specs.Calls.{after}
 use Rattle.demands.proofs.Demands.{demands}
-use Rattle.promises.specs.Calls.{Starts, Steps, Called, started, stepped}
-use Rattle.promises.specs.Promises.{RefusalChangesNothing, RefusalNumber, TablesAre, Answers}
+use Rattle.promises.specs.Calls.{Starts, Steps, started, stepped}
+use Rattle.promises.specs.Promises.{RefusalChangesNothing, RefusalNumber, TablesAre, Answers, RefusalAnswers}
 
 -- ---- what the contracts say
 
@@ -31,26 +32,31 @@ step_is {T} {S} {bs} {r} c = (
 
 -- ---- a refusal
 
--- an answer that refuses is of a reply that does
-refuses : (x : Reply) → (answered x).refusal ≢ 0 → (k : ℕ) × (x ≡ not_accepted k)
-unfolding answer_of
-refuses (accepted fs) h = absurd (h refl)
-refuses (not_accepted k) h = (k, refl)
+-- an answer that refuses is of a reply that does, by the number of the refusal
+refuses : (T : Tables) (bs : List ℕ) (k : Refusal) → Err k ≡ answered (step_of T bs).reply → (step_of T bs).reply ≡ not_accepted (number_of k)
+refuses T bs k h = go (step_of T bs).reply refl h
+  where
+    of_answer : Answer → Refusal
+    of_answer (Ok f) = k
+    of_answer (Err r) = r
+
+    is_found : Answer → Bool
+    is_found (Ok f) = true
+    is_found (Err r) = false
+
+    go : (x : Reply) → (step_of T bs).reply ≡ x → Err k ≡ answered x → (step_of T bs).reply ≡ not_accepted (number_of k)
+    go (accepted fs) e q = absurd (true≢false (sym (ap is_found q)))
+    go (not_accepted j) e q =
+        let n = (demands.of_any_tables T).refusal_numbered bs j e in
+        e ∙ ap not_accepted (sym (its_number j n.0 n.1) ∙ ap number_of (sym (ap of_answer q)))
 
 pub refusal_changes_nothing : RefusalChangesNothing
-refusal_changes_nothing T S bs r c refusing =
+refusal_changes_nothing T S bs r k c e =
     let s = step_is c in
-    let k = refuses (step_of T bs).reply (λ z. refusing (ap (λ (a : Answer). a.refusal) s.0 ∙ z)) in
-    let e : r ≡ refused_with k.0 = s.0 ∙ ap answered k.1 in
-    (s.1 ∙ (demands.of_any_tables T).refusal_changes_nothing bs k.0 k.1, e ∙ ap (λ (a : Answer). refused_with a.refusal) (sym e))
+    s.1 ∙ (demands.of_any_tables T).refusal_changes_nothing bs (number_of k) (refuses T bs k (sym e ∙ s.0))
 
 pub refusal_number : RefusalNumber
-unfolding answer_of
-refusal_number T S bs r c = let k = go (step_of T bs).reply refl (step_is c).0 in omega arith
-  where
-    go : (x : Reply) → (step_of T bs).reply ≡ x → r ≡ answered x → r.refusal ≤ 10
-    go (accepted fs) e h = let k : r.refusal ≡ 0 = ap (λ (a : Answer). a.refusal) h in omega arith
-    go (not_accepted k) e h = let j : r.refusal ≡ k = ap (λ (a : Answer). a.refusal) h in omega (arith, ((demands.of_any_tables T).refusal_numbered bs k e).1)
+refusal_number T S bs k c = number_most k
 
 -- ---- after a start
 
@@ -64,3 +70,9 @@ answers T S S' calls bs r long before c =
     (step_is c).0
     ∙ ap (λ (X : Tables). answered (step_of X bs).reply) (tables_are T S calls before)
     ∙ ap answered ((demands.from_a_start T long calls).replies bs)
+
+pub refusal_answers : RefusalAnswers
+refusal_answers T S S' calls bs k long before c =
+    sym ((demands.from_a_start T long calls).replies bs)
+    ∙ ap (λ (X : Tables). (step_of X bs).reply) (sym (tables_are T S calls before))
+    ∙ refuses S bs k (step_is c).0

@@ -1,6 +1,6 @@
 -- Calls of the code: what a function may answer and leave, by the contract that the checker makes of its text. Assumes nothing.
 -- Of a function f the checker makes `f.ended`, its signature, and `f.Reads.Learnt`, what a caller learns of the reply and of what is left.
-use Rattle.std.specs.Prelude.{ℕ, ◌≡◌, List, [], ◌∷◌}
+use Rattle.std.specs.Prelude.{ℕ, ◌≡◌, List, [], ◌∷◌, Result}
 use contract.Lifetimes.{Lfts}
 use denote.Triple.Entry.{Args}
 use denote.Triple.Clauses.{Lasts, at_exit}
@@ -13,22 +13,21 @@ use Rattle.judge.specs.contracts as of_judge
 use Rattle.leaks.proofs as leaks
 use Rattle.leaks.specs.contracts as of_leaks
 use Rattle.lines.specs.declared.Event.{Event}
-use Rattle.lines.specs.declared.Wrote.{Wrote}
-use Rattle.answers.specs.declared.Answer.{Answer}
-use Rattle.leaks.specs.declared.Listed.{Listed}
+use Rattle.lines.specs.declared.refusal.Refusal.{Refusal}
+use Rattle.answers.specs.Answer.{Answer}
 use Rattle.tables.specs.Tables.{Tables, tables}
 
--- a call of `lines::read_line` on these bytes answers e and leaves these slots
-pub record Reads (bs : List ℕ) (e : Event) (hs : List ℕ) : Type 0 where
+-- a call of `lines::read_line` on these bytes answers r and leaves these slots
+pub record Reads (bs : List ℕ) (r : Result Event Refusal) (hs : List ℕ) : Type 0 where
   pub κs : Lfts (of_lines.read_line.ended).signature.lifetimes
   pub args : Args (of_lines.read_line.ended).signature κs
   pub left : Lasts of_lines.read_line.ended κs args
   pub line : args.0.now ≡ bs
   pub slots : left.1.0 ≡ hs
-  pub promised : lines.read_line.Reads.Learnt κs args e (at_exit of_lines.read_line.ended κs args left)
+  pub promised : lines.read_line.Reads.Learnt κs args r (at_exit of_lines.read_line.ended κs args left)
 
--- a call of `writer::write_line` on a buffer d, an event and these slots answers r and leaves d'
-pub record Writes (d : List ℕ) (e : Event) (hs : List ℕ) (r : Wrote) (d' : List ℕ) : Type 0 where
+-- a call of `writer::write_line` on a buffer d, what the reader answered and these slots answers r and leaves d'
+pub record Writes (d : List ℕ) (e : Result Event Refusal) (hs : List ℕ) (r : Result ℕ Refusal) (d' : List ℕ) : Type 0 where
   pub κs : Lfts (of_writer.write_line.ended).signature.lifetimes
   pub args : Args (of_writer.write_line.ended).signature κs
   pub left : Lasts of_writer.write_line.ended κs args
@@ -58,7 +57,7 @@ pub record Steps (T : Tables) (bs : List ℕ) (r : Answer) (S : Tables) : Type 0
   pub promised : judge.step.Reads.Learnt κs args r (at_exit of_judge.step.ended κs args left)
 
 -- a call of `leaks::list` on tables T, whose classes it is not lent, and a slice ns answers r and leaves ns'
-pub record Lists (T : Tables) (ns : List ℕ) (r : Listed) (ns' : List ℕ) : Type 0 where
+pub record Lists (T : Tables) (ns : List ℕ) (r : Result ℕ Refusal) (ns' : List ℕ) : Type 0 where
   pub κs : Lfts (of_leaks.list.ended).signature.lifetimes
   pub args : Args (of_leaks.list.ended).signature κs
   pub left : Lasts of_leaks.list.ended κs args

@@ -7,7 +7,6 @@ ghost use Rattle.lines.specs.Apart.{apart_of, numbers_left};
 ghost use Rattle.reader.specs.Answers.{told, counted};
 
 use lines::apart;
-use lines::apart::Apart;
 use words::Handle;
 
 // Reads a lent line, all its bytes with the LF: its letter, or, below zero, the number given instead. Its numbers are left in the ten slots, 0 past them, with how many there are;
@@ -18,10 +17,10 @@ pub fn weir_read(line: &[u8], numbers: &mut [Handle; 10], count: &mut u32) -> i3
     ensures count_after { count.new ≡ counted (apart_of (read line.now)) count.old }
 {
     match apart::read_apart(line, numbers) {
-        Apart::Line { letter, count: n } => {
-            *count = n as u32;
-            letter as i32
+        Ok(read) => {
+            *count = read.count as u32;
+            i32::from(read.letter)
         }
-        Apart::Refused(k) => 0 - (k as i32),
+        Err(k) => k.told(),
     }
 }

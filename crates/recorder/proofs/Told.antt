@@ -2,41 +2,39 @@
 use mathlib.Core.Path.{◌≡◌, refl, ap, sym, subst, ◌∙◌}
 use mathlib.Core.Bool.{Bool, true, false, not, ◌&&◌, false≢true}
 use mathlib.Core.List.{List}
-use Prim.Native.Nat.{ℕ, zero, suc, ◌≤◌}
+use Prim.Native.Nat.{ℕ, suc, ◌≤◌}
 use native.Mathlib.Omega.{arith}
 use lib.Dec.{eqb, leb, ltb}
-use lib.IntN.{pos, ◌-ℤ◌}
+use lib.IntN.{pos}
 use lib.ListN.{length, take, drop}
 use mir.Syntax.{w32}
-use mir.Val.{SFits, to_z, of_z}
-use mir.ValLaws.{to_z_pos, to_z-of_z}
+use mir.Val.{SFits, to_z}
+use mir.ValLaws.{to_z_pos}
 use borrow.Author.Rules.{sfits_of}
-use Rattle.numbers.proofs.Minus.{minus_is, minus_fits}
+use Rattle.std.specs.Prelude.{Result, Ok, Err}
 use Rattle.words.specs.Choice.{if_true◌then◌else◌}
 use Rattle.words.specs.Lists.{any}
 use Rattle.lines.specs.Line.{K, O, M, Line, N, X, C, R, A, D, Z, states, longest, most_handles, is_allowed, is_zero}
 use Rattle.lines.specs.Reading.{Read, says, refused}
 use Rattle.lines.specs.Writing.{written}
-use Rattle.lines.specs.Events.{gives_status, not_zero, with_slots, meant, wrote}
+use Rattle.lines.specs.Events.{gives_status, not_zero, with_slots, meant_in, wrote}
 use Rattle.lines.specs.declared.Event.{Event}
-use Rattle.lines.specs.declared.Event.TheVariants as Event
-use Rattle.lines.specs.declared.Wrote.{Wrote}
-use Rattle.lines.specs.declared.Wrote.TheVariants as Wrote
+use Rattle.lines.specs.declared.refusal.Refusal.{Refusal}
 use Rattle.lines.proofs.Fits.{length_written}
 use Rattle.recorder.specs.Told.{told}
 
 -- ---- a line has at most 224 bytes before LF
 
-abbrev is_written : Wrote → Bool
-is_written (Wrote.Bytes n) = true
-is_written (Wrote.Refused k) = false
+abbrev is_written : Result ℕ Refusal → Bool
+is_written (Ok n) = true
+is_written (Err k) = false
 
-abbrev bytes : Wrote → ℕ
-bytes (Wrote.Bytes n) = n
-bytes (Wrote.Refused k) = 0
+abbrev bytes : Result ℕ Refusal → ℕ
+bytes (Ok n) = n
+bytes (Err k) = 0
 
 abbrev Short : List ℕ → Read → Type 0
-Short d m = (n : ℕ) → wrote m d ≡ Wrote.Bytes n → n ≤ suc longest
+Short d m = (n : ℕ) → wrote m d ≡ Ok n → n ≤ suc longest
 
 refused_short : (d : List ℕ) (k : ℕ) → Short d (refused k)
 refused_short d k n h = absurd (false≢true (ap is_written h))
@@ -44,7 +42,7 @@ refused_short d k n h = absurd (false≢true (ap is_written h))
 says_short : (d : List ℕ) (x : Line) → is_allowed x ≡ true → Short d (says x)
 says_short d x a n = go (ltb (length d) (length (written x)))
   where
-    go : (t : Bool) → (if_true t then Wrote.Refused 7 else Wrote.Bytes (length (written x))) ≡ Wrote.Bytes n → n ≤ suc longest
+    go : (t : Bool) → (if_true t then Err Refusal.NoRoom else Ok (length (written x))) ≡ Ok n → n ≤ suc longest
     go true h = absurd (false≢true (ap is_written h))
     go false h = subst (λ (m : ℕ). m ≤ suc longest) (ap bytes h) (length_written x a)
 
@@ -57,7 +55,7 @@ slots_short d i hs x = go (leb i most_handles) (not (any not_zero (drop i hs))) 
     go true false c r = refused_short d 3
     go false b c r = refused_short d 3
 
-meant_short : (d : List ℕ) (e : Event) (hs : List ℕ) → Short d (meant e hs)
+meant_short : (d : List ℕ) (e : Event) (hs : List ℕ) → Short d (meant_in e hs)
 meant_short d (Event.Enter t env n) hs = slots_short d n hs (N t env (take n hs))
 meant_short d (Event.Leave t r) hs = slots_short d 0 hs (X t r)
 meant_short d (Event.Call t env f a b c n) hs = slots_short d 0 hs (C t env f a b c n)
@@ -75,18 +73,12 @@ meant_short d (Event.Declare c s) hs = slots_short d 0 hs (states (K c s))
 meant_short d (Event.State t h c) hs = slots_short d 0 hs (states (O t h c))
 meant_short d (Event.Identify x sort c static final) hs = slots_short d 0 hs (states (M x sort c static final))
 meant_short d Event.End hs = slots_short d 0 hs Z
-meant_short d (Event.Refused k) hs = refused_short d 3
-
--- ---- a number below zero
 
 -- ---- by the writer's answer w
 
-module _ (e : Event) (hs d : List ℕ) {w : Wrote} (a : w ≡ wrote (meant e hs) d) where
-  pub bytes_fit : {n : ℕ} → w ≡ Wrote.Bytes n → SFits w32 (pos n)
+module _ (e : Event) (hs d : List ℕ) {w : Result ℕ Refusal} (a : w ≡ wrote (meant_in e hs) d) where
+  pub bytes_fit : {n : ℕ} → w ≡ Ok n → SFits w32 (pos n)
   bytes_fit {n} h = let s = meant_short d e hs n (sym a ∙ h) in sfits_of (omega arith)
 
-  pub bytes_told : {n : ℕ} → w ≡ Wrote.Bytes n → to_z w32 n ≡ told (wrote (meant e hs) d)
+  pub bytes_told : {n : ℕ} → w ≡ Ok n → to_z w32 n ≡ told (wrote (meant_in e hs) d)
   bytes_told {n} h = to_z_pos w32 n (bytes_fit h).sfits ∙ ap told (sym h ∙ a)
-
-  pub refused_told : (k : ℕ) → SFits w32 (pos k) → w ≡ Wrote.Refused k → to_z w32 (of_z w32 (pos 0 -ℤ to_z w32 k)) ≡ told (wrote (meant e hs) d)
-  refused_told k f h = to_z-of_z w32 (pos 0 -ℤ to_z w32 k) (minus_fits f) ∙ minus_is f ∙ ap told (sym h ∙ a)

@@ -8,11 +8,11 @@ use lib.Seq.{take-take, take-append_seam}
 use Rattle.words.specs.Lists.{joined}
 use Rattle.history.specs.Report.{shown_finding}
 use Rattle.history.specs.declared.Finding.{Finding}
-use Rattle.answers.specs.Answer.{most_found, no_findings, answer_of}
-use Rattle.report.specs.Shown.{shown_answer}
+use Rattle.answers.specs.Answer.{most_found, no_findings, findings_of}
+use Rattle.report.specs.Shown.{shown_findings}
 
-pub shown_accepted : (fs : List Finding) → length fs ≤ most_found → shown_answer (answer_of fs) ≡ joined fs shown_finding
-unfolding shown_answer answer_of
+pub shown_accepted : (fs : List Finding) → length fs ≤ most_found → shown_findings (findings_of fs) ≡ joined fs shown_finding
+unfolding shown_findings findings_of
 shown_accepted fs h =
     let all : min (length fs) most_found ≡ length fs = omega arith in
     ap (λ (xs : List Finding). joined xs shown_finding)

@@ -2,25 +2,25 @@
 use mathlib.Core.Path.{◌≡◌, refl, ap, ap₂, sym, ◌∙◌}
 use mathlib.Core.Bool.{Bool, true, false}
 use mathlib.Core.List.{List, [], ◌∷◌, ◌++◌, append_assoc}
-use Prim.Native.Nat.{ℕ, suc, ◌+◌, ◌≤◌, ◌<◌}
+use Prim.Native.Nat.{ℕ, min, suc, ◌+◌, ◌≤◌, ◌<◌}
 use native.Mathlib.Omega.{arith}
+use native.Mathlib.Decide.{dec_le}
+use Rattle.std.proofs.lemmas.List.{take_all}
 use native.Mathlib.Numerals.{add-one}
-use lib.ListN.{length, get_or, take, drop, set, length-append, length-take, drop_of_length-le}
-use lib.Seq.{length-take-le, drop-cons, get_or-take, paste, take-length, take-take}
+use lib.ListN.{length, get_or, take, drop, set, length-append, drop_of_length-le}
+use lib.Seq.{drop-cons, paste, take-length}
 use borrow.Author.Tests.{le-leb, ne_eqb}
 use Rattle.words.specs.Lists.{joined}
 use Rattle.words.specs.Text.{bytes, tab, line_feed}
 use Rattle.numbers.specs.Decimal.{digits}
 use Rattle.numbers.specs.Writing.{put, Puts}
-use Rattle.numbers.specs.declared.Room.{Room}
-use Rattle.numbers.specs.declared.Room.TheVariants.{To, Short}
+use Rattle.std.specs.Prelude.{Option, None, Some}
 use Rattle.numbers.proofs.Put.{put_one, put_put, length_put, roomy}
 use Rattle.history.specs.Report.{field_then, last_field, shown_finding, word_for, end_line}
 use Rattle.history.specs.Leaks.{shown_leak}
 use Rattle.history.specs.declared.Finding.{Finding}
-use Rattle.answers.specs.declared.Answer.{Answer}
 use Rattle.answers.specs.Answer.{no_finding}
-use Rattle.report.specs.Shown.{leak, shown_answer, field_with, two_fields, three_fields, end_head, leak_head, Fills}
+use Rattle.report.specs.Shown.{leak, field_with, two_fields, three_fields, end_head, leak_head, Fills}
 
 -- ---- zs is xs and then ys
 
@@ -89,35 +89,31 @@ module _ (closed : Bool) (refusal : ℕ) where
 
 -- ---- the findings of an answer, one after the other
 
--- the first n findings from number i on
-abbrev pub rest : List Finding → ℕ → ℕ → List ℕ
-rest found n i = joined (drop i (take n found)) shown_finding
+-- of a list of k at most
+pub take_least : (c k : ℕ) (xs : List Finding) → length xs ≤ k → take (min c k) xs ≡ take c xs
+take_least c k xs h = go (dec_le c k)
+  where
+    go : Dec (c ≤ k) → take (min c k) xs ≡ take c xs
+    go (yes l) = let e : min c k ≡ c = omega arith in rw e
+    go (no l) = let e : min c k ≡ k = omega arith in rw e (take_all k xs h ∙ sym (take_all c xs (omega arith)))
 
-module _ (a : Answer) {n : ℕ} (e : n ≡ length (take a.count a.found)) where
-  few : (n ≤ a.count) × (n ≤ length a.found)
-  few = let k = length-take a.count a.found in (omega arith, omega arith)
+-- the findings from number i on
+abbrev pub rest : List Finding → ℕ → List ℕ
+rest xs i = joined (drop i xs) shown_finding
 
-  pub rest_all : rest a.found n 0 ≡ shown_answer a
-  unfolding shown_answer
-  rest_all =
-      ap (λ (fs : List Finding). joined fs shown_finding)
-      (sym (take-take n a.count a.found few.0) ∙ ap (λ (k : ℕ). take k (take a.count a.found)) e ∙ take-length (take a.count a.found))
+pub rest_next : (xs : List Finding) (i : ℕ) → i < length xs → Parts (rest xs i) (shown_finding (get_or xs i no_finding)) (rest xs (i + 1))
+rest_next xs i h = record { whole = rw (add-one, drop-cons xs i no_finding h) }
 
-  pub rest_next : (i : ℕ) → i < n → Parts (rest a.found n i) (shown_finding (get_or a.found i no_finding)) (rest a.found n (i + 1))
-  rest_next i h =
-      let k = length-take-le n a.found few.1 in
-      record { whole = rw (add-one, drop-cons (take n a.found) i no_finding (omega arith), get_or-take n a.found i no_finding h) }
-
-  pub rest_end : (i : ℕ) → n ≤ i → rest a.found n i ≡ []
-  rest_end i h = let k = length-take-le n a.found few.1 in rw (drop_of_length-le (take n a.found) {i = i} (omega arith))
+pub rest_end : (xs : List Finding) (i : ℕ) → length xs ≤ i → rest xs i ≡ []
+rest_end xs i h = rw (drop_of_length-le xs {i = i} h)
 
 -- ---- bytes put where there is room
 
 pub fills_as : {d : List ℕ} {at : ℕ} {xs ys : List ℕ} {r : ℕ} {d' : List ℕ} → ys ≡ xs → Fills d at xs r d' → Fills d at ys r d'
 fills_as e f = rw e f
 
-pub fills_puts : {d : List ℕ} {at : ℕ} {xs : List ℕ} {r : ℕ} {d' : List ℕ} → Fills d at xs r d' → Puts d at xs (To r) d'
-fills_puts f = roomy f.fits (ap To f.past) f.left
+pub fills_puts : {d : List ℕ} {at : ℕ} {xs : List ℕ} {r : ℕ} {d' : List ℕ} → Fills d at xs r d' → Puts d at xs (Some r) d'
+fills_puts f = roomy f.fits (ap Some f.past) f.left
 
 -- one part is put, and the other behind it
 module _ {zs xs ys d e : List ℕ} {at p : ℕ} (parts : Parts zs xs ys) (f : Fills d at xs p e) where
@@ -133,28 +129,28 @@ module _ {zs xs ys d e : List ℕ} {at p : ℕ} (parts : Parts zs xs ys) (f : Fi
       }
 
 -- what `numbers::write` wrote, and a byte behind it
-module _ {e : List ℕ} {r : Room} (d : List ℕ) (at : ℕ) (xs : List ℕ) (b : ℕ) (room : at + length (xs ++ (b ∷ [])) ≤ length d) (w : Puts d at xs r e) where
+module _ {e : List ℕ} {r : Option ℕ} (d : List ℕ) (at : ℕ) (xs : List ℕ) (b : ℕ) (room : at + length (xs ++ (b ∷ [])) ≤ length d) (w : Puts d at xs r e) where
   fits : at + length xs < length d
   fits = omega (arith, length-append xs (b ∷ []))
 
-  replied : r ≡ To (at + length xs)
+  replied : r ≡ Some (at + length xs)
   replied = w.reply ∙ rw (le-leb (at + length xs) (length d) (omega (arith, fits)))
 
-  wrote : {p : ℕ} → r ≡ To p → Fills d at xs p e
+  wrote : {p : ℕ} → r ≡ Some p → Fills d at xs p e
   wrote {p} g =
-      let h : To p ≡ To (at + length xs) = sym g ∙ replied in
+      let h : Some p ≡ Some (at + length xs) = sym g ∙ replied in
       record { fits = omega (arith, fits); past = cc; left = w.left ∙ rw (le-leb (at + length xs) (length d) (omega (arith, fits))) }
 
-  pub to_fits : {p : ℕ} → r ≡ To p → p < length e
+  pub to_fits : {p : ℕ} → r ≡ Some p → p < length e
   to_fits g = omega (arith, fits, (wrote g).past, ap length (wrote g).left, length_put d at xs (omega (arith, fits)))
 
-  pub fills_one : {p : ℕ} → r ≡ To p → Fills d at (xs ++ (b ∷ [])) (p + 1) (set e p b)
+  pub fills_one : {p : ℕ} → r ≡ Some p → Fills d at (xs ++ (b ∷ [])) (p + 1) (set e p b)
   fills_one {p} g =
       fills_then {ys = b ∷ []} (record { whole = refl }) (wrote g)
       (record { fits = omega (arith, to_fits g); past = refl; left = put_one e p b (to_fits g) })
 
-  pub not_short : r ≡ Short → ⊥
-  not_short g = let h : Short ≡ To (at + length xs) = sym g ∙ replied in let z : ◌≡◌ {A = ℕ} 0 1 = cc in omega arith
+  pub not_short : r ≡ None → ⊥
+  not_short g = let h : None ≡ Some (at + length xs) = sym g ∙ replied in let z : ◌≡◌ {A = ℕ} 0 1 = cc in omega arith
 
 -- a whole copy
 pub fills_copied : {d' : List ℕ} (d : List ℕ) (at : ℕ) (s : List ℕ) (i : ℕ) → at + length s ≤ length d → i ≡ length s → d' ≡ paste d at s i

@@ -1,4 +1,4 @@
--- The findings of an answer as they are printed, and a leak; the parts that the code prints one by one, and what it leaves of each. Assumes nothing.
+-- The findings of a line as they are printed, and a leak; the parts that the code prints one by one, and what it leaves of each. Assumes nothing.
 use Rattle.std.specs.Prelude.{ℕ, ◌+◌, ◌≤◌, ◌≡◌, Bool, List, [], ◌∷◌, ◌++◌, length, take}
 use Rattle.words.specs.Lists.{joined}
 use Rattle.words.specs.Text.{bytes, tab, line_feed}
@@ -6,14 +6,14 @@ use Rattle.numbers.specs.Decimal.{digits}
 use Rattle.numbers.specs.Writing.{put}
 use Rattle.history.specs.Report.{shown_finding, word_for}
 use Rattle.history.specs.Leaks.{Leak}
-use Rattle.answers.specs.declared.Answer.{Answer}
+use Rattle.answers.specs.declared.Findings.{Findings}
 
 -- at most six findings of four fields, of twenty digits and the byte after them at most
 abbrev pub most_shown : ℕ
 most_shown = 504
 
-unfoldable pub shown_answer : Answer → List ℕ
-shown_answer a = joined (take a.count a.found) shown_finding
+unfoldable pub shown_findings : Findings → List ℕ
+shown_findings a = joined (take a.count a.found) shown_finding
 
 -- `leak`, and four fields
 abbrev pub longest_leak : ℕ

@@ -6,12 +6,11 @@ ghost use Rattle.numbers.specs.Decimal.{digits};
 ghost use Rattle.numbers.specs.Writing.{Puts};
 ghost use Rattle.history.specs.Report.{shown_finding, end_line};
 ghost use Rattle.history.specs.Leaks.{shown_leak};
-ghost use Rattle.report.specs.Shown.{most_shown, longest_leak, leak, shown_answer, field_with, three_fields, end_head, Fills};
+ghost use Rattle.report.specs.Shown.{most_shown, longest_leak, leak, shown_findings, field_with, three_fields, end_head, Fills};
 
-use answers::Answer;
+use answers::Findings;
 use history::Finding;
 use lines::{LINE_FEED, TAB};
-use numbers::Room;
 use words::Handle;
 
 // The findings of a line have at most so many bytes.
@@ -24,10 +23,7 @@ pub const LONGEST_LEAK: usize = 89;
 fn has_room(len: usize, at: usize, w: usize) -> bool
     ensures { (result ≡ true → at + w ≤ len) × (result ≡ false → len < at + w) }
 {
-    if len < w {
-        return false;
-    }
-    at <= len - w
+    w <= len && at <= len - w
 }
 
 // How long a number is with the byte after it.
@@ -56,11 +52,11 @@ fn put_field(d: &mut [u8], at: usize, n: Handle, after: u8) -> usize
     ensures { Fills d.old at (field_with n after) result d.new }
 {
     match numbers::write(d, at, n) {
-        Room::To(p) => {
+        Some(p) => {
             d[p] = after;
             p + 1
         }
-        Room::Short => at,
+        None => at,
     }
 }
 
@@ -81,54 +77,45 @@ fn put_finding(d: &mut [u8], at: usize, f: Finding) -> usize
     put_three(d, i, f.rule as Handle, f.place as Handle, f.thing)
 }
 
-// How many findings an answer has.
-fn count_of(answer: Answer) -> usize
-    ensures { (result ≡ length (take answer.count answer.found)) × (result ≤ 6) }
+// The first `count` of them.
+fn listed(found: &[Finding; 6], count: usize) -> &[Finding]
+    ensures { (result.now ≡ take count found.now) × (length result.now ≤ 6) }
 {
-    let n = answer.count;
-    let found = answer.found;
-    if n < found.len() { n } else { found.len() }
+    &found[..count.min(found.len())]
 }
 
-// How long the findings of an answer are.
-pub fn findings_width(answer: Answer) -> usize
-    ensures { (result ≡ length (shown_answer answer)) × (result ≤ most_shown) }
+// How long the findings of a line are.
+pub fn findings_width(found: Findings) -> usize
+    ensures { (result ≡ length (shown_findings found)) × (result ≤ most_shown) }
 {
-    let n = count_of(answer);
-    let found = answer.found;
     let mut w = 0;
-    let mut i = 0;
-    while i < n {
-        w = w + finding_width(found[i]);
-        i += 1;
+    for f in listed(&found.found, found.count) {
+        w += finding_width(*f);
     }
     w
 }
 
-// The findings of an answer, where there is room; what is past them.
-fn put_each(d: &mut [u8], from: usize, answer: Answer) -> usize
-    requires { from + length (shown_answer answer) ≤ length d.old }
-    ensures { Fills d.old from (shown_answer answer) result d.new }
+// The findings of a line, where there is room; what is past them.
+fn put_each(d: &mut [u8], from: usize, found: Findings) -> usize
+    requires { from + length (shown_findings found) ≤ length d.old }
+    ensures { Fills d.old from (shown_findings found) result d.new }
 {
-    let n = count_of(answer);
-    let found = answer.found;
     let mut at = from;
-    let mut i = 0;
-    while i < n {
-        at = put_finding(d, at, found[i]);
-        i += 1;
+    for f in listed(&found.found, found.count) {
+        at = put_finding(d, at, *f);
     }
     at
 }
 
-// Writes the findings of an answer at a place; where there is no room nothing is written.
-pub fn put_findings(out: &mut [u8], at: usize, answer: Answer) -> Room
-    ensures { Puts out.old at (shown_answer answer) result out.new }
+// Writes the findings of a line at a place; what is past them, or none where there is no room and nothing is written.
+pub fn put_findings(out: &mut [u8], at: usize, found: Findings) -> Option<usize>
+    ensures { Puts out.old at (shown_findings found) result out.new }
 {
-    if has_room(out.len(), at, findings_width(answer)) {
-        return Room::To(put_each(out, at, answer));
+    if has_room(out.len(), at, findings_width(found)) {
+        Some(put_each(out, at, found))
+    } else {
+        None
     }
-    Room::Short
 }
 
 // The bytes s, where there is room; what is past them.
@@ -136,48 +123,34 @@ fn put_bytes(d: &mut [u8], at: usize, s: &[u8]) -> usize
     requires { at + length s.now ≤ length d.old }
     ensures { Fills d.old at s.now result d.new }
 {
-    let mut i = 0;
-    while i < s.len() {
-        d[at + i] = s[i];
-        i += 1;
-    }
-    at + i
+    let end = at + s.len();
+    d[at..end].copy_from_slice(s);
+    end
 }
 
-// How long what stands before the numbers of the last line is.
-fn head_width(closed: bool, refusal: u8) -> usize
-    ensures { (result ≡ length (end_head closed refusal)) × (result ≤ 12) }
+// What stands before the numbers of the last line. A number for the refusal, 0 for none, as it is printed.
+fn head_of(closed: bool, refusal: u8) -> &'static [u8]
+    ensures { (result.now ≡ end_head closed refusal) × (length result.now ≤ 12) }
 {
     if refusal != 0 {
-        return b"end\trefused\t".len();
+        b"end\trefused\t"
+    } else if closed {
+        b"end\tclosed\t"
+    } else {
+        b"end\topen\t"
     }
-    if closed {
-        return b"end\tclosed\t".len();
-    }
-    b"end\topen\t".len()
-}
-
-fn put_head(d: &mut [u8], at: usize, closed: bool, refusal: u8) -> usize
-    requires { at + length (end_head closed refusal) ≤ length d.old }
-    ensures { Fills d.old at (end_head closed refusal) result d.new }
-{
-    if refusal != 0 {
-        return put_bytes(d, at, b"end\trefused\t");
-    }
-    if closed {
-        return put_bytes(d, at, b"end\tclosed\t");
-    }
-    put_bytes(d, at, b"end\topen\t")
 }
 
 // How long the last line is.
 pub fn end_width(closed: bool, lines: u32, refusal: u8, printed: u32) -> usize
     ensures { (result ≡ length (end_line closed lines refusal printed)) × (result ≤ 75) }
 {
-    head_width(closed, refusal) + three_width(lines as Handle, refusal as Handle, printed as Handle)
+    head_of(closed, refusal).len()
+        + three_width(lines as Handle, refusal as Handle, printed as Handle)
 }
 
-// Writes the last line of a report at a place; where there is no room nothing is written.
+// Writes the last line of a report at a place; what is past it, or none where there is no room and nothing is written.
+// Any number is taken for a refusal, as `end_line` of history says.
 pub fn put_end(
     out: &mut [u8],
     at: usize,
@@ -185,20 +158,21 @@ pub fn put_end(
     lines: u32,
     refusal: u8,
     printed: u32,
-) -> Room
+) -> Option<usize>
     ensures { Puts out.old at (end_line closed lines refusal printed) result out.new }
 {
     if has_room(out.len(), at, end_width(closed, lines, refusal, printed)) {
-        let i = put_head(out, at, closed, refusal);
-        return Room::To(put_three(
+        let i = put_bytes(out, at, head_of(closed, refusal));
+        Some(put_three(
             out,
             i,
             lines as Handle,
             refusal as Handle,
             printed as Handle,
-        ));
+        ))
+    } else {
+        None
     }
-    Room::Short
 }
 
 // How long a leak is.
@@ -208,7 +182,7 @@ pub fn leak_width(rule: Handle, thread: Handle, value: Handle, line: Handle) -> 
     b"leak\t".len() + field_width(rule) + three_width(thread, value, line)
 }
 
-// Writes a leak at a place; where there is no room nothing is written.
+// Writes a leak at a place; what is past it, or none where there is no room and nothing is written.
 pub fn put_leak(
     out: &mut [u8],
     at: usize,
@@ -216,13 +190,14 @@ pub fn put_leak(
     thread: Handle,
     value: Handle,
     line: Handle,
-) -> Room
+) -> Option<usize>
     ensures { Puts out.old at (shown_leak (leak rule thread value line)) result out.new }
 {
     if has_room(out.len(), at, leak_width(rule, thread, value, line)) {
         let i = put_bytes(out, at, b"leak\t");
         let j = put_field(out, i, rule, TAB);
-        return Room::To(put_three(out, j, thread, value, line));
+        Some(put_three(out, j, thread, value, line))
+    } else {
+        None
     }
-    Room::Short
 }

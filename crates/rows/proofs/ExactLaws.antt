@@ -2,7 +2,7 @@
 use mathlib.Core.Path.{◌≡◌, refl, sym, ap, ◌∙◌}
 use mathlib.Core.Bool.{Bool, true, false, not, false≢true}
 use mathlib.Core.List.{List}
-use mathlib.Core.Option.{none, some}
+use Rattle.std.specs.Prelude.{None, Some}
 use Prim.Native.Nat.{ℕ, zero, suc, ◌+◌, ◌*◌, ◌/◌, ◌%◌, ◌≤◌, ◌<◌}
 use native.Mathlib.Decide.{ℕ_discrete, dec_lt}
 use native.Mathlib.Omega.{arith}
@@ -119,17 +119,17 @@ module _ {A : Type 0} (L : Layout A) where
         each_mark = λ r. rw (at r) (marks (used T.marks r) (row_at L T.rows r));
       }
     where
-      at : (r : ℕ) → get_or (view L T) r none ≡ (if_true used T.marks r then some (row_at L T.rows r) else none)
+      at : (r : ℕ) → get_or (view L T) r None ≡ (if_true used T.marks r then Some (row_at L T.rows r) else None)
       at r = go (dec_lt r (room L T))
         where
-          go : Dec (r < room L T) → get_or (view L T) r none ≡ (if_true used T.marks r then some (row_at L T.rows r) else none)
+          go : Dec (r < room L T) → get_or (view L T) r None ≡ (if_true used T.marks r then Some (row_at L T.rows r) else None)
           go (yes h) = unfold slot in view_at L T r h
           go (no h) = view_past L T r (omega arith) ∙ rw (k.within r (omega arith))
 
-      rows : (r : ℕ) (b : Bool) → used T.marks r ≡ b → row L.stride T.rows r ≡ spelled L (if_true b then some (row_at L T.rows r) else none)
+      rows : (r : ℕ) (b : Bool) → used T.marks r ≡ b → row L.stride T.rows r ≡ spelled L (if_true b then Some (row_at L T.rows r) else None)
       rows r true u = sym (spells T.rows r)
       rows r false u = k.zeroed r u
 
-      marks : (b : Bool) (x : A) → b ≡ not (empty (if_true b then some x else none))
+      marks : (b : Bool) (x : A) → b ≡ not (empty (if_true b then Some x else None))
       marks true x = refl
       marks false x = refl

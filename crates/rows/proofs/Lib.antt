@@ -9,6 +9,5 @@ pub mod FreeLaws
 mod ClassLaws
 pub mod SlotLaws
 pub mod RowLaws
-mod SoughtLaws
 pub mod ViewLaws
 pub mod ExactLaws

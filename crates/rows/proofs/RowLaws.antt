@@ -2,7 +2,7 @@
 use mathlib.Core.Path.{◌≡◌, refl, sym, ap, ◌∙◌}
 use mathlib.Core.Bool.{Bool, true, false}
 use mathlib.Core.List.{List}
-use mathlib.Core.Option.{map, none, some}
+use Rattle.std.specs.Prelude.{option_map, None, Some}
 use Prim.Native.Nat.{ℕ, suc, ◌+◌, ◌*◌, ◌/◌, ◌≤◌, ◌<◌}
 use native.Mathlib.Nat.{mul-le-mul_right, suc-mul, div-mul-le_self}
 use native.Mathlib.Omega.{arith}
@@ -78,7 +78,7 @@ module _ {A : Type 0} (L : Layout A) where
   at_other rs vs r k e n = ap L.row_of (row_other L.stride vs e rs r k n)
 
   -- ---- the slots
-  pub slot_stored_same : (T : Table) (r : ℕ) (x : A) → r < room L T → slot L (stored L T r x) r ≡ some x
+  pub slot_stored_same : (T : Table) (r : ℕ) (x : A) → r < room L T → slot L (stored L T r x) r ≡ Some x
   unfolding slot
   slot_stored_same T r x h =
       rw (stored_in T r x h, used_marked_same T.marks r (in_words T r h), at_same T.rows r x (in_table T r h))
@@ -88,11 +88,11 @@ module _ {A : Type 0} (L : Layout A) where
   slot_stored_other T r k x h n =
       rw (stored_in T r x h, used_marked_other T.marks r k (in_words T r h) n, at_other T.rows (L.numbers x) r k (L.whole x) n)
 
-  pub slot_changed_same : (T : Table) (r : ℕ) (g : A → A) → r < room L T → slot L (changed L T r g) r ≡ map g (slot L T r)
+  pub slot_changed_same : (T : Table) (r : ℕ) (g : A → A) → r < room L T → slot L (changed L T r g) r ≡ option_map g (slot L T r)
   unfolding slot
   slot_changed_same T r g h = rw (changed_in T r g h, at_same T.rows r (g (row_at L T.rows r)) (in_table T r h)) (go (used T.marks r))
     where
-      go : (b : Bool) → (if_true b then some (g (row_at L T.rows r)) else none) ≡ map g (if_true b then some (row_at L T.rows r) else none)
+      go : (b : Bool) → (if_true b then Some (g (row_at L T.rows r)) else None) ≡ option_map g (if_true b then Some (row_at L T.rows r) else None)
       go true = refl
       go false = refl
 
@@ -101,7 +101,7 @@ module _ {A : Type 0} (L : Layout A) where
   slot_changed_other T r k g h n =
       rw (changed_in T r g h, at_other T.rows (L.numbers (g (row_at L T.rows r))) r k (L.whole (g (row_at L T.rows r))) n)
 
-  pub slot_ended_same : (T : Table) (r : ℕ) → r < room L T → slot L (ended L T r) r ≡ none
+  pub slot_ended_same : (T : Table) (r : ℕ) → r < room L T → slot L (ended L T r) r ≡ None
   unfolding slot
   slot_ended_same T r h = rw (ended_in T r h, used_unmarked_same T.marks r (in_words T r h))
 

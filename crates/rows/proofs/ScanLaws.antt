@@ -173,6 +173,3 @@ how_many_first p = refl
 
 pub how_many_next : (p : ℕ → Bool) (s i k : ℕ) (b : Bool) → s ≡ how_many p i → b ≡ p i → k ≡ one b → s + k ≡ how_many p (i + 1)
 how_many_next p s i k b e f g = rw (add-one i, how_many_suc p i) (cc)
-
-pub how_many_end : (p : ℕ → Bool) (s i m : ℕ) → s ≡ how_many p i → i ≤ m → m ≤ i → s ≡ how_many p m
-how_many_end p s i m e l g = let x : i ≡ m = omega arith in cc

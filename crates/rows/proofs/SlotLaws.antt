@@ -2,7 +2,7 @@
 use mathlib.Core.Path.{◌≡◌, refl, ap, ap₂, ◌∙◌}
 use mathlib.Core.Bool.{Bool, true, false, ◌||◌}
 use mathlib.Core.List.{List, [], ◌∷◌}
-use mathlib.Core.Option.{Option, map, none, some}
+use Rattle.std.specs.Prelude.{Option, option_map, None, Some}
 use Prim.Native.Nat.{ℕ, zero, suc, ◌+◌, ◌<◌, suc-le-suc}
 use native.Mathlib.Nat.{zero-lt-suc, not-suc-le-zero, le_of_suc-le-suc, suc_inj}
 use native.Mathlib.Omega.{arith}
@@ -60,52 +60,52 @@ module _ {A : Type 0} where
 
 -- ---- what is put into the lowest free slot, or taken from the lowest that passes, or made of it, or said of it
 module _ {A : Type 0} where
-  pub put_is_set : (x : A) (s : List (Option A)) → put x s ≡ set s (place_of empty s) (some x)
+  pub put_is_set : (x : A) (s : List (Option A)) → put x s ≡ set s (place_of empty s) (Some x)
   put_is_set x [] = refl
-  put_is_set x (none ∷ s) = refl
-  put_is_set x (some y ∷ s) = ap {B = List (Option A)} (λ l. some y ∷ l) (put_is_set x s)
+  put_is_set x (None ∷ s) = refl
+  put_is_set x (Some y ∷ s) = ap {B = List (Option A)} (λ l. Some y ∷ l) (put_is_set x s)
 
-  pub wipe_first_is_set : (q : A → Bool) (s : List (Option A)) → wipe_first q s ≡ set s (place_of (holding q) s) none
+  pub wipe_first_is_set : (q : A → Bool) (s : List (Option A)) → wipe_first q s ≡ set s (place_of (holding q) s) None
   wipe_first_is_set q [] = refl
-  wipe_first_is_set q (none ∷ s) = ap {B = List (Option A)} (λ l. none ∷ l) (wipe_first_is_set q s)
-  wipe_first_is_set q (some x ∷ s) = go (q x) (wipe_first_is_set q s)
+  wipe_first_is_set q (None ∷ s) = ap {B = List (Option A)} (λ l. None ∷ l) (wipe_first_is_set q s)
+  wipe_first_is_set q (Some x ∷ s) = go (q x) (wipe_first_is_set q s)
     where
-      go : (b : Bool) → wipe_first q s ≡ set s (place_of (holding q) s) none
-          → ◌≡◌ {A = List (Option A)} (if_true b then none ∷ s else some x ∷ wipe_first q s) (set (some x ∷ s) (if_true b then 0 else suc (place_of (holding q) s)) none)
+      go : (b : Bool) → wipe_first q s ≡ set s (place_of (holding q) s) None
+          → ◌≡◌ {A = List (Option A)} (if_true b then None ∷ s else Some x ∷ wipe_first q s) (set (Some x ∷ s) (if_true b then 0 else suc (place_of (holding q) s)) None)
       go true ih = refl
-      go false ih = ap {B = List (Option A)} (λ l. some x ∷ l) ih
+      go false ih = ap {B = List (Option A)} (λ l. Some x ∷ l) ih
 
   pub change_first_is_set : (q : A → Bool) (g : A → A) (s : List (Option A))
-      → change_first q g s ≡ set s (place_of (holding q) s) (map g (get_or s (place_of (holding q) s) none))
+      → change_first q g s ≡ set s (place_of (holding q) s) (option_map g (get_or s (place_of (holding q) s) None))
   change_first_is_set q g [] = refl
-  change_first_is_set q g (none ∷ s) = ap {B = List (Option A)} (λ l. none ∷ l) (change_first_is_set q g s)
-  change_first_is_set q g (some x ∷ s) = go (q x) (change_first_is_set q g s)
+  change_first_is_set q g (None ∷ s) = ap {B = List (Option A)} (λ l. None ∷ l) (change_first_is_set q g s)
+  change_first_is_set q g (Some x ∷ s) = go (q x) (change_first_is_set q g s)
     where
-      go : (b : Bool) → change_first q g s ≡ set s (place_of (holding q) s) (map g (get_or s (place_of (holding q) s) none))
+      go : (b : Bool) → change_first q g s ≡ set s (place_of (holding q) s) (option_map g (get_or s (place_of (holding q) s) None))
           → (let r : ℕ = if_true b then 0 else suc (place_of (holding q) s) in
-          ◌≡◌ {A = List (Option A)} (if_true b then some (g x) ∷ s else some x ∷ change_first q g s) (set (some x ∷ s) r (map g (get_or (some x ∷ s) r none))))
+          ◌≡◌ {A = List (Option A)} (if_true b then Some (g x) ∷ s else Some x ∷ change_first q g s) (set (Some x ∷ s) r (option_map g (get_or (Some x ∷ s) r None))))
       go true ih = refl
-      go false ih = ap {B = List (Option A)} (λ l. some x ∷ l) ih
+      go false ih = ap {B = List (Option A)} (λ l. Some x ∷ l) ih
 
   -- what f says of a slot, 0 of a free one
   abbrev pub said : (A → ℕ) → Option A → ℕ
-  said f none = 0
-  said f (some x) = f x
+  said f None = 0
+  said f (Some x) = f x
 
-  pub of_first_is_said : (q : A → Bool) (f : A → ℕ) (s : List (Option A)) → of_first q f (held s) ≡ said f (get_or s (place_of (holding q) s) none)
+  pub of_first_is_said : (q : A → Bool) (f : A → ℕ) (s : List (Option A)) → of_first q f (held s) ≡ said f (get_or s (place_of (holding q) s) None)
   of_first_is_said q f [] = refl
-  of_first_is_said q f (none ∷ s) = of_first_is_said q f s
-  of_first_is_said q f (some x ∷ s) = go (q x) (of_first_is_said q f s)
+  of_first_is_said q f (None ∷ s) = of_first_is_said q f s
+  of_first_is_said q f (Some x ∷ s) = go (q x) (of_first_is_said q f s)
     where
-      go : (b : Bool) → of_first q f (held s) ≡ said f (get_or s (place_of (holding q) s) none)
-          → (if_true b then f x else of_first q f (held s)) ≡ said f (get_or (some x ∷ s) (if_true b then 0 else suc (place_of (holding q) s)) none)
+      go : (b : Bool) → of_first q f (held s) ≡ said f (get_or s (place_of (holding q) s) None)
+          → (if_true b then f x else of_first q f (held s)) ≡ said f (get_or (Some x ∷ s) (if_true b then 0 else suc (place_of (holding q) s)) None)
       go true ih = refl
       go false ih = ih
 
   -- a slot freed where it passes
   abbrev pub freed : (A → Bool) → Option A → Option A
-  freed q none = none
-  freed q (some x) = if_true q x then none else some x
+  freed q None = None
+  freed q (Some x) = if_true q x then None else Some x
 
   pub wipe_each : (q : A → Bool) (f : ℕ → Option A) (n : ℕ) → each (λ k. freed q (f k)) n ≡ wipe q (each f n)
   wipe_each q f zero = refl
@@ -113,24 +113,24 @@ module _ {A : Type 0} where
     where
       go : (s : Option A) → each (λ k. freed q (f (suc k))) n ≡ wipe q (each (λ k. f (suc k)) n)
           → freed q s ∷ each (λ k. freed q (f (suc k))) n ≡ wipe q (s ∷ each (λ k. f (suc k)) n)
-      go none ih = ap {B = List (Option A)} (λ l. none ∷ l) ih
-      go (some x) ih = ap {B = List (Option A)} (λ l. freed q (some x) ∷ l) ih
+      go None ih = ap {B = List (Option A)} (λ l. None ∷ l) ih
+      go (Some x) ih = ap {B = List (Option A)} (λ l. freed q (Some x) ∷ l) ih
 
   -- ---- what is held
   pub count_held : (q : A → Bool) (s : List (Option A)) → count (holding q) s ≡ count q (held s)
   count_held q [] = refl
-  count_held q (none ∷ s) = count_held q s
-  count_held q (some x ∷ s) = ap (λ (m : ℕ). if_true q x then suc m else m) (count_held q s)
+  count_held q (None ∷ s) = count_held q s
+  count_held q (Some x ∷ s) = ap (λ (m : ℕ). if_true q x then suc m else m) (count_held q s)
 
   pub length_held : (s : List (Option A)) → count (holding (λ x. true)) s ≡ length (held s)
   length_held [] = refl
-  length_held (none ∷ s) = length_held s
-  length_held (some x ∷ s) = ap suc (length_held s)
+  length_held (None ∷ s) = length_held s
+  length_held (Some x ∷ s) = ap suc (length_held s)
 
   pub any_held : (q : A → Bool) (s : List (Option A)) → ltb (place_of (holding q) s) (length s) ≡ any q (held s)
   any_held q [] = le-ltb 0 0 (omega arith)
-  any_held q (none ∷ s) = leb-suc-suc (suc (place_of (holding q) s)) (length s) ∙ any_held q s
-  any_held q (some x ∷ s) = go (q x) (any_held q s)
+  any_held q (None ∷ s) = leb-suc-suc (suc (place_of (holding q) s)) (length s) ∙ any_held q s
+  any_held q (Some x ∷ s) = go (q x) (any_held q s)
     where
       go : (b : Bool) → ltb (place_of (holding q) s) (length s) ≡ any q (held s)
           → ltb (if_true b then 0 else suc (place_of (holding q) s)) (suc (length s)) ≡ (b || any q (held s))
@@ -139,5 +139,5 @@ module _ {A : Type 0} where
 
   pub held_put : (x : A) (s : List (Option A)) → place_of empty s < length s → length (held (put x s)) ≡ suc (length (held s))
   held_put x [] h = absurd (not-suc-le-zero h)
-  held_put x (none ∷ s) h = refl
-  held_put x (some y ∷ s) h = ap suc (held_put x s (le_of_suc-le-suc h))
+  held_put x (None ∷ s) h = refl
+  held_put x (Some y ∷ s) h = ap suc (held_put x s (le_of_suc-le-suc h))

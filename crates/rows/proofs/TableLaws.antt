@@ -1,26 +1,32 @@
 -- What the functions' proofs ask, in the words of the definitions: one law for each return. Assumes nothing.
 use mathlib.Core.Path.{◌≡◌, refl, sym, ap, ap₂, ◌∙◌}
 use mathlib.Core.Bool.{Bool, true, false, ◌&&◌}
-use mathlib.Core.List.{List, ◌++◌, append-nil}
-use mathlib.Core.Option.{none, some}
+use mathlib.Core.List.{List}
+use Rattle.std.specs.Prelude.{None, Some}
 use Prim.Native.Nat.{ℕ, zero, suc, ◌+◌, ◌-◌, ◌*◌, ◌/◌, ◌%◌, ◌^◌, ◌≤◌, ◌<◌}
 use native.Mathlib.Nat.{add-zero}
 use native.Mathlib.Numerals.{add-one}
-use native.Mathlib.Decide.{dec_lt}
 use native.Mathlib.Omega.{arith}
-use borrow.Author.Fill.{fill_none, fill_more}
 use borrow.Author.Tests.{lt-ltb, le-ltb}
-use lib.ListN.{length, get_or, set, replicate, drop}
-use lib.Seq.{drop-length}
-use lib.Dec.{ltb}
+use lib.ListN.{length, get_or, replicate}
+use mir.Val.{bool_byte}
 use Rattle.words.specs.Choice.{one}
-use Rattle.rows.specs.Scan.{how_many, lowest, some_below}
+use Rattle.rows.specs.Scan.{how_many, lowest}
 use Rattle.rows.specs.Marks.{word, in_word, used, marked, unmarked}
-use Rattle.rows.specs.Table.{Layout, Table, table, put_row, room, row_at, matches, passes, free_row, alive, counted, some_row, stored, taken, changed, ended, ended_if, ended_from, ended_all, cleared}
+use Rattle.rows.specs.Table.{Layout, Table, table, put_row, room, row_at, matches, passes, free_row, alive, counted, stored, taken, changed, ended, ended_if, ended_from, ended_all, cleared}
 use Rattle.rows.specs.View.{slot, view}
 use Rattle.rows.proofs.ViewLaws.{view_at, view_past}
 use Rattle.rows.proofs.ScanLaws.{how_many_ext, each_fails, none_passes, lowest_none}
-use Rattle.rows.proofs.MarkLaws.{word_unused, word_used, sum_next, search_hit, search_last}
+use Rattle.rows.proofs.MarkLaws.{word_unused, word_used, sum_next}
+
+-- a test's answer as a number
+pub byte_one : (b : Bool) → bool_byte b ≡ one b
+byte_one true = refl
+byte_one false = refl
+
+pub byte_most : (b : Bool) → bool_byte b ≤ 1
+byte_most true = omega arith
+byte_most false = omega arith
 
 module _ {A : Type 0} (L : Layout A) where
   -- ---- what the marks say of the room
@@ -29,16 +35,16 @@ module _ {A : Type 0} (L : Layout A) where
   alive_rows rs ms n r a b = cc
 
   -- ---- a slot: past the room, used, or not
-  pub slot_past : (T : Table) (n r : ℕ) → n ≡ room L T → n ≤ r → none ≡ get_or (view L T) r none
+  pub slot_past : (T : Table) (n r : ℕ) → n ≡ room L T → n ≤ r → None ≡ get_or (view L T) r None
   slot_past T n r a l = sym (view_past L T r (omega arith))
 
   pub slot_used : (rs ms : List ℕ) (n r : ℕ) (b : Bool) (x : A) → n ≡ room L (table rs ms) → r < n → b ≡ used ms r → b ≡ true → x ≡ row_at L rs r
-      → some x ≡ get_or (view L (table rs ms)) r none
+      → Some x ≡ get_or (view L (table rs ms)) r None
   unfolding slot
-  slot_used rs ms n r b x a l e y f = ap some f ∙ rw (view_at L (table rs ms) r (omega arith), ← e, y)
+  slot_used rs ms n r b x a l e y f = ap Some f ∙ rw (view_at L (table rs ms) r (omega arith), ← e, y)
 
   pub slot_free : (rs ms : List ℕ) (n r : ℕ) (b : Bool) → n ≡ room L (table rs ms) → r < n → b ≡ used ms r → b ≡ false
-      → none ≡ get_or (view L (table rs ms)) r none
+      → None ≡ get_or (view L (table rs ms)) r None
   unfolding slot
   slot_free rs ms n r b a l e y = rw (view_at L (table rs ms) r (omega arith), ← e, y)
 
@@ -75,13 +81,14 @@ module _ {A : Type 0} (L : Layout A) where
   end_none rs ms n r a l = rw (le-ltb r (room L (table rs ms)) (omega arith))
 
   -- ---- a row's test: what stands there, then its mark
-  pub test_yes : (q : A → Bool) (rs ms : List ℕ) (r : ℕ) (a b : Bool) → a ≡ matches L q rs r → a ≡ true → b ≡ used ms r → b ≡ passes L q (table rs ms) r
-  unfolding passes
-  test_yes q rs ms r a b e f g = g ∙ rw (sym e ∙ f)
+  pub test_yes : (q : A → Bool) (rs ms : List ℕ) (r : ℕ) (x : A) (a b : Bool) → x ≡ row_at L rs r → a ≡ q x → a ≡ true → b ≡ used ms r
+      → b ≡ passes L q (table rs ms) r
+  unfolding passes matches
+  test_yes q rs ms r x a b d e f g = g ∙ rw (sym (ap q d) ∙ sym e ∙ f)
 
-  pub test_no : (q : A → Bool) (rs ms : List ℕ) (r : ℕ) (a : Bool) → a ≡ matches L q rs r → a ≡ false → false ≡ passes L q (table rs ms) r
-  unfolding passes
-  test_no q rs ms r a e f = rw (sym e ∙ f)
+  pub test_no : (q : A → Bool) (rs ms : List ℕ) (r : ℕ) (x : A) (a : Bool) → x ≡ row_at L rs r → a ≡ q x → a ≡ false → false ≡ passes L q (table rs ms) r
+  unfolding passes matches
+  test_no q rs ms r x a d e f = rw (sym (ap q d) ∙ sym e ∙ f)
 
   pub match_next : (q : A → Bool) (rs : List ℕ) (w s i k : ℕ) (x : A) (b : Bool) → s ≡ how_many (in_word (matches L q rs) w) i
       → x ≡ row_at L rs (w * word + i) → b ≡ q x → k ≡ one b → s + k ≡ how_many (in_word (matches L q rs) w) (i + 1)
@@ -145,21 +152,6 @@ module _ {A : Type 0} (L : Layout A) where
   counted_all q T s n a e =
       e ∙ how_many_ext (λ i. passes L q T (0 * word + i)) (passes L q T) n (λ i l. let x : 0 * word + i ≡ i = omega arith in ap (passes L q T) x)
       ∙ ap (how_many (passes L q T)) a
-
-  pub some_hit : (q : A → Bool) (T : Table) (w i n : ℕ) → w * word ≡ lowest (passes L q T) (w * word) → i ≡ lowest (in_word (passes L q T) w) word
-      → i < word → w < n / word → n ≡ room L T → true ≡ some_row L q T
-  unfolding some_row some_below
-  some_hit q T w i n a b l g e =
-      sym (lt-ltb (lowest (passes L q T) (room L T)) (room L T) (omega (arith, search_hit (passes L q T) w i n (room L T) a b l g e)))
-
-  pub some_last : (q : A → Bool) (T : Table) (w i n : ℕ) → w * word ≡ lowest (passes L q T) (w * word) → w ≤ n / word → n / word ≤ w → n ≡ room L T
-      → i ≡ lowest (in_word (passes L q T) (n / word)) (n % word) → ltb i (n % word) ≡ some_row L q T
-  unfolding some_row some_below
-  some_last q T w i n a l g e b = go (dec_lt i (n % word)) (search_last (passes L q T) w i n (room L T) a l g e b)
-    where
-      go : Dec (i < n % word) → n / word * word + i ≡ lowest (passes L q T) (room L T) → ltb i (n % word) ≡ ltb (lowest (passes L q T) (room L T)) (room L T)
-      go (yes m) f = lt-ltb i (n % word) m ∙ sym (lt-ltb (lowest (passes L q T) (room L T)) (room L T) (omega arith))
-      go (no m) f = le-ltb i (n % word) (omega arith) ∙ sym (le-ltb (lowest (passes L q T) (room L T)) (room L T) (omega arith))
 
   -- ---- rows ended one after another
   pub end_passes : (q : A → Bool) (T S : Table) (r : ℕ) (b : Bool) → b ≡ passes L q T r → b ≡ true → S ≡ ended L T r → S ≡ ended_if L q T r
@@ -230,24 +222,6 @@ module _ {A : Type 0} (L : Layout A) where
       let d : n / word * word + n % word ≡ room L T = omega arith in
       f ∙ ap (λ (X : Table). ended_from L q X (n / word * word) (n % word)) (e ∙ ap (ended_from L q T 0) c)
       ∙ onward q T (n / word * word) (n % word) ∙ ap (ended_from L q T 0) d
-
--- ---- a list filled from the front, whatever its numbers' width
-unfoldable pub filled : List ℕ → ℕ → ℕ → List ℕ
-filled a₀ n v = replicate n v ++ drop n a₀
-
-pub fill_first : (a₀ : List ℕ) (v : ℕ) → a₀ ≡ filled a₀ 0 v
-unfolding filled
-fill_first a₀ v = fill_none a₀ v
-
-pub fill_next : (a a₀ : List ℕ) (n v : ℕ) → n < length a → length a ≡ length a₀ → a ≡ filled a₀ n v → set a n v ≡ filled a₀ (n + 1) v
-unfolding filled
-fill_next a a₀ n v l g e = ap (λ (x : List ℕ). set x n v) e ∙ fill_more n v a₀ (omega arith)
-
-pub fill_all : (a a₀ : List ℕ) (n v : ℕ) → a ≡ filled a₀ n v → length a ≡ length a₀ → n ≤ length a₀ → length a ≤ n → a ≡ replicate (length a₀) v
-unfolding filled
-fill_all a a₀ n v e k l g =
-    let h : n ≡ length a₀ = omega arith in
-    e ∙ ap (λ (k : ℕ). replicate k v ++ drop k a₀) h ∙ ap (λ (x : List ℕ). replicate (length a₀) v ++ x) (drop-length a₀) ∙ append-nil (replicate (length a₀) v)
 
 pub clear_all : (rs ms rs' ms' : List ℕ) → rs' ≡ replicate (length rs) 0 → ms' ≡ replicate (length ms) 0 → table rs' ms' ≡ cleared (table rs ms)
 unfolding cleared

@@ -10,6 +10,6 @@ pub mod Scan
 pub mod View
 pub mod Exact
 -- computed: judge::step
-pub mod Sought
+pub mod Tests
 -- computed: run::run_lines
 pub mod Frees

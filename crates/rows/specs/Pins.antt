@@ -1,9 +1,6 @@
 -- Pin rows: thread or 0, family 0..11, buffer, making line. Assumes nothing.
 use Rattle.std.specs.Prelude.{refl, Bool, ◌&&◌, [], ◌∷◌, ℕ, get_or, eqb}
-use Rattle.std.proofs.Math.Option.{Option, none, some}
 use Rattle.rows.specs.declared.pins.Pin.{Pin}
-use Rattle.rows.specs.declared.pins.Held.{Held}
-use Rattle.rows.specs.declared.pins.Held.TheVariants.{Row, Nothing}
 use Rattle.rows.specs.Table.{Layout}
 
 -- four numbers to a row
@@ -16,11 +13,6 @@ pins =
       whole = λ x. refl;
       back = λ x. refl;
     }
-
--- what is told of a slot
-abbrev pub told : Held → Option Pin
-told (Row x) = some x
-told Nothing = none
 
 -- the row is of thread t
 abbrev pub of_thread : ℕ → Pin → Bool

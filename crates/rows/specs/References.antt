@@ -1,10 +1,7 @@
 -- Reference rows: thread (0 for global and weak), handle, frame from 1 (0 likewise), making line, stated class or 0. Assumes nothing.
 use Rattle.std.specs.Prelude.{refl, Bool, ◌&&◌, [], ◌∷◌, ℕ, get_or, eqb, leb, ltb}
-use Rattle.std.proofs.Math.Option.{Option, none, some}
 use Rattle.words.specs.Choice.{if_true◌then◌else◌}
 use Rattle.rows.specs.declared.references.Reference.{Reference}
-use Rattle.rows.specs.declared.references.Held.{Held}
-use Rattle.rows.specs.declared.references.Held.TheVariants.{Row, Nothing}
 use Rattle.rows.specs.Table.{Layout, Table, room, row_at}
 
 -- five numbers to a row
@@ -17,11 +14,6 @@ references =
       whole = λ x. refl;
       back = λ x. refl;
     }
-
--- what is told of a slot
-abbrev pub told : Held → Option Reference
-told (Row x) = some x
-told Nothing = none
 
 -- the row is of thread t
 abbrev pub of_thread : ℕ → Reference → Bool

@@ -4,7 +4,7 @@
 mod marks;
 pub mod pins;
 pub mod references;
-mod sought;
+mod row;
 
 // What rows are made of: numbers as wide as a handle.
 pub type Number = words::Handle;
@@ -18,41 +18,19 @@ pub const MOST: usize = 65536;
 ghost use Rattle.std.specs.Prelude.{◌≡◌, ◌+◌, ◌*◌, ◌≤◌, length, replicate};
 ghost use Rattle.rows.specs.Table.{table, put_row, cleared};
 
-// All numbers 0, of rows and of marks.
-fn clear_rows(a: &mut [Number])
-    ensures { a.new ≡ replicate (length a.old) 0 }
-{
-    let mut i = 0;
-    while i < a.len() {
-        a[i] = 0;
-        i += 1;
-    }
-}
-
 // All numbers of row r 0, so many to a row.
 pub(crate) fn clear_row(rows: &mut [Number], stride: usize, r: usize)
     requires { r * stride + stride ≤ length rows.old }
     ensures { rows.new ≡ put_row stride rows.old r (replicate stride 0) }
 {
     let at = r * stride;
-    let next = at + stride;
-    clear_rows(&mut rows[at..next]);
-}
-
-fn clear_marks(a: &mut [u64])
-    ensures { a.new ≡ replicate (length a.old) 0 }
-{
-    let mut i = 0;
-    while i < a.len() {
-        a[i] = 0;
-        i += 1;
-    }
+    rows[at..at + stride].fill(0);
 }
 
 // Clears all rows and marks of a table, of either sort.
 pub fn clear(rows: &mut [Number], marks: &mut [u64])
     ensures { table rows.new marks.new ≡ cleared (table rows.old marks.old) }
 {
-    clear_rows(rows);
-    clear_marks(marks);
+    rows.fill(0);
+    marks.fill(0);
 }

@@ -1,40 +1,17 @@
 // The room of rows and marks, and the marks: one bit for each row, sixty-four to a word.
 ghost use Rattle.std.specs.Prelude.{◌≡◌, ◌*◌, ◌<◌, ◌≤◌, min, length};
-ghost use Rattle.words.specs.Choice.{one};
 ghost use Rattle.rows.specs.Scan.{how_many, lowest};
 ghost use Rattle.rows.specs.Marks.{word, in_word, used, free, marked, unmarked};
 ghost use Rattle.rows.specs.Table.{most};
 ghost use Rattle.rows.specs.Frees.{free_at};
 
-use super::{MOST, Number, WORD};
-
-// The lesser of two.
-fn lesser(a: usize, b: usize) -> usize
-    ensures { result ≡ min a b }
-{
-    if a < b { a } else { b }
-}
+use super::{MOST, WORD};
 
 // The room of so many rows and words of marks.
 pub(crate) fn room_of(rows: usize, words: usize) -> usize
     ensures { result ≡ min (min rows (words * word)) most }
 {
-    let n = lesser(rows, MOST);
-    lesser(n, lesser(words, MOST) * WORD)
-}
-
-// 1 where the test holds, else 0. As wide as the rows' numbers, so that a sum of it is compiled to vectors of as many.
-pub(crate) fn one(b: bool) -> Number
-    ensures { (result ≡ one b) × (result ≤ 1) }
-{
-    if b { 1 } else { 0 }
-}
-
-// A sum of ones as a count of rows, for the caller.
-pub(crate) fn count_of(n: Number) -> usize
-    ensures { result ≡ n }
-{
-    n as usize
+    rows.min(MOST).min(words.min(MOST) * WORD)
 }
 
 // Row r is marked as used.
@@ -50,8 +27,7 @@ pub(crate) fn set_mark(marks: &mut [u64], r: usize)
     requires { r < length marks.old * word }
     ensures { marks.new ≡ marked marks.old r }
 {
-    let w = r / WORD;
-    marks[w] = marks[w] | (1 << (r % WORD));
+    marks[r / WORD] |= 1 << (r % WORD);
 }
 
 // Clears row r's mark.
@@ -59,8 +35,7 @@ pub(crate) fn clear_mark(marks: &mut [u64], r: usize)
     requires { r < length marks.old * word }
     ensures { marks.new ≡ unmarked marks.old r }
 {
-    let w = r / WORD;
-    marks[w] = marks[w] & !(1 << (r % WORD));
+    marks[r / WORD] &= !(1 << (r % WORD));
 }
 
 // The lowest free row of word w, or 64: the trailing zeros of the inverted word.
@@ -68,7 +43,7 @@ fn free_in(marks: &[u64], w: usize) -> usize
     requires { w < length marks.now }
     ensures { result ≡ lowest (in_word (free marks.now) w) word }
 {
-    u64::trailing_zeros(!marks[w]) as usize
+    (!marks[w]).trailing_zeros() as usize
 }
 
 // The lowest free row below n that does not stand below word `from`, or n.
@@ -76,13 +51,11 @@ pub(crate) fn free_below(marks: &[u64], from: usize, n: usize) -> usize
     requires { (n ≤ length marks.now * word) × (n ≤ most) × (from ≤ most) }
     ensures { result ≡ lowest (free_at marks.now from) n }
 {
-    let mut w = from;
-    while w * WORD < n {
+    for w in from..n.div_ceil(WORD) {
         let i = free_in(marks, w);
         if i < WORD {
-            return lesser(w * WORD + i, n);
+            return (w * WORD + i).min(n);
         }
-        w += 1;
     }
     n
 }
@@ -92,7 +65,7 @@ fn used_in(marks: &[u64], w: usize) -> usize
     requires { w < length marks.now }
     ensures { (result ≡ how_many (in_word (used marks.now) w) word) × (result ≤ word) }
 {
-    u64::count_ones(marks[w]) as usize
+    marks[w].count_ones() as usize
 }
 
 // How many of the first m rows of word w are used.
@@ -100,7 +73,7 @@ fn used_first(marks: &[u64], w: usize, m: usize) -> usize
     requires { (w < length marks.now) × (m < word) }
     ensures { (result ≡ how_many (in_word (used marks.now) w) m) × (result ≤ word) }
 {
-    u64::count_ones(marks[w] % (1 << m)) as usize
+    (marks[w] % (1 << m)).count_ones() as usize
 }
 
 // How many rows below n are used.
@@ -110,10 +83,8 @@ pub(crate) fn used_below(marks: &[u64], n: usize) -> usize
 {
     let full = n / WORD;
     let mut sum = 0;
-    let mut w = 0;
-    while w < full {
+    for w in 0..full {
         sum += used_in(marks, w);
-        w += 1;
     }
     let m = n % WORD;
     if m == 0 {

@@ -2,7 +2,7 @@
 use mathlib.Core.Path.{◌≡◌, refl, sym, ap, subst, ◌∙◌}
 use mathlib.Core.Bool.{Bool, true, false, false≢true}
 use mathlib.Core.List.{List}
-use mathlib.Core.Option.{Option, none, some}
+use Rattle.std.specs.Prelude.{Option, None, Some}
 use Prim.Native.Nat.{ℕ, ◌+◌, ◌*◌, ◌/◌, ◌%◌, ◌^◌, ◌≤◌, ◌<◌}
 use native.Mathlib.Nat.{le_refl, zero-add}
 use native.Mathlib.Decide.{dec_lt}
@@ -28,17 +28,17 @@ use Rattle.run.proofs.Shown.{unshown_still}
 
 module _ {A : Type 0} (L : Layout A) (q : A → Bool) where
   -- ---- a row, by what is told of it
-  told_passes : (T : Table) (r : ℕ) (o : Option A) → r < room L T → get_or (view L T) r none ≡ o → holding q o ≡ passes L q T r
+  told_passes : (T : Table) (r : ℕ) (o : Option A) → r < room L T → get_or (view L T) r None ≡ o → holding q o ≡ passes L q T r
   told_passes T r o l e = ap (holding q) (sym e ∙ view_at L T r l) ∙ sym (passes_slot L q T r)
 
-  pub such_ended : (T S : Table) (r : ℕ) (x : A) → r < room L T → get_or (view L T) r none ≡ some x → q x ≡ true → S ≡ ended L T r → S ≡ ended_if L q T r
-  such_ended T S r x l e y f = end_passes L q T S r (q x) (told_passes T r (some x) l e) y f
+  pub such_ended : (T S : Table) (r : ℕ) (x : A) → r < room L T → get_or (view L T) r None ≡ Some x → q x ≡ true → S ≡ ended L T r → S ≡ ended_if L q T r
+  such_ended T S r x l e y f = end_passes L q T S r (q x) (told_passes T r (Some x) l e) y f
 
-  pub other_stays : (T : Table) (r : ℕ) (x : A) → r < room L T → get_or (view L T) r none ≡ some x → q x ≡ false → T ≡ ended_if L q T r
-  other_stays T r x l e y = end_fails L q T r (q x) (told_passes T r (some x) l e) y
+  pub other_stays : (T : Table) (r : ℕ) (x : A) → r < room L T → get_or (view L T) r None ≡ Some x → q x ≡ false → T ≡ ended_if L q T r
+  other_stays T r x l e y = end_fails L q T r (q x) (told_passes T r (Some x) l e) y
 
-  pub none_stays : (T : Table) (r : ℕ) → r < room L T → get_or (view L T) r none ≡ none → T ≡ ended_if L q T r
-  none_stays T r l e = end_fails L q T r false (told_passes T r none l e) refl
+  pub none_stays : (T : Table) (r : ℕ) → r < room L T → get_or (view L T) r None ≡ None → T ≡ ended_if L q T r
+  none_stays T r l e = end_fails L q T r false (told_passes T r None l e) refl
 
   -- ---- a word that is not shown
   pub unshown_stays : (T : Table) (s w m : ℕ) → ((r : ℕ) → r < room L T → bit s (word_bit r) ≡ false → passes L q T r ≡ false) → w * word + m ≤ room L T → m ≤ word
@@ -50,10 +50,10 @@ module _ {A : Type 0} (L : Layout A) (q : A → Bool) where
 
   -- ---- what is ended does not pass
   freed_fails : (o : Option A) → holding q (freed q o) ≡ false
-  freed_fails none = refl
-  freed_fails (some x) = go (q x) refl
+  freed_fails None = refl
+  freed_fails (Some x) = go (q x) refl
     where
-      go : (b : Bool) → q x ≡ b → holding q (if_true b then none else some x) ≡ false
+      go : (b : Bool) → q x ≡ b → holding q (if_true b then None else Some x) ≡ false
       go true e = refl
       go false e = e
 
@@ -70,13 +70,13 @@ module _ {A : Type 0} (L : Layout A) (q : A → Bool) where
 -- ---- word after word
 
 -- a mask with a bit for each such row leaves none out
-unshown : (bit_of : ℕ → ℕ) (s t f : ℕ) (T : Table) → ((r : ℕ) (x : Reference) → r < room references T → slot references T r ≡ some x → from_frame t f x ≡ true → bit s (bit_of r) ≡ true)
+unshown : (bit_of : ℕ → ℕ) (s t f : ℕ) (T : Table) → ((r : ℕ) (x : Reference) → r < room references T → slot references T r ≡ Some x → from_frame t f x ≡ true → bit s (bit_of r) ≡ true)
     → Unshown bit_of s t f T
 unshown bit_of s t f T h r l e = passes_slot references (from_frame t f) T r ∙ go (slot references T r) refl
   where
     go : (o : Option Reference) → slot references T r ≡ o → holding (from_frame t f) o ≡ false
-    go none i = refl
-    go (some x) i = at (from_frame t f x) refl
+    go None i = refl
+    go (Some x) i = at (from_frame t f x) refl
       where
         at : (b : Bool) → from_frame t f x ≡ b → b ≡ false
         at true y = absurd (false≢true (sym e ∙ h r x l i y))

@@ -3,16 +3,16 @@ use Prim.Native.Nat.{ℕ, ◌≤◌, ◌<◌}
 use mathlib.Core.Path.{◌≡◌, refl, sym, ap, subst, ◌∙◌}
 use mathlib.Core.Bool.{Bool, true, false, ◌&&◌, or-false, false≢true}
 use mathlib.Core.List.{List}
+use Rattle.std.specs.Prelude.{Ok}
 use native.Mathlib.Omega.{arith}
 use borrow.Author.Tests.{leb-false, le-leb, lt-leb, eq-eqb}
 use lib.Dec.{leb, ltb, eqb}
 use lib.ListN.{length, take}
 use Rattle.words.specs.Choice.{if_true◌then◌else◌}
 use Rattle.lines.specs.Line.{Line, N, X, C, R, A, D, Z, K, O, M, states, is_thread}
-use Rattle.lines.specs.Reading.{Read, says, refused, read}
+use Rattle.lines.specs.Reading.{Read, says, read}
 use Rattle.lines.specs.Events.{result_in_line, event_of, slots_of}
 use Rattle.lines.specs.declared.Event.{Event}
-use Rattle.lines.specs.declared.Event.TheVariants as Event
 use Rattle.history.specs.Past.{thread_of}
 use Rattle.history.specs.Items.{top_of, asked}
 use Rattle.history.specs.Replies.{Reply, accepted, not_accepted, most_lines}
@@ -22,7 +22,7 @@ use Rattle.book.specs.Unfit.{overdone_in, unfit}
 use Rattle.book.proofs.AllThreads.{or_left, or_right}
 use Rattle.book.proofs.Fitness.{fit_long, fit_lines, fit_threads, unfit_but}
 use Rattle.book.proofs.Elsewhere.{as_fit_elsewhere}
-use Rattle.answers.specs.declared.Answer.{Answer}
+use Rattle.answers.specs.Answer.{Answer}
 use Rattle.tables.specs.Tables.{Tables, tables}
 use Rattle.tables.specs.Weighing.{weighed_in}
 use Rattle.tables.specs.Acting.{acted}
@@ -112,7 +112,6 @@ module _ (T : Tables) (fit : unfit_tables T ≡ false) (few : lines_in T.book < 
   fit_event (Event.State t h c) hs = fit_line (states (O t h c))
   fit_event (Event.Identify x sort c static final) hs = fit_line (states (M x sort c static final))
   fit_event Event.End hs = fit_line Z
-  fit_event (Event.Refused k) hs = fit_so T 0 fit
 
 module _ (T : Tables) (bs : List ℕ) (ev : Event) (hs : List ℕ) where
   -- a refused line leaves the tables; one that is accepted touches the thread that it names
@@ -123,12 +122,12 @@ module _ (T : Tables) (bs : List ℕ) (ev : Event) (hs : List ℕ) where
       rw (h.0, h.1) (subst (λ (x : Read). FitBut (on_read x T).left (thread_named ev)) r (fit_event T h.0 (leb-false most_lines (lines_in T.book) h.1) ev hs))
 
   -- as the code has it: the step's answer `a` and the tables S that it left
-  pub fit_left : (S : Tables) (a : Answer) (k t : ℕ) → k ≡ by_tables T → k ≡ 0 → ev ≡ event_of (read bs) → hs ≡ slots_of (read bs) → t ≡ thread_named ev
+  pub fit_left : (S : Tables) (a : Answer) (t : ℕ) → by_tables T ≡ 0 → Ok ev ≡ event_of (read bs) → hs ≡ slots_of (read bs) → t ≡ thread_named ev
       → leaves a S ≡ step_outcome T bs → FitBut S t
   unfolding step_outcome
-  fit_left S a k t e z er es et q =
+  fit_left S a t z er es et q =
       subst (λ (s : ℕ). FitBut S s) (sym et)
-      (subst (λ (X : Tables). FitBut X (thread_named ev)) (sym (ap (λ (o : Outcome). o.left) q)) (fit_step (sym (read_is bs ev hs er es)) (sym e ∙ z)))
+      (subst (λ (X : Tables). FitBut X (thread_named ev)) (sym (ap (λ (o : Outcome). o.left) q)) (fit_step (sym (read_is bs ev hs er es)) z))
 
 -- 8 and line 1,000,001 look at book and classes alone
 pub fit_alike : (rs ms ps ns rs' ms' ps' ns' b cs : List ℕ) (t : ℕ) → FitBut (tables rs ms ps ns b cs) t → FitBut (tables rs' ms' ps' ns' b cs) t

@@ -2,6 +2,7 @@
 use Prim.Native.Nat.{ℕ, zero, suc, ◌+◌, ◌-◌, ◌≤◌, ◌<◌}
 use mathlib.Core.Path.{◌≡◌, refl, sym, ap, ap₂, subst, ◌∙◌}
 use mathlib.Core.Bool.{Bool}
+use Rattle.std.specs.Prelude.{IfOk}
 use mathlib.Core.List.{List, [], ◌∷◌, ◌++◌, append_assoc, append-nil}
 use native.Mathlib.Nat.{zero-add, add-zero, add_assoc}
 use native.Mathlib.Omega.{arith}
@@ -13,9 +14,10 @@ use Rattle.numbers.proofs.Put.{put_none, length_put, put_put}
 use Rattle.history.specs.Replies.{Reply}
 use Rattle.history.specs.Report.{shown_finding}
 use Rattle.history.specs.declared.Finding.{Finding}
-use Rattle.answers.specs.declared.Answer.{Answer}
-use Rattle.answers.specs.Answer.{most_found, answer_of}
-use Rattle.report.specs.Shown.{most_shown, shown_answer}
+use Rattle.lines.specs.Numbered.{refusal_of}
+use Rattle.answers.specs.declared.Findings.{Findings}
+use Rattle.answers.specs.Answer.{Answer, most_found, findings_of}
+use Rattle.report.specs.Shown.{most_shown, shown_findings}
 use Rattle.report.proofs.Answered.{shown_accepted}
 use Rattle.tables.specs.Tables.{Tables}
 use Rattle.tables.specs.Stepping.{step_of}
@@ -27,7 +29,6 @@ use Rattle.pieces.proofs.Nexts.{pieces_next}
 use Rattle.run.specs.declared.Passed.{Passed}
 use Rattle.run.specs.declared.Way.{Way}
 use Rattle.run.specs.declared.Stop.{Stop}
-use Rattle.run.specs.declared.Stop.TheVariants as Stop
 use Rattle.run.specs.Running.{all_shown, Run, stands, stops, behind, go_on, run_lines, run_of, leaves, outcome, piece_outcome}
 use Rattle.run.specs.Way.{LineComes, Aims, Heard, line_refused, line_accepted}
 use Rattle.run.proofs.Answering.{takes, refuses, few_counted}
@@ -130,10 +131,10 @@ still s w = (length s - w.at) + one_of (w.to - w.at)
 
 module _ {ended : Bool} {T S : Tables} {s out out1 : List ℕ} {w : Way} (g : Going ended T s out w S out1) (some : w.at < w.to) where
   pub less : {a : Answer} {q : Way} {out' : List ℕ} → Heard ended s a w out1 q out' → still s q < still s w
-  less {q = q} (line_refused z far to stop out_is) =
+  less {q = q} (line_refused k z far to stop out_is) =
       let none : q.to - q.at ≡ 0 = omega (arith, to) in
       omega (arith, far.at, ap one_of none, one_some (w.to - w.at) (omega (arith, some)))
-  less {q = q} (line_accepted z at put_is findings aims out_is fits) =
+  less {q = q} (line_accepted f z at put_is findings aims out_is fits) =
       omega (arith, some, at, (g.line some).within, one_most (q.to - q.at), one_some (w.to - w.at) (omega (arith, some)))
 
   module _ {S' : Tables} {a : Answer} (h : answers_leaving a S' ≡ step_outcome S (take (w.to - w.at) (drop w.at s))) where
@@ -141,7 +142,7 @@ module _ {ended : Bool} {T S : Tables} {s out out1 : List ℕ} {w : Way} (g : Go
     its_line = take (w.to - w.at) (drop w.at s)
 
     -- what is known before its answer is heard
-    pub roomy : (w.to ≤ length s) × (w.put + most_shown ≤ length out1) × (w.findings ≤ w.put) × (a.count ≤ most_found)
+    pub roomy : (w.to ≤ length s) × (w.put + most_shown ≤ length out1) × (w.findings ≤ w.put) × IfOk a (λ f. f.count ≤ most_found)
     roomy =
         let l = g.line some in
         (l.within, omega (arith, l.roomy, g.as_long), omega (arith, g.findings, g.bytes, no_longer g.found), few_counted S its_line a S' h)
@@ -165,9 +166,10 @@ module _ {ended : Bool} {T S : Tables} {s out out1 : List ℕ} {w : Way} (g : Go
         ∙ rw (pieces_next ended (drop w.at s) (Next.Line (w.to - w.at)) l.next, le-ltb (length out - w.put) most_shown room, its_length, past)
 
     pub going_on : {q : Way} {out' : List ℕ} → Heard ended s a w out1 q out' → Going ended T s out q S' out'
-    unfolding gone_on answer_of
-    going_on {q} {out'} (line_refused z far to stop out_is) =
-        let t = refuses S its_line a S' h z in
+    unfolding gone_on findings_of
+    going_on {q} {out'} (line_refused k z far to stop out_is) =
+        let t = refuses S its_line a k S' h z in
+        let told : Stop.Refused (refusal_of t.number) ≡ q.stop = ap Stop.Refused (sym t.refusal) ∙ sym stop in
         record {
           found = g.found;
           findings = far.findings ∙ g.findings;
@@ -177,23 +179,23 @@ module _ {ended : Bool} {T S : Tables} {s out out1 : List ℕ} {w : Way} (g : Go
           fits = omega (arith, far.put, g.fits);
           line = λ more. absurd (omega (arith, more, to));
           same = λ more. absurd (omega (arith, more, to));
-          done = λ _. stepped ∙ ap gone_on t.reply ∙ behind_stops g.found w.at S (Stop.Refused a.refusal)
-              ∙ λ i. stands (sym t.left i) g.found (sym far.at i) (sym stop i);
+          done = λ _. stepped ∙ ap gone_on t.reply ∙ behind_stops g.found w.at S (Stop.Refused (refusal_of t.number))
+              ∙ λ i. stands (sym t.left i) g.found (sym far.at i) (told i);
         }
-    going_on {q} {out'} (line_accepted z at put_is findings aims out_is fits) =
-        let t = takes S its_line a S' h z in
+    going_on {q} {out'} (line_accepted f z at put_is findings aims out_is fits) =
+        let t = takes S its_line a f S' h z in
         let gs = t.found in
-        let its : shown_answer a ≡ all_shown gs = ap shown_answer t.answer ∙ shown_accepted gs t.few in
-        let count : a.count ≡ length gs = omega (arith, ap (λ (v : Answer). v.count) t.answer, t.few) in
-        let both : all_shown g.found ++ shown_answer a ≡ all_shown (g.found ++ gs) =
+        let its : shown_findings f ≡ all_shown gs = ap shown_findings t.findings ∙ shown_accepted gs t.few in
+        let count : f.count ≡ length gs = omega (arith, ap (λ (v : Findings). v.count) t.findings, t.few) in
+        let both : all_shown g.found ++ shown_findings f ≡ all_shown (g.found ++ gs) =
         ap (λ (v : List ℕ). all_shown g.found ++ v) its ∙ sym (all_shown_append g.found gs)
         in
         let bytes : q.put ≡ length (all_shown (g.found ++ gs)) =
-        put_is ∙ ap (λ (n : ℕ). n + length (shown_answer a)) g.bytes ∙ sym (length-append (all_shown g.found) (shown_answer a)) ∙ ap length both
+        put_is ∙ ap (λ (n : ℕ). n + length (shown_findings f)) g.bytes ∙ sym (length-append (all_shown g.found) (shown_findings f)) ∙ ap length both
         in
         let shown : out' ≡ put out 0 (all_shown (g.found ++ gs)) =
-        out_is ∙ ap₂ (λ (d : List ℕ) (n : ℕ). put d n (shown_answer a)) g.shown (g.bytes ∙ sym (zero-add (length (all_shown g.found))))
-        ∙ put_put out 0 (all_shown g.found) (shown_answer a) (omega (arith, g.fits, g.bytes)) ∙ ap (put out 0) both
+        out_is ∙ ap₂ (λ (d : List ℕ) (n : ℕ). put d n (shown_findings f)) g.shown (g.bytes ∙ sym (zero-add (length (all_shown g.found))))
+        ∙ put_put out 0 (all_shown g.found) (shown_findings f) (omega (arith, g.fits, g.bytes)) ∙ ap (put out 0) both
         in
         let size : length out1 ≡ length out = g.as_long in
         let aims : Aims ended (length out) s q = subst (λ (n : ℕ). Aims ended n s q) size aims in

@@ -4,11 +4,11 @@ use mathlib.Core.Path.{◌≡◌}
 use mathlib.Core.Bool.{Bool}
 use mathlib.Core.List.{List}
 use lib.ListN.{take, drop}
-use Rattle.answers.specs.declared.Answer.{Answer}
 use Rattle.guide.specs.References.{Guides}
 use Rattle.guide.specs.Pins.{Guides as PinGuides}
 use Rattle.tables.specs.Tables.{Tables}
 use Rattle.demands.specs.Calls.{Alike}
+use Rattle.answers.specs.Answer.{Answer}
 use Rattle.events.specs.Outcome.{leaves}
 use Rattle.judge.specs.Outcome.{step_outcome}
 use Rattle.run.specs.declared.Way.{Way}

@@ -4,7 +4,6 @@ use mathlib.Core.Path.{◌≡◌, refl, sym}
 use mathlib.Core.Bool.{false, false≢true}
 use lib.IntN.{ℤ}
 use Rattle.lines.specs.declared.Event.{Event}
-use Rattle.lines.specs.declared.Event.TheVariants as Event
 use Rattle.run.specs.Parts.{opens, closes, is_call}
 
 pub opens_not : (e : Event) → ((t env n : ℕ) → e ≡ Event.Enter t env n → ⊥) → ((t env : ℕ) → e ≡ Event.Attach t env → ⊥) → opens e ≡ false
@@ -18,7 +17,6 @@ opens_not (Event.Declare c s) enter attach = refl
 opens_not (Event.State t h c) enter attach = refl
 opens_not (Event.Identify x sort c static final) enter attach = refl
 opens_not Event.End enter attach = refl
-opens_not (Event.Refused k) enter attach = refl
 
 pub closes_not : (e : Event) → ((t r : ℕ) → e ≡ Event.Leave t r → ⊥) → ((t : ℕ) → e ≡ Event.Detach t → ⊥) → closes e ≡ false
 closes_not (Event.Enter t env n) leave detach = refl
@@ -31,7 +29,6 @@ closes_not (Event.Declare c s) leave detach = refl
 closes_not (Event.State t h c) leave detach = refl
 closes_not (Event.Identify x sort c static final) leave detach = refl
 closes_not Event.End leave detach = refl
-closes_not (Event.Refused k) leave detach = refl
 
 pub calls_not : (e : Event) → ((t env f a b c : ℕ) (n : ℤ) → e ≡ Event.Call t env f a b c n → ⊥) → ((t f h : ℕ) (s : ℤ) (p : ℕ) → e ≡ Event.Return t f h s p → ⊥) → is_call e ≡ false
 calls_not (Event.Enter t env n) call returns = refl
@@ -44,18 +41,16 @@ calls_not (Event.Declare c s) call returns = refl
 calls_not (Event.State t h c) call returns = refl
 calls_not (Event.Identify x sort c static final) call returns = refl
 calls_not Event.End call returns = refl
-calls_not (Event.Refused k) call returns = refl
 
-pub ends : (e : Event) → ((c s : ℕ) → e ≡ Event.Declare c s → ⊥) → ((t h c : ℕ) → e ≡ Event.State t h c → ⊥) → ((x sort c static final : ℕ) → e ≡ Event.Identify x sort c static final → ⊥) → ((k : ℕ) → e ≡ Event.Refused k → ⊥)
+pub ends : (e : Event) → ((c s : ℕ) → e ≡ Event.Declare c s → ⊥) → ((t h c : ℕ) → e ≡ Event.State t h c → ⊥) → ((x sort c static final : ℕ) → e ≡ Event.Identify x sort c static final → ⊥)
     → opens e ≡ false → closes e ≡ false → is_call e ≡ false → e ≡ Event.End
-ends (Event.Enter t env n) declare state identify refused opened closed called = absurd (false≢true (sym opened))
-ends (Event.Leave t r) declare state identify refused opened closed called = absurd (false≢true (sym closed))
-ends (Event.Call t env f a b c n) declare state identify refused opened closed called = absurd (false≢true (sym called))
-ends (Event.Return t f h s p) declare state identify refused opened closed called = absurd (false≢true (sym called))
-ends (Event.Attach t env) declare state identify refused opened closed called = absurd (false≢true (sym opened))
-ends (Event.Detach t) declare state identify refused opened closed called = absurd (false≢true (sym closed))
-ends (Event.Declare c s) declare state identify refused opened closed called = absurd (declare c s refl)
-ends (Event.State t h c) declare state identify refused opened closed called = absurd (state t h c refl)
-ends (Event.Identify x sort c static final) declare state identify refused opened closed called = absurd (identify x sort c static final refl)
-ends Event.End declare state identify refused opened closed called = refl
-ends (Event.Refused k) declare state identify refused opened closed called = absurd (refused k refl)
+ends (Event.Enter t env n) declare state identify opened closed called = absurd (false≢true (sym opened))
+ends (Event.Leave t r) declare state identify opened closed called = absurd (false≢true (sym closed))
+ends (Event.Call t env f a b c n) declare state identify opened closed called = absurd (false≢true (sym called))
+ends (Event.Return t f h s p) declare state identify opened closed called = absurd (false≢true (sym called))
+ends (Event.Attach t env) declare state identify opened closed called = absurd (false≢true (sym opened))
+ends (Event.Detach t) declare state identify opened closed called = absurd (false≢true (sym closed))
+ends (Event.Declare c s) declare state identify opened closed called = absurd (declare c s refl)
+ends (Event.State t h c) declare state identify opened closed called = absurd (state t h c refl)
+ends (Event.Identify x sort c static final) declare state identify opened closed called = absurd (identify x sort c static final refl)
+ends Event.End declare state identify opened closed called = refl

@@ -11,6 +11,7 @@ use lib.ListN.{length, take, drop, length-append, length-drop}
 use lib.Seq.{length-take-le, take_at, drop-drop}
 use Rattle.words.specs.Choice.{if_true◌then◌else◌}
 use Rattle.lines.specs.Line.{longest}
+use Rattle.lines.specs.Numbered.{number_of, refusal_of}
 use Rattle.history.specs.Replies.{Reply, accepted, not_accepted}
 use Rattle.history.specs.Report.{lines_of}
 use Rattle.history.specs.declared.Finding.{Finding}
@@ -18,20 +19,34 @@ use Rattle.answers.specs.Answer.{most_found}
 use Rattle.report.specs.Shown.{most_shown}
 use Rattle.tables.specs.Tables.{Tables}
 use Rattle.tables.specs.Stepping.{step_of}
-use Rattle.demands.specs.Calls.{go_on_in, run_in}
+use Rattle.demands.specs.Calls.{ran, go_on_in, run_in}
+use Rattle.demands.proofs.Foreign.{numbered}
 use Rattle.pieces.specs.declared.Next.{Next}
-use Rattle.pieces.specs.declared.Next.TheVariants as Next
 use Rattle.pieces.specs.Pieces.{next_of, Behind, pieces_of}
 use Rattle.pieces.proofs.Nexts.{line_next, more_next, end_next, by_pieces, pieces_next}
 use Rattle.pieces.proofs.Runs.{run_line, run_end}
 use Rattle.run.specs.declared.Passed.{Passed}
 use Rattle.run.specs.declared.Stop.{Stop}
-use Rattle.run.specs.declared.Stop.TheVariants as Stop
 use Rattle.run.specs.Following.{Follows}
 use Rattle.run.specs.Running.{all_shown, Run, stands, stops, behind, go_on, run_lines, run_of, Outcome, leaves, piece_outcome}
 use Rattle.run.specs.Passing.{from_stop, Passes}
 use Rattle.run.proofs.Answering.{accepted_few}
 use Rattle.run.proofs.Following.{next_follows}
+
+-- the number of the refusal that a number from 1 to 10 is told as
+pub number_told : (k : ℕ) → 1 ≤ k → k ≤ 10 → number_of (refusal_of k) ≡ k
+number_told zero low high = absurd (omega (arith, low))
+number_told (suc zero) low high = refl
+number_told (suc (suc zero)) low high = refl
+number_told (suc (suc (suc zero))) low high = refl
+number_told (suc (suc (suc (suc zero)))) low high = refl
+number_told (suc (suc (suc (suc (suc zero))))) low high = refl
+number_told (suc (suc (suc (suc (suc (suc zero)))))) low high = refl
+number_told (suc (suc (suc (suc (suc (suc (suc zero))))))) low high = refl
+number_told (suc (suc (suc (suc (suc (suc (suc (suc zero)))))))) low high = refl
+number_told (suc (suc (suc (suc (suc (suc (suc (suc (suc zero))))))))) low high = refl
+number_told (suc (suc (suc (suc (suc (suc (suc (suc (suc (suc zero)))))))))) low high = refl
+number_told (suc (suc (suc (suc (suc (suc (suc (suc (suc (suc (suc n))))))))))) low high = absurd (omega (arith, high))
 
 module _ (ended : Bool) where
   -- it stops before a line
@@ -62,9 +77,10 @@ module _ (ended : Bool) where
         run_line T before ended s next behind n h
         ∙ ap (λ (x : Reply). go_on_in T before x (λ gs. run_in (step_of T line).left (before ++ gs) (lines_of (drop n s ++ next)))) q
 
-    refused : (k : ℕ) → (step_of T line).reply ≡ not_accepted k → Passes ended room T s (stops T (Stop.Refused k))
+    refused : (k : ℕ) → (step_of T line).reply ≡ not_accepted k → Passes ended room T s (stops T (Stop.Refused (refusal_of k)))
     refused k q =
-        stopped room T s (Stop.Refused k) (λ before next h. whole_run before next h (not_accepted k) q)
+        let one = numbered T line k q in
+        stopped room T s (Stop.Refused (refusal_of k)) (λ before next h. whole_run before next h (not_accepted k) q ∙ ap (ran T before) (sym (number_told k one.0 one.1)))
         (λ e. let z : ◌≡◌ {A = ℕ} 0 1 = cc in absurd (omega arith))
         (λ e. let z : ◌≡◌ {A = ℕ} 0 1 = cc in absurd (omega arith))
 

@@ -3,6 +3,7 @@ use Prim.Native.Nat.{ℕ, ◌+◌, ◌-◌, ◌≤◌, ◌<◌}
 use mathlib.Core.Path.{◌≡◌, sym, ap, subst, ◌∙◌}
 use mathlib.Core.Bool.{Bool, true, false}
 use mathlib.Core.List.{List, []}
+use Rattle.std.specs.Prelude.{Ok}
 use native.Mathlib.Omega.{arith}
 use borrow.Author.Tests.{lt-ltb}
 use lib.ListN.{length, take, drop, length-drop}
@@ -11,16 +12,15 @@ use Rattle.words.specs.Lists.{joined}
 use Rattle.numbers.specs.Writing.{put}
 use Rattle.numbers.proofs.Put.{put_none, length_put}
 use Rattle.history.specs.Report.{shown_finding}
-use Rattle.answers.specs.declared.Answer.{Answer}
-use Rattle.report.specs.Shown.{most_shown, shown_answer}
+use Rattle.answers.specs.declared.Findings.{Findings}
+use Rattle.answers.specs.Answer.{Answer}
+use Rattle.report.specs.Shown.{most_shown, shown_findings}
 use Rattle.tables.specs.Tables.{Tables}
 use Rattle.pieces.specs.declared.Next.{Next}
-use Rattle.pieces.specs.declared.Next.TheVariants as Next
 use Rattle.pieces.specs.Pieces.{next_of}
 use Rattle.pieces.proofs.Nexts.{LineNext, line_next, more_next, end_next, pieces_next}
 use Rattle.run.specs.declared.Way.{Way}
 use Rattle.run.specs.declared.Stop.{Stop}
-use Rattle.run.specs.declared.Stop.TheVariants as Stop
 use Rattle.run.specs.Running.{stops, run_lines, run_of}
 use Rattle.run.specs.Way.{AsFar, Aims, Heard, line_accepted}
 
@@ -74,17 +74,17 @@ module _ (ended : Bool) (size : ℕ) (s : List ℕ) (w : Way) {x : Next} (e : x 
 
 -- ---- after the answer to a line
 
--- an answer without findings
-pub none_shown : (d : List ℕ) (at : ℕ) (a : Answer) → a.count ≡ 0 → (0 ≡ length (shown_answer a)) × (0 ≤ most_shown) × (d ≡ put d at (shown_answer a))
-unfolding shown_answer
-none_shown d at a z =
-    let none : [] ≡ shown_answer a = ap (λ (n : ℕ). joined (take n a.found) shown_finding) (sym z) in
+-- a line without findings
+pub none_shown : (d : List ℕ) (at : ℕ) (f : Findings) → f.count ≡ 0 → (0 ≡ length (shown_findings f)) × (0 ≤ most_shown) × (d ≡ put d at (shown_findings f))
+unfolding shown_findings
+none_shown d at f z =
+    let none : [] ≡ shown_findings f = ap (λ (n : ℕ). joined (take n f.found) shown_finding) (sym z) in
     (ap length none, omega arith, sym (put_none d at) ∙ ap (put d at) none)
 
-pub goes_on : {ended : Bool} {s out out' : List ℕ} {a : Answer} {w p q : Way} {n : ℕ} → a.refusal ≡ 0 → w.put + most_shown ≤ length out
-    → (n ≡ length (shown_answer a)) × (n ≤ most_shown) × (out' ≡ put out w.put (shown_answer a)) → p.at ≡ w.to → p.put ≡ w.put + n
-    → p.findings ≡ w.findings + a.count → AsFar p q → Aims ended (length out') s q → Heard ended s a w out q out'
-goes_on {ended} {s} {out} {out'} {a} {w} {p} {q} z room shown at put findings far aims =
-    let long : length out' ≡ length out = ap length shown.2 ∙ length_put out w.put (shown_answer a) (omega (arith, room, shown.0, shown.1)) in
-    line_accepted z (far.at ∙ at) (omega (arith, far.put, put, shown.0)) (far.findings ∙ findings) (subst (λ (n : ℕ). Aims ended n s q) long aims) shown.2
+pub goes_on : {ended : Bool} {s out out' : List ℕ} {a : Answer} {f : Findings} {w p q : Way} {n : ℕ} → a ≡ Ok f → w.put + most_shown ≤ length out
+    → (n ≡ length (shown_findings f)) × (n ≤ most_shown) × (out' ≡ put out w.put (shown_findings f)) → p.at ≡ w.to → p.put ≡ w.put + n
+    → p.findings ≡ w.findings + f.count → AsFar p q → Aims ended (length out') s q → Heard ended s a w out q out'
+goes_on {ended} {s} {out} {out'} {a} {f} {w} {p} {q} z room shown at put findings far aims =
+    let long : length out' ≡ length out = ap length shown.2 ∙ length_put out w.put (shown_findings f) (omega (arith, room, shown.0, shown.1)) in
+    line_accepted f z (far.at ∙ at) (omega (arith, far.put, put, shown.0)) (far.findings ∙ findings) (subst (λ (n : ℕ). Aims ended n s q) long aims) shown.2
     (omega (arith, far.put, put, shown.1, room))

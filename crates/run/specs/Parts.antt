@@ -1,7 +1,6 @@
 -- Which part of the dispatch an event goes to. Assumes nothing.
 use Rattle.std.specs.Prelude.{Bool, true, false}
 use Rattle.lines.specs.declared.Event.{Event}
-use Rattle.lines.specs.declared.Event.TheVariants as Event
 
 -- it opens a native or an attached item
 abbrev pub opens : Event → Bool
@@ -15,7 +14,6 @@ opens (Event.Declare c s) = false
 opens (Event.State t h c) = false
 opens (Event.Identify x sort c static final) = false
 opens Event.End = false
-opens (Event.Refused k) = false
 
 -- it closes one
 abbrev pub closes : Event → Bool
@@ -29,7 +27,6 @@ closes (Event.Declare c s) = false
 closes (Event.State t h c) = false
 closes (Event.Identify x sort c static final) = false
 closes Event.End = false
-closes (Event.Refused k) = false
 
 -- it opens or closes a call
 abbrev pub is_call : Event → Bool
@@ -43,4 +40,3 @@ is_call (Event.Declare c s) = false
 is_call (Event.State t h c) = false
 is_call (Event.Identify x sort c static final) = false
 is_call Event.End = false
-is_call (Event.Refused k) = false

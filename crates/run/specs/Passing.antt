@@ -1,6 +1,7 @@
 -- What the run over a piece is to the run of the whole input. Assumes nothing.
 use Rattle.std.specs.Prelude.{ℕ, suc, ◌+◌, ◌*◌, ◌≤◌, ◌≡◌, Bool, false, List, ◌++◌, length, drop}
 use Rattle.lines.specs.Line.{longest}
+use Rattle.lines.specs.Numbered.{number_of}
 use Rattle.history.specs.Report.{lines_of}
 use Rattle.history.specs.declared.Finding.{Finding}
 use Rattle.answers.specs.Answer.{most_found}
@@ -9,13 +10,12 @@ use Rattle.tables.specs.Tables.{Tables}
 use Rattle.demands.specs.Calls.{Ran, ran, run_in}
 use Rattle.pieces.specs.Pieces.{Behind}
 use Rattle.run.specs.declared.Stop.{Stop}
-use Rattle.run.specs.declared.Stop.TheVariants as Stop
 use Rattle.run.specs.Following.{Follows}
 use Rattle.run.specs.Running.{Run}
 
 -- how the run of the input goes on from there with the bytes that are unread
 abbrev pub from_stop : Stop → Tables → List Finding → List ℕ → Ran
-from_stop (Stop.Refused k) T fs unread = ran T fs k
+from_stop (Stop.Refused k) T fs unread = ran T fs (number_of k)
 from_stop Stop.Full T fs unread = run_in T fs (lines_of unread)
 from_stop Stop.More T fs unread = run_in T fs (lines_of unread)
 from_stop Stop.End T fs unread = ran T fs 0

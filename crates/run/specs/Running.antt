@@ -3,6 +3,7 @@ use Rattle.std.specs.Prelude.{ℕ, ◌+◌, ◌-◌, Bool, List, [], ◌∷◌, 
 use Rattle.words.specs.Choice.{if_true◌then◌else◌}
 use Rattle.words.specs.Lists.{joined}
 use Rattle.numbers.specs.Writing.{put}
+use Rattle.lines.specs.Numbered.{refusal_of}
 use Rattle.history.specs.Replies.{Reply, accepted, not_accepted}
 use Rattle.history.specs.Report.{shown_finding}
 use Rattle.history.specs.declared.Finding.{Finding}
@@ -12,7 +13,6 @@ use Rattle.tables.specs.Stepping.{step_of}
 use Rattle.pieces.specs.Pieces.{pieces_of}
 use Rattle.run.specs.declared.Passed.{Passed}
 use Rattle.run.specs.declared.Stop.{Stop}
-use Rattle.run.specs.declared.Stop.TheVariants as Stop
 
 -- the bytes of findings
 abbrev pub all_shown : List Finding → List ℕ
@@ -37,7 +37,7 @@ abbrev pub behind : List Finding → ℕ → Run → Run
 behind fs n r = stands r.left (fs ++ r.found) (n + r.taken) r.stop
 
 abbrev pub go_on : Tables → Reply → (List Finding → Run) → Run
-go_on T (not_accepted k) rest = stops T (Stop.Refused k)
+go_on T (not_accepted k) rest = stops T (Stop.Refused (refusal_of k))
 go_on T (accepted fs) rest = rest fs
 
 -- the next line is taken where there is room for its findings

@@ -1,8 +1,10 @@
 -- How far a run over a piece has come, from one function to the next. Assumes nothing.
-use Rattle.std.specs.Prelude.{ℕ, ◌+◌, ◌-◌, ◌≤◌, ◌<◌, ◌≡◌, Bool, List, length, drop}
+use Rattle.std.specs.Prelude.{ℕ, ◌+◌, ◌-◌, ◌≤◌, ◌<◌, ◌≡◌, Bool, List, length, drop, Ok, Err}
 use Rattle.numbers.specs.Writing.{put}
-use Rattle.answers.specs.declared.Answer.{Answer}
-use Rattle.report.specs.Shown.{most_shown, shown_answer}
+use Rattle.lines.specs.declared.refusal.Refusal.{Refusal}
+use Rattle.answers.specs.declared.Findings.{Findings}
+use Rattle.answers.specs.Answer.{Answer}
+use Rattle.report.specs.Shown.{most_shown, shown_findings}
 use Rattle.tables.specs.Tables.{Tables}
 use Rattle.pieces.specs.declared.Next.TheVariants as Next
 use Rattle.pieces.specs.Pieces.{next_of}
@@ -29,6 +31,6 @@ pub record Aims (ended : Bool) (size : ℕ) (s : List ℕ) (q : Way) : Type 0 wh
 
 -- after the answer to the line that came next
 pub data Heard (ended : Bool) (s : List ℕ) (a : Answer) (w : Way) (out : List ℕ) (q : Way) (out' : List ℕ) : Type 0 where
-  line_refused : (a.refusal ≡ 0 → ⊥) → AsFar w q → q.to ≡ q.at → q.stop ≡ Stop.Refused a.refusal → out' ≡ out → Heard ended s a w out q out'
-  line_accepted : a.refusal ≡ 0 → q.at ≡ w.to → q.put ≡ w.put + length (shown_answer a) → q.findings ≡ w.findings + a.count → Aims ended (length out) s q
-      → out' ≡ put out w.put (shown_answer a) → q.put ≤ length out → Heard ended s a w out q out'
+  line_refused : (k : Refusal) → a ≡ Err k → AsFar w q → q.to ≡ q.at → q.stop ≡ Stop.Refused k → out' ≡ out → Heard ended s a w out q out'
+  line_accepted : (f : Findings) → a ≡ Ok f → q.at ≡ w.to → q.put ≡ w.put + length (shown_findings f) → q.findings ≡ w.findings + f.count → Aims ended (length out) s q
+      → out' ≡ put out w.put (shown_findings f) → q.put ≤ length out → Heard ended s a w out q out'

@@ -8,8 +8,9 @@ ghost use Rattle.tables.specs.Tables.{tables};
 ghost use Rattle.events.specs.Outcome.{leaves, line_outcome};
 
 use crate::enter::act_on;
-use answers::Answer;
+use answers::{Answer, Findings};
 use book::Top;
+use lines::refusal::Refusal;
 use rows::Number;
 use words::Handle;
 
@@ -30,13 +31,10 @@ pub(crate) fn attach(
     ensures guided { Guides (table rows.new marks.new) guide.new }
 {
     if !weigh::attach::in_turn(book::is_closed(book), top) {
-        return answers::refused(4);
+        return Err(Refusal::OutOfStep);
     }
     let seen = sight::enter::enter(rows, marks, guide, book, t, env, &[]);
-    let k = weigh::enter::refusal(seen, many, env, &[]);
-    if k != 0 {
-        return answers::refused(k);
-    }
+    weigh::enter::allows(seen, many, env, &[])?;
     act_on(rows, marks, guide, book, line, t, env, &[]);
-    answers::nothing()
+    Ok(Findings::none())
 }

@@ -108,10 +108,7 @@ pub(crate) fn call(
     ensures outcome { (n : ℤ) → leaves result (tables rows.new marks.new pins.new pinmarks.new book.new classes.now) ≡ line_outcome line (C t env f a b c n) (top_is top) many (tables rows.old marks.old pins.old pinmarks.old book.old classes.now) }
     ensures guided { Guides (table rows.new marks.new) guide.new × PinGuides (table pins.new pinmarks.new) pinguide.new }
 {
-    let k = weigh::call::refusal(book::is_closed(book), top, many);
-    if k != 0 {
-        return answers::refused(k);
-    }
+    weigh::call::allows(book::is_closed(book), top, many)?;
     let seen = sight::call::call(
         rows, marks, guide, pins, pinmarks, pinguide, book, classes, t, f, a, b, c,
     );
@@ -121,5 +118,5 @@ pub(crate) fn call(
     act_on(
         rows, marks, guide, pins, pinmarks, pinguide, book, t, f, a, x.row, p, y.row,
     );
-    weigh::call::findings(seen, line, env, f, a, b, c)
+    Ok(weigh::call::findings(seen, line, env, f, a, b, c))
 }

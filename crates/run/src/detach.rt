@@ -40,11 +40,8 @@ pub(crate) fn detach(
     ensures outcome { (cs : List ℕ) (many : ℕ) → leaves result (tables rows.new marks.new pins.now pinmarks.now book.new cs) ≡ line_outcome line (D t) (top_is top) many (tables rows.old marks.old pins.now pinmarks.now book.old cs) }
     ensures guided { Guides (table rows.new marks.new) guide.new }
 {
-    let k = weigh::detach::refusal(book::is_closed(book), top);
-    if k != 0 {
-        return answers::refused(k);
-    }
+    weigh::detach::allows(book::is_closed(book), top)?;
     let seen = sight::detach::detach(pins, pinmarks, pinguide, book, t);
     act_on(rows, marks, guide, book, t);
-    weigh::detach::findings(seen, line)
+    Ok(weigh::detach::findings(seen, line))
 }

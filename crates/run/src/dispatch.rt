@@ -1,6 +1,5 @@
-// A line that was read, or the number given instead of it, over tables that have guides: handed to the function of its event.
-ghost use Rattle.std.specs.Prelude.{◌≡◌, false, List, ℕ, ◌≤◌};
-ghost use Rattle.std.proofs.Math.Option.{Option};
+// A line that was read, over tables that have guides: handed to the function of its event.
+ghost use Rattle.std.specs.Prelude.{◌≡◌, false, List, ℕ, ◌≤◌, Option};
 ghost use Rattle.lines.specs.Line.{most_handles};
 ghost use Rattle.history.specs.Items.{Item};
 ghost use Rattle.rows.specs.Table.{table};
@@ -20,7 +19,7 @@ use lines::Event;
 use rows::Number;
 use words::Handle;
 
-// K, O, M and Z, or the number given instead of a line. Line number `line`.
+// K, O, M and Z. Line number `line`.
 fn on_statement(
     event: Event,
     rows: &mut [Number],
@@ -52,7 +51,6 @@ fn on_statement(
             isstatic,
             isfinal,
         } => events::identify::identify(book, classes, identity, sort, class, isstatic, isfinal),
-        Event::Refused(k) => answers::refused(k),
         // Z
         _ => events::end::end(rows, marks, pins, pinmarks, book, line),
     }

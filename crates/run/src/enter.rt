@@ -11,9 +11,10 @@ ghost use Rattle.act.specs.Rows.{locals};
 ghost use Rattle.events.specs.Outcome.{leaves, line_outcome};
 
 use crate::kept;
-use answers::Answer;
+use answers::{Answer, Findings};
 use book::Top;
 use facts::classes::NO_CLASS;
+use lines::refusal::Refusal;
 use rows::Number;
 use rows::references::Reference;
 use words::Handle;
@@ -32,21 +33,19 @@ fn take_all(
     ensures left { table rows.new marks.new ≡ all_taken references (table rows.old marks.old) (locals line t d hs.now) }
     ensures guided { Guides (table rows.new marks.new) guide.new }
 {
-    let mut i = 0;
-    while i < hs.len() {
+    for h in hs {
         kept::take(
             rows,
             marks,
             guide,
             Reference {
                 thread: t as Number,
-                handle: hs[i],
+                handle: *h,
                 frame: d as Number,
                 line: line as Number,
                 class: NO_CLASS as Number,
             },
         );
-        i += 1;
     }
 }
 
@@ -87,13 +86,10 @@ pub(crate) fn enter(
     ensures guided { Guides (table rows.new marks.new) guide.new }
 {
     if !weigh::enter::in_turn(book::is_closed(book), top) {
-        return answers::refused(4);
+        return Err(Refusal::OutOfStep);
     }
     let seen = sight::enter::enter(rows, marks, guide, book, t, env, hs);
-    let k = weigh::enter::refusal(seen, many, env, hs);
-    if k != 0 {
-        return answers::refused(k);
-    }
+    weigh::enter::allows(seen, many, env, hs)?;
     act_on(rows, marks, guide, book, line, t, env, hs);
-    answers::nothing()
+    Ok(Findings::none())
 }

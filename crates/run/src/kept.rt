@@ -8,8 +8,8 @@ ghost use Rattle.guide.specs.Masks.{word_bit, mark_bit};
 ghost use Rattle.guide.specs.References.{Guides};
 ghost use Rattle.run.specs.Unshown.{Unshown};
 
-use crate::bits::{lesser, next_bit};
-use rows::references::{Held, Reference};
+use crate::bits::next_bit;
+use rows::references::Reference;
 use rows::{Number, WORD};
 
 // The lowest free row holds this.
@@ -55,14 +55,10 @@ fn end_if(rows: &mut [Number], marks: &mut [u64], guide: &mut [u64], r: usize, t
     ensures left { table rows.new marks.new ≡ ended_if references (from_frame t f) (table rows.old marks.old) r }
     ensures guided { Guides (table rows.new marks.new) guide.new }
 {
-    let held = rows::references::slot(rows, marks, r);
-    match held {
-        Held::Row(x) => {
-            if (f <= x.frame) & (x.thread == t) {
-                end(rows, marks, guide, r);
-            }
+    if let Some(x) = rows::references::slot(rows, marks, r) {
+        if (f <= x.frame) & (x.thread == t) {
+            end(rows, marks, guide, r);
         }
-        Held::Nothing => {}
     }
 }
 
@@ -74,7 +70,7 @@ fn next_own(marks: &[u64], own: u64, w: usize, i: usize, m: usize) -> usize
     if m <= i {
         return m;
     }
-    lesser(next_bit(marks[w] & own, i), m)
+    next_bit(marks[w] & own, i).min(m)
 }
 
 // Ends such rows among the first m of word w; those are looked at whose marks are set, also in `own`.
@@ -93,6 +89,7 @@ fn end_first(
     ensures guided { Guides (table rows.new marks.new) guide.new }
 {
     let mut i = next_own(marks, own, w, 0, m);
+    // No range counts the set marks.
     while i < m {
         end_if(rows, marks, guide, w * WORD + i, t, f);
         i = next_own(marks, own, w, i + 1, m);
@@ -125,7 +122,7 @@ fn next_shown(shown: u64, w: usize, full: usize) -> usize
     requires { (w ≤ full) × (full ≤ most) }
     ensures { (w ≤ result) × (result ≤ full) × ((k : ℕ) → w ≤ k → k < result → bit shown (k % word) ≡ false) }
 {
-    lesser(w / WORD * WORD + next_bit(shown, w % WORD), full)
+    (w / WORD * WORD + next_bit(shown, w % WORD)).min(full)
 }
 
 // Ends the used rows of thread t and frame f or above, in the words that the guide shows.
@@ -145,6 +142,7 @@ pub(crate) fn end_frames(
     let own = guide::references::marks_from(guide, t, f);
     let full = n / WORD;
     let mut w = next_shown(shown, 0, full);
+    // No range counts the words that are shown.
     while w < full {
         end_shown(rows, marks, guide, shown, own, w, WORD, t, f);
         w = next_shown(shown, w + 1, full);

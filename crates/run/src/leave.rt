@@ -43,11 +43,8 @@ pub(crate) fn leave(
     ensures outcome { (cs : List ℕ) (many : ℕ) → leaves result (tables rows.new marks.new pins.now pinmarks.now book.new cs) ≡ line_outcome line (X t res) (top_is top) many (tables rows.old marks.old pins.now pinmarks.now book.old cs) }
     ensures guided { Guides (table rows.new marks.new) guide.new }
 {
-    let k = weigh::leave::refusal(book::is_closed(book), top);
-    if k != 0 {
-        return answers::refused(k);
-    }
+    weigh::leave::allows(book::is_closed(book), top)?;
     let seen = sight::leave::leave(rows, marks, guide, pins, pinmarks, pinguide, t, res);
     act_on(rows, marks, guide, book, t);
-    weigh::leave::findings(seen, line, res)
+    Ok(weigh::leave::findings(seen, line, res))
 }

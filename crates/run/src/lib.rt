@@ -15,16 +15,17 @@ mod returns;
 mod state;
 mod step;
 
-ghost use Rattle.std.specs.Prelude.{◌≡◌, false, List, ℕ, ◌+◌, ◌≤◌, length};
+ghost use Rattle.std.specs.Prelude.{◌≡◌, false, List, ℕ, ◌+◌, ◌≤◌, length, IfOk};
 ghost use Rattle.numbers.specs.Writing.{put};
 ghost use Rattle.answers.specs.Answer.{most_found};
-ghost use Rattle.report.specs.Shown.{most_shown, shown_answer};
+ghost use Rattle.report.specs.Shown.{most_shown, shown_findings};
 ghost use Rattle.tables.specs.Tables.{tables};
 ghost use Rattle.judge.specs.Outcome.{by_tables};
 ghost use Rattle.run.specs.Running.{leaves, piece_outcome};
 ghost use Rattle.run.specs.Way.{AsFar, Aims, Heard};
 
-use answers::Answer;
+use answers::{Answer, Findings};
+use lines::refusal::Refusal;
 use pieces::Next;
 use report::MOST_SHOWN;
 use rows::Number;
@@ -32,7 +33,7 @@ use rows::Number;
 // Why a run stops: a line was refused, the slice has no room for the findings of one more, more must be read, or the input is at its end.
 #[derive(Clone, Copy)]
 pub enum Stop {
-    Refused(u8),
+    Refused(Refusal),
     Full,
     More,
     End,
@@ -90,37 +91,38 @@ fn aimed(way: Way, input: &[u8], ended: bool, size: usize) -> Way
     }
 }
 
-// The findings of an answer at a place where they have room; how long they are.
-fn put_found(out: &mut [u8], at: usize, answer: Answer) -> usize
+// The findings of a line at a place where they have room; how long they are.
+fn put_found(out: &mut [u8], at: usize, found: Findings) -> usize
     requires { at + most_shown ≤ length out.old }
-    ensures { (result ≡ length (shown_answer answer)) × (result ≤ most_shown) × (out.new ≡ put out.old at (shown_answer answer)) }
+    ensures { (result ≡ length (shown_findings found)) × (result ≤ most_shown) × (out.new ≡ put out.old at (shown_findings found)) }
 {
-    if answer.count == 0 {
+    if found.count == 0 {
         return 0;
     }
-    report::put_findings(out, at, answer);
-    report::findings_width(answer)
+    report::put_findings(out, at, found);
+    report::findings_width(found)
 }
 
 // After the answer to the line that came next: its findings stand behind those before them.
 fn heard(way: Way, answer: Answer, input: &[u8], ended: bool, out: &mut [u8]) -> Way
-    requires { (way.to ≤ length input.now) × (way.put + most_shown ≤ length out.old) × (way.findings ≤ way.put) × (answer.count ≤ most_found) }
+    requires { (way.to ≤ length input.now) × (way.put + most_shown ≤ length out.old) × (way.findings ≤ way.put) × IfOk answer (λ found. found.count ≤ most_found) }
     ensures { Heard ended input.now answer way out.old result out.new }
 {
-    let refusal = answer.refusal;
-    if refusal != 0 {
-        return stopped(way, Stop::Refused(refusal));
+    match answer {
+        Err(refusal) => stopped(way, Stop::Refused(refusal)),
+        Ok(found) => {
+            let width = put_found(out, way.put, found);
+            let stop = way.stop;
+            let passed = Way {
+                at: way.to,
+                to: way.to,
+                put: way.put + width,
+                findings: way.findings + found.count,
+                stop,
+            };
+            aimed(passed, input, ended, out.len())
+        }
     }
-    let width = put_found(out, way.put, answer);
-    let stop = way.stop;
-    let passed = Way {
-        at: way.to,
-        to: way.to,
-        put: way.put + width,
-        findings: way.findings + answer.count,
-        stop,
-    };
-    aimed(passed, input, ended, out.len())
 }
 
 // A piece of fewer bytes than this is judged by scans: guides would take longer to fill than to serve.
@@ -133,7 +135,7 @@ fn is_scanned(n: usize, book: &[u64], classes: &[Number]) -> bool
     if n < SHORT {
         return true;
     }
-    judge::refused_by_tables(book, classes) == 8
+    judge::allows(book, classes) == Err(Refusal::Unfit)
 }
 
 fn start(input: &[u8], ended: bool, size: usize) -> Way
@@ -176,6 +178,7 @@ fn run_by_scans(
     ensures { leaves result (tables rows.new marks.new pins.new pinmarks.new book.new classes.new) out.new ≡ piece_outcome ended (tables rows.old marks.old pins.old pinmarks.old book.old classes.old) input.now out.old }
 {
     let mut way = start(input, ended, out.len());
+    // No range counts the lines: where the next one ends shows once this one is heard.
     while way.at < way.to {
         let at = way.at;
         let to = way.to;
@@ -206,6 +209,7 @@ fn run_by_guides(
     guide::pins::fill(pins, pinmarks, &mut pinguide);
     let mut touched = 0;
     let mut way = start(input, ended, out.len());
+    // No range counts the lines: where the next one ends shows once this one is heard.
     while way.at < way.to {
         let at = way.at;
         let to = way.to;

@@ -18,6 +18,7 @@ use answers::Answer;
 use book::Top;
 use facts::Result;
 use facts::results::{is_buffer_result, is_handle_result};
+use lines::refusal::Refusal;
 use rows::Number;
 use rows::pins::Pin;
 use words::Handle;
@@ -122,13 +123,10 @@ pub(crate) fn returns(
     ensures guided { Guides (table rows.new marks.new) guide.new × PinGuides (table pins.new pinmarks.new) pinguide.new }
 {
     if !weigh::returns::in_turn(book::is_closed(book), f, top) {
-        return answers::refused(4);
+        return Err(Refusal::OutOfStep);
     }
     let seen = sight::returns::returns(rows, marks, guide, pins, pinmarks, book, t, f, res);
-    let k = weigh::returns::refusal(seen, f, status == 0);
-    if k != 0 {
-        return answers::refused(k);
-    }
+    weigh::returns::allows(seen, f, status == 0)?;
     let kind = seen.kind;
     let new = seen.made;
     act_on(
@@ -149,5 +147,5 @@ pub(crate) fn returns(
         pending,
         events::returns::capacity_asked(top),
     );
-    weigh::returns::findings(seen, line, res)
+    Ok(weigh::returns::findings(seen, line, res))
 }

@@ -1,6 +1,5 @@
 // O: weighed by the guide; where it is accepted, the class of its handle is stated.
-ghost use Rattle.std.specs.Prelude.{◌≡◌, List, ℕ};
-ghost use Rattle.std.proofs.Math.Option.{Option};
+ghost use Rattle.std.specs.Prelude.{◌≡◌, List, ℕ, Option};
 ghost use Rattle.lines.specs.Line.{O, states};
 ghost use Rattle.history.specs.Items.{Item};
 ghost use Rattle.rows.specs.Table.{table};
@@ -8,7 +7,7 @@ ghost use Rattle.guide.specs.References.{Guides};
 ghost use Rattle.tables.specs.Tables.{tables};
 ghost use Rattle.events.specs.Outcome.{leaves, line_outcome};
 
-use answers::Answer;
+use answers::{Answer, Findings};
 use rows::Number;
 use words::Handle;
 
@@ -27,10 +26,7 @@ pub(crate) fn state(
     ensures guided { Guides (table rows.new marks.now) guide.now }
 {
     let seen = sight::state::state(rows, marks, guide, classes, t, h, c);
-    let k = weigh::state::refusal(book::is_closed(book), seen);
-    if k != 0 {
-        return answers::refused(k);
-    }
+    weigh::state::allows(book::is_closed(book), seen)?;
     act::state::state(rows, marks, book, seen.row, c);
-    answers::nothing()
+    Ok(Findings::none())
 }

@@ -41,23 +41,18 @@ pub(crate) fn step(
     ensures guided { Guides (table rows.new marks.new) guide.new × PinGuides (table pins.new pinmarks.new) pinguide.new }
     ensures fit { FitBut (tables rows.new marks.new pins.new pinmarks.new book.new classes.new) touched.new }
 {
-    let k = fit::refused_since(book, *touched);
-    if k != 0 {
-        return answers::refused(k);
-    }
+    fit::allows(book, *touched)?;
     let number = next_number(book);
     let mut handles = [0; 8];
-    let event = lines::read_line(line, &mut handles);
+    let event = lines::read_line(line, &mut handles)?;
     let t = items::thread_of(event);
     *touched = t;
     let top = book::top_item(book, t);
     let many = book::items_of(book, t);
-    let answer = dispatch::on_event(
+    let found = dispatch::on_event(
         event, handles, rows, marks, guide, pins, pinmarks, pinguide, book, classes, top, many,
         number,
-    );
-    if answer.refusal == 0 {
-        items::move_item(book, event);
-    }
-    answer
+    )?;
+    items::move_item(book, event);
+    Ok(found)
 }

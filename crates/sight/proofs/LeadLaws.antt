@@ -1,7 +1,7 @@
 -- What is found or counted by a guide is what a look at all rows finds and counts. Assumes nothing.
 use Prim.Native.Nat.{ℕ, ◌+◌}
 use mathlib.Core.Path.{◌≡◌, sym, ap, ◌∙◌}
-use mathlib.Core.Bool.{Bool, false, ◌||◌}
+use mathlib.Core.Bool.{false, ◌||◌}
 use mathlib.Core.List.{List}
 use lib.Dec.{eqb, ltb}
 use lib.ListN.{length, get_or}
@@ -11,7 +11,7 @@ use Rattle.rows.specs.Table.{Table, free_row, alive, counted, some_row, found}
 use Rattle.rows.specs.Frees.{free_from}
 use Rattle.rows.specs.References.{references, in_frame, is_handle}
 use Rattle.rows.specs.Pins.{pins, of_thread, is_buffer}
-use Rattle.guide.specs.References.{places, used_at, low_at, cell_of, found_in, Guides, Leads, scans, by_guide}
+use Rattle.guide.specs.References.{places, used_at, low_at, cell_of, found_in, Leads, scans, by_guide}
 use Rattle.guide.specs.Pins as pin
 use Rattle.guide.proofs.Telling.{leads_finds, leads_free, guide_counts, guide_used}
 use Rattle.guide.proofs.PinGuideLaws.{pin_leads_finds, pin_guide_counts}

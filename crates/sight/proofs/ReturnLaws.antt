@@ -10,7 +10,6 @@ use Rattle.words.specs.Choice.{if_true◌then◌else◌}
 use Rattle.facts.specs.Table.{fact_of}
 use Rattle.facts.specs.Results.{is_local_result, is_handle_result, is_buffer_result}
 use Rattle.facts.specs.declared.Result.{Result}
-use Rattle.facts.specs.declared.Result.TheVariants as Result
 use Rattle.lines.proofs.Tests.{and_true, and_false}
 use Rattle.rows.specs.Table.{Table, table, room, free_row}
 use Rattle.rows.specs.References.{references}

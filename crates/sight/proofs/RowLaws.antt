@@ -10,7 +10,6 @@ use Rattle.facts.specs.Table.{fact_of, family, table}
 use Rattle.facts.specs.Named.{DeleteGlobalRef, DeleteLocalRef, DeleteWeakGlobalRef}
 use Rattle.facts.specs.Results.{is_buffer_place}
 use Rattle.facts.specs.declared.Place.{Place}
-use Rattle.facts.specs.declared.Place.TheVariants as Place
 use Rattle.rows.specs.Table.{found}
 use Rattle.rows.specs.References.{references, is_handle}
 use Rattle.rows.specs.Pins.{pins, is_buffer}

@@ -13,7 +13,6 @@ use Rattle.facts.specs.Classes.{no_class}
 use Rattle.facts.specs.Identities.{wanted_of, suits, writes_field}
 use Rattle.facts.specs.declared.identities.Wanted.{Wanted}
 use Rattle.facts.specs.declared.Place.{Place}
-use Rattle.facts.specs.declared.Place.TheVariants as Place
 use Rattle.lines.specs.Line.{kind}
 use Rattle.lines.proofs.Tests.{neither, or_true}
 use Rattle.rows.specs.Table.{Table, table, room, found}

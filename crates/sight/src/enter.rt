@@ -23,14 +23,7 @@ fn some_alive(rows: &[Number], marks: &[u64], guide: &[u64], t: u32, hs: &[Handl
     requires { Leads (table rows.now marks.now) guide.now }
     ensures { result ≡ some_alive (table rows.now marks.now) t hs.now }
 {
-    let mut i = 0;
-    while i < hs.len() {
-        if local_alive(rows, marks, guide, t, hs[i]) {
-            return true;
-        }
-        i += 1;
-    }
-    false
+    hs.iter().any(|h| local_alive(rows, marks, guide, t, *h))
 }
 
 pub fn enter(

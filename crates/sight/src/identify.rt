@@ -7,6 +7,7 @@ use rows::Number;
 use words::Handle;
 
 // The class is declared or reserved, the place where the identity stands or can be put, and whether that is one of the room.
+// `place` beside `fits`, and no Option: `act::identify` takes a place of any caller, so it would be handed a made-up one for None.
 #[derive(Clone, Copy)]
 pub struct IdentifySight {
     pub known: bool,

@@ -12,6 +12,7 @@ use rows::Number;
 use words::Handle;
 
 // What is made: whether it is alive already, the lowest free row of its table, and whether that is one of the room.
+// `row` beside `fits`, and no Option: a null result fits and takes no row, and `act::returns` takes a row of any caller.
 #[derive(Clone, Copy)]
 pub struct Made {
     pub alive: bool,

@@ -16,6 +16,7 @@ use facts::identities::YES;
 use rows::Number;
 use words::Handle;
 
+// `row` beside `there`, and no Option: `act`'s functions take a row of any caller, there or not, so each would be handed a made-up one for None.
 #[derive(Clone, Copy)]
 pub struct Spot {
     pub there: bool,
@@ -65,14 +66,11 @@ pub(crate) fn handle(rows: &[Number], marks: &[u64], guide: &[u64], t: u32, h: H
     requires { Leads (table rows.now marks.now) guide.now }
     ensures { (ps ns b cs : List ℕ) → result ≡ handle_spot no_class (tables rows.now marks.now ps ns b cs) t h }
 {
-    let kind = h % KINDS;
-    if kind == IDENTITY {
-        return nowhere();
+    match h % KINDS {
+        IDENTITY => nowhere(),
+        LOCAL => local(rows, marks, guide, t, h),
+        _ => shared(rows, marks, guide, h),
     }
-    if kind == LOCAL {
-        return local(rows, marks, guide, t, h);
-    }
-    shared(rows, marks, guide, h)
 }
 
 // A handle where class `fixed` is fixed, or none: what is stated of it is looked at where one is, and the handle is there.
@@ -94,11 +92,7 @@ fn judged(
     }
     let stated = rows::references::class_at(rows, marks, at.row);
     let fits = classes::fits(classes, fixed, stated);
-    Spot {
-        there: at.there,
-        row: at.row,
-        fits,
-    }
+    Spot { fits, ..at }
 }
 
 // The buffer that function f of the thread releases.

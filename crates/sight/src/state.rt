@@ -10,6 +10,7 @@ use rows::Number;
 use words::Handle;
 
 // The class is declared or reserved, the handle is alive for the thread, and its row.
+// `row` beside `alive`, and no Option: `act::state` takes a row of any caller, so it would be handed a made-up one for None.
 #[derive(Clone, Copy)]
 pub struct StateSight {
     pub known: bool,

@@ -1,7 +1,7 @@
 -- How many leaks stand in lent tables at most. Assumes nothing.
 use Prim.Native.Nat.{◌+◌, ◌≤◌}
 use mathlib.Core.List.{List, [], ◌∷◌, map}
-use mathlib.Core.Option.{Option, none, some}
+use Rattle.std.specs.Prelude.{Option, None, Some}
 use native.Mathlib.Omega.{arith}
 use lib.ListN.{length, length-map}
 use Rattle.rows.specs.Slots.{held}
@@ -19,8 +19,8 @@ use Rattle.tables.specs.Listing.{made_alive, made_pin, leaks_in}
 
 pub held_within : {A : Type 0} (s : List (Option A)) → length (held s) ≤ length s
 held_within [] = omega arith
-held_within (none ∷ s) = omega (arith, held_within s)
-held_within (some x ∷ s) = omega (arith, held_within s)
+held_within (None ∷ s) = omega (arith, held_within s)
+held_within (Some x ∷ s) = omega (arith, held_within s)
 
 few_held : {A : Type 0} (L : Layout A) (T : Table) → length (held (view L T)) ≤ most
 unfolding room

@@ -3,7 +3,7 @@ use Prim.Native.Nat.{suc, ◌≤◌}
 use mathlib.Core.Path.{◌≡◌, refl, sym, ap, ◌∙◌, fun_ext}
 use mathlib.Core.Bool.{Bool, true, false, ◌||◌}
 use mathlib.Core.List.{List, [], ◌∷◌}
-use mathlib.Core.Option.{Option, none, some}
+use Rattle.std.specs.Prelude.{Option, None, Some}
 use native.Mathlib.Omega.{arith}
 use borrow.Author.Tests.{lt-ltb}
 use lib.Dec.{ltb}
@@ -44,8 +44,8 @@ count_all (x ∷ l) = ap suc (count_all l)
 
 held_most : {A : Type 0} (l : List (Option A)) → length (held l) ≤ length l
 held_most [] = omega arith
-held_most (none ∷ l) = omega (arith, held_most l)
-held_most (some x ∷ l) = omega (arith, held_most l)
+held_most (None ∷ l) = omega (arith, held_most l)
+held_most (Some x ∷ l) = omega (arith, held_most l)
 
 -- ---- on rows
 

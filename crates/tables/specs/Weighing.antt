@@ -1,6 +1,5 @@
 -- What is answered to a line that was read, over lent tables: the same rules as over the history, on what is seen in the tables. Assumes nothing.
-use Rattle.std.specs.Prelude.{ℕ, ◌+◌, Bool, true, ◌&&◌, eqb, leb, ltb, length}
-use Rattle.std.proofs.Math.Option.{Option}
+use Rattle.std.specs.Prelude.{ℕ, ◌+◌, Bool, true, ◌&&◌, eqb, leb, ltb, length, Option}
 use Rattle.words.specs.Choice.{if_true◌then◌else◌}
 use Rattle.lines.specs.Line.{Line, if_M◌then◌else◌}
 use Rattle.rows.specs.Table.{room, alive}

@@ -1,6 +1,6 @@
 -- That the promises of a line of each event are tight. Assumes nothing.
 use mathlib.Core.List.{[]}
-use mathlib.Core.Option.{none}
+use Rattle.std.specs.Prelude.{None}
 use lib.IntN.{pos}
 use Rattle.events.proofs as events
 use Rattle.events.specs.contracts as of_events
@@ -23,13 +23,13 @@ call_tight κs args = (
 pub declare_tight : Tight of_events.declare.declare.ended events.declare.declare.Reads.Asked events.declare.declare.Reads.Learnt
 declare_tight κs args = (
   tt,
-  λ x y p q. by (λ (o : Outcome). given o.answer (o.left.book, (o.left.classes, x.left.1.1))) (p [] [] [] [] 0 none 0) (q [] [] [] [] 0 none 0),
+  λ x y p q. by (λ (o : Outcome). given o.answer (o.left.book, (o.left.classes, x.left.1.1))) (p [] [] [] [] 0 None 0) (q [] [] [] [] 0 None 0),
 )
 
 pub identify_tight : Tight of_events.identify.identify.ended events.identify.identify.Reads.Asked events.identify.identify.Reads.Learnt
 identify_tight κs args = (
   tt,
-  λ x y p q. by (λ (o : Outcome). given o.answer (o.left.book, (o.left.classes, x.left.1.1))) (p [] [] [] [] 0 none 0) (q [] [] [] [] 0 none 0),
+  λ x y p q. by (λ (o : Outcome). given o.answer (o.left.book, (o.left.classes, x.left.1.1))) (p [] [] [] [] 0 None 0) (q [] [] [] [] 0 None 0),
 )
 
 pub detach_tight : Tight of_events.detach.detach.ended events.detach.detach.Reads.Asked events.detach.detach.Reads.Learnt
@@ -46,8 +46,8 @@ end_tight κs args = (
   tt,
   λ x y p q.
       by (λ (o : Outcome). given o.answer (x.left.0, (x.left.1.0, (x.left.1.1.0, (x.left.1.1.1.0, (o.left.book, x.left.1.1.1.1.1))))))
-      (p [] none 0)
-      (q [] none 0),
+      (p [] None 0)
+      (q [] None 0),
 )
 
 pub enter_tight : Tight of_events.enter.enter.ended events.enter.enter.Reads.Asked events.enter.enter.Reads.Learnt
@@ -79,6 +79,6 @@ state_tight κs args = (
   tt,
   λ x y p q.
       by (λ (o : Outcome). given o.answer (o.left.references.rows, (x.left.1.0, (o.left.book, x.left.1.1.1))))
-      (p [] [] 0 none 0)
-      (q [] [] 0 none 0),
+      (p [] [] 0 None 0)
+      (q [] [] 0 None 0),
 )

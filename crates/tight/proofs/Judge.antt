@@ -15,8 +15,8 @@ move_item_tight κs args = (tt, λ x y p q. by_slice x y (p []) (q []))
 pub start_tight : Tight of_judge.start.ended judge.start.Reads.Asked judge.start.Reads.Learnt
 start_tight κs args = (tt, by_tables)
 
-pub refused_by_tables_tight : Tight of_judge.refused_by_tables.ended judge.refused_by_tables.Reads.Asked judge.refused_by_tables.Reads.Learnt
-refused_by_tables_tight κs args = (tt, λ x y p q. by_reply x y (p [] [] [] []) (q [] [] [] []))
+pub allows_tight : Tight of_judge.allows.ended judge.allows.Reads.Asked judge.allows.Reads.Learnt
+allows_tight κs args = (tt, λ x y p q. by_reply x y (p [] [] [] []) (q [] [] [] []))
 
 pub step_tight : Tight of_judge.step.ended judge.step.Reads.Asked judge.step.Reads.Learnt
 step_tight κs args = (tt, λ x y. by (λ (o : Outcome). given o.answer (tt, with_tables o.left tt)))

@@ -16,5 +16,11 @@ gives_status_tight κs args = (tt, by_reply)
 pub counts_of_tight : Tight of_lines.forms.counts_of.ended lines.forms.counts_of.Reads.Asked lines.forms.counts_of.Reads.Learnt
 counts_of_tight κs args = (tt, by_reply)
 
+pub number_tight : Tight of_lines.refusal.Refusal.number.ended lines.refusal.Refusal.number.Reads.Asked lines.refusal.Refusal.number.Reads.Learnt
+number_tight κs args = (tt, by_reply)
+
+pub told_tight : Tight of_lines.refusal.Refusal.told.ended lines.refusal.Refusal.told.Reads.Asked lines.refusal.Refusal.told.Reads.Learnt
+told_tight κs args = (tt, by_reply)
+
 pub event_of_tight : Tight of_lines.forms.event_of.ended lines.forms.event_of.Reads.Asked lines.forms.event_of.Reads.Learnt
 event_of_tight κs args = (tt, by_reply)

@@ -1,11 +1,6 @@
 -- That the promises of the lent rows and marks are tight. Assumes nothing.
-use mathlib.Core.Path.{◌≡◌, refl, sym, ◌∙◌}
 use Rattle.rows.proofs as rows
 use Rattle.rows.specs.contracts as of_rows
-use Rattle.rows.specs.References.{told}
-use Rattle.rows.specs.Pins.{told as pin_told}
-use Rattle.rows.specs.declared.references.Held.{Held}
-use Rattle.rows.specs.declared.pins.Held.{Held as PinHeld}
 use Rattle.rows.specs.Table.{Table}
 use Rattle.tight.specs.Tight.{given, Tight}
 use Rattle.tight.proofs.Shapes.{by, by_reply, by_table, by_reply_and_table}
@@ -25,14 +20,8 @@ references_free_from_tight κs args = (tt, by_reply)
 pub references_alive_tight : Tight of_rows.references.alive.ended rows.references.alive.Reads.Asked rows.references.alive.Reads.Learnt
 references_alive_tight κs args = (tt, by_reply)
 
-one_slot : (x y : Held) → told x ≡ told y → x ≡ y
-one_slot (Held.Row a) (Held.Row b) e = cc
-one_slot (Held.Row a) Held.Nothing e = cc
-one_slot Held.Nothing (Held.Row b) e = cc
-one_slot Held.Nothing Held.Nothing e = refl
-
 pub references_slot_tight : Tight of_rows.references.slot.ended rows.references.slot.Reads.Asked rows.references.slot.Reads.Learnt
-references_slot_tight κs args = (tt, λ x y p q. by_reply x y (one_slot x.reply y.reply (p ∙ sym q)) refl)
+references_slot_tight κs args = (tt, by_reply)
 
 pub references_class_at_tight : Tight of_rows.references.class_at.ended rows.references.class_at.Reads.Asked rows.references.class_at.Reads.Learnt
 references_class_at_tight κs args = (tt, by_reply)
@@ -70,14 +59,8 @@ pins_lowest_free_tight κs args = (tt, by_reply)
 pub pins_alive_tight : Tight of_rows.pins.alive.ended rows.pins.alive.Reads.Asked rows.pins.alive.Reads.Learnt
 pins_alive_tight κs args = (tt, by_reply)
 
-one_pin_slot : (x y : PinHeld) → pin_told x ≡ pin_told y → x ≡ y
-one_pin_slot (PinHeld.Row a) (PinHeld.Row b) e = cc
-one_pin_slot (PinHeld.Row a) PinHeld.Nothing e = cc
-one_pin_slot PinHeld.Nothing (PinHeld.Row b) e = cc
-one_pin_slot PinHeld.Nothing PinHeld.Nothing e = refl
-
 pub pins_slot_tight : Tight of_rows.pins.slot.ended rows.pins.slot.Reads.Asked rows.pins.slot.Reads.Learnt
-pins_slot_tight κs args = (tt, λ x y p q. by_reply x y (one_pin_slot x.reply y.reply (p ∙ sym q)) refl)
+pins_slot_tight κs args = (tt, by_reply)
 
 pub pins_store_tight : Tight of_rows.pins.store.ended rows.pins.store.Reads.Asked rows.pins.store.Reads.Learnt
 pins_store_tight κs args = (tt, by_table)

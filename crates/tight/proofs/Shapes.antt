@@ -3,8 +3,8 @@
 use Prim.Native.Nat.{ℕ}
 use mathlib.Core.Path.{◌≡◌, sym, ap, ap₂, ◌∙◌}
 use mathlib.Core.List.{List}
+use Rattle.std.specs.Prelude.{Option}
 use Rattle.numbers.specs.Writing.{Puts}
-use Rattle.numbers.specs.declared.Room.{Room}
 use Rattle.rows.specs.Table.{Table, table}
 use Rattle.tables.specs.Tables.{Tables, tables}
 use Rattle.tight.specs.Tight.{Given, given}
@@ -36,7 +36,7 @@ pub by_reply_and_slice : {Reply Slice Rest : Type 0} {v : Reply} {w : Slice} (x 
     → (x.reply ≡ v) × (x.left.0 ≡ w) → (y.reply ≡ v) × (y.left.0 ≡ w) → x ≡ given y.reply (y.left.0, x.left.1)
 by_reply_and_slice x y = by_two (λ r s. given r (s, x.left.1))
 
-pub by_puts : {Rest : Type 0} {d bytes : List ℕ} {at : ℕ} (x y : Given Room (List ℕ × Rest))
+pub by_puts : {Rest : Type 0} {d bytes : List ℕ} {at : ℕ} (x y : Given (Option ℕ) (List ℕ × Rest))
     → Puts d at bytes x.reply x.left.0 → Puts d at bytes y.reply y.left.0 → x ≡ given y.reply (y.left.0, x.left.1)
 by_puts x y p q = by_reply_and_slice x y (p.reply, p.left) (q.reply, q.left)
 

@@ -1,7 +1,7 @@
 -- The way through a trace, from one call of the loop to the next. Assumes nothing.
-use Prim.Native.Nat.{ℕ, suc, ◌+◌, ◌*◌, ◌-◌, ◌≤◌, ◌<◌}
+use Prim.Native.Nat.{ℕ, ◌+◌, ◌*◌, ◌-◌, ◌≤◌, ◌<◌}
 use mathlib.Core.Path.{◌≡◌, refl, sym, ap, ap₂, ◌∙◌}
-use mathlib.Core.Bool.{Bool, true, false, false≢true}
+use mathlib.Core.Bool.{true, false≢true}
 use mathlib.Core.List.{List, [], ◌++◌, append-nil}
 use native.Mathlib.Omega.{arith}
 use lib.ListN.{length, take, drop, length-append, length-drop}
@@ -13,12 +13,10 @@ use Rattle.history.specs.Report.{lines_of}
 use Rattle.history.specs.declared.Finding.{Finding}
 use Rattle.history.proofs.Stacks.{at_most_a_million}
 use Rattle.book.specs.Threads.{lines_in}
-use Rattle.answers.specs.Answer.{most_found}
 use Rattle.tables.specs.Tables.{Tables}
 use Rattle.demands.specs.Calls.{ran, run_in}
 use Rattle.run.specs.declared.Passed.{Passed}
 use Rattle.run.specs.declared.Stop.{Stop}
-use Rattle.run.specs.declared.Stop.TheVariants as Stop
 use Rattle.run.specs.Following.{Follows}
 use Rattle.run.specs.Running.{all_shown, leaves, piece_outcome}
 use Rattle.run.specs.Passing.{from_stop}
@@ -26,28 +24,22 @@ use Rattle.run.proofs.Going.{all_shown_append}
 use Rattle.run.proofs.Passing.{Learnt, learnt, few_bytes}
 use Rattle.trace.specs.declared.Run.{Run}
 use Rattle.trace.specs.Whole.{run_over}
-use Rattle.trace.specs.Running.{scratch_size, Few, refusal_of, is_full, SumsFit, PassesOn}
+use Rattle.trace.specs.Running.{scratch_size, Few, number_in, SumsFit, PassesOn}
 use Rattle.trace.proofs.Putting.{put_as_long, put_behind}
 
 -- ---- why a call has stopped, where the trace ends behind its bytes
 
-full_is : (stop : Stop) → is_full stop ≡ true → stop ≡ Stop.Full
-full_is (Stop.Refused k) h = absurd (false≢true h)
-full_is Stop.Full h = refl
-full_is Stop.More h = absurd (false≢true h)
-full_is Stop.End h = absurd (false≢true h)
+on_end : (stop : Stop) (T : Tables) (fs : List Finding) (unread : List ℕ) → (stop ≡ Stop.Full → ⊥) → (stop ≡ Stop.More → ⊥)
+    → from_stop stop T fs unread ≡ ran T fs (number_in stop)
+on_end (Stop.Refused k) T fs unread full more = refl
+on_end Stop.Full T fs unread full more = absurd (full refl)
+on_end Stop.More T fs unread full more = absurd (more refl)
+on_end Stop.End T fs unread full more = refl
 
-on_end : (stop : Stop) (T : Tables) (fs : List Finding) (unread : List ℕ) → is_full stop ≡ false → (stop ≡ Stop.More → ⊥)
-    → from_stop stop T fs unread ≡ ran T fs (refusal_of stop)
-on_end (Stop.Refused k) T fs unread h more = refl
-on_end Stop.Full T fs unread h more = absurd (false≢true (sym h))
-on_end Stop.More T fs unread h more = absurd (more refl)
-on_end Stop.End T fs unread h more = refl
+-- ---- the findings so far
 
--- ---- before the byte `at` of the trace
-
-pub record Going (T : Tables) (trace out : List ℕ) (r : Run) (T' : Tables) (out' : List ℕ) : Type 0 where
-  pub found : List Finding
+-- of so many lines, put at the front where they have room, and the tables that are left
+pub record Far (out : List ℕ) (r : Run) (T' : Tables) (out' : List ℕ) (found : List Finding) : Type 0 where
   pub lines : ℕ
   pub follows : Follows T' lines
   pub few : Few r lines
@@ -55,48 +47,51 @@ pub record Going (T : Tables) (trace out : List ℕ) (r : Run) (T' : Tables) (ou
   pub bytes : r.bytes ≡ length (all_shown found)
   pub shown : length (all_shown found) ≤ length out → out' ≡ put out 0 (all_shown found)
   pub as_long : length out' ≡ length out
-  pub within : r.at ≤ length trace
-  pub goes : r.going ≡ true → run_over T trace ≡ run_in T' found (lines_of (drop r.at trace))
-  pub ends : r.going ≡ false → run_over T trace ≡ ran T' found r.refusal
 
-pub going_start : {T : Tables} {trace out : List ℕ} {r : Run} → Follows T 0 → r.at ≡ 0 → r.findings ≡ 0 → r.bytes ≡ 0 → r.going ≡ true → Going T trace out r T out
+-- before the byte `at` of the trace
+pub record Going (T : Tables) (trace out : List ℕ) (r : Run) (T' : Tables) (out' : List ℕ) : Type 0 where
+  pub found : List Finding
+  pub far : Far out r T' out' found
+  pub within : r.at ≤ length trace
+  pub goes : run_over T trace ≡ run_in T' found (lines_of (drop r.at trace))
+
+-- at its end
+pub record Ended (T : Tables) (trace out : List ℕ) (r : Run) (stop : Stop) (T' : Tables) (out' : List ℕ) : Type 0 where
+  pub found : List Finding
+  pub far : Far out r T' out' found
+  pub ends : run_over T trace ≡ ran T' found (number_in stop)
+
+pub going_start : {T : Tables} {trace out : List ℕ} {r : Run} → Follows T 0 → r.at ≡ 0 → r.findings ≡ 0 → r.bytes ≡ 0 → Going T trace out r T out
 unfolding run_over
-going_start {T} {trace} {out} {r} k at f b g =
+going_start {T} {trace} {out} {r} k at f b =
     record {
       found = [];
-      lines = 0;
-      follows = k;
-      few = record { findings = omega (arith, f); bytes = omega (arith, b) };
-      findings = f;
-      bytes = b;
-      shown = λ _. sym (put_none out 0);
-      as_long = refl;
+      far = record {
+        lines = 0;
+        follows = k;
+        few = record { findings = omega (arith, f); bytes = omega (arith, b) };
+        findings = f;
+        bytes = b;
+        shown = λ _. sym (put_none out 0);
+        as_long = refl;
+      };
       within = omega (arith, at);
-      goes = λ _. ap (λ (n : ℕ). run_in T [] (lines_of (drop n trace))) (sym at);
-      ends = λ h. absurd (false≢true (sym h ∙ g));
+      goes = ap (λ (n : ℕ). run_in T [] (lines_of (drop n trace))) (sym at);
     }
 
 most_of : {T : Tables} {n : ℕ} → Follows T n → n ≤ most_lines
 most_of k = omega (arith, k.count, at_most_a_million k.room k.past k.accepts)
 
 -- what the last line is made of
-pub few_at_end : {T T' : Tables} {trace out out' : List ℕ} {r : Run} → Going T trace out r T' out' → (lines_in T'.book ≤ most_lines) × Few r most_lines
+pub few_at_end : {T T' : Tables} {trace out out' : List ℕ} {r : Run} {stop : Stop} → Ended T trace out r stop T' out' → (lines_in T'.book ≤ most_lines) × Few r most_lines
 few_at_end g =
-    let k = g.follows in
+    let k = g.far.follows in
     let most = most_of k in
-    (omega (arith, most, k.count, k.tied.tables.lines), record { findings = omega (arith, most, g.few.findings); bytes = omega (arith, most, g.few.bytes) })
-
--- a run that goes on counts one more than the bytes that are left
-abbrev one_if : Bool → ℕ
-one_if true = 1
-one_if false = 0
-
-abbrev pub still : List ℕ → Run → ℕ
-still trace r = (length trace - r.at) + one_if r.going
+    (omega (arith, most, k.count, k.tied.tables.lines), record { findings = omega (arith, most, g.far.few.findings); bytes = omega (arith, most, g.far.few.bytes) })
 
 -- ---- one call of the loop
 
-module _ {T S S' : Tables} {trace out out1 scratch' : List ℕ} {r : Run} {p : Passed} (scratch : List ℕ) (g : Going T trace out r S out1) (going : r.going ≡ true)
+module _ {T S S' : Tables} {trace out out1 scratch' : List ℕ} {r : Run} {p : Passed} (scratch : List ℕ) (g : Going T trace out r S out1)
     (size : length scratch ≡ scratch_size) (kept : length scratch' ≡ length scratch)
     (e : leaves p S' scratch' ≡ piece_outcome true S (take (length trace - r.at) (drop r.at trace)) scratch) where
   abbrev unread : List ℕ
@@ -108,8 +103,8 @@ module _ {T S S' : Tables} {trace out out1 scratch' : List ℕ} {r : Run} {p : P
   put_few : p.put ≤ scratch_size * known.passes.lines
   put_few = omega (arith, few_bytes {size = scratch_size} known (omega (arith, size)))
 
-  following : Follows S' (g.lines + known.passes.lines)
-  following = known.passes.follows g.lines g.follows
+  following : Follows S' (g.far.lines + known.passes.lines)
+  following = known.passes.follows g.far.lines g.far.follows
 
   taken_within : r.at + p.taken ≤ length trace
   taken_within = omega (arith, g.within, known.passes.within, length-drop r.at trace)
@@ -119,60 +114,67 @@ module _ {T S S' : Tables} {trace out out1 scratch' : List ℕ} {r : Run} {p : P
       let all = most_of following in
       record {
         at = taken_within;
-        findings = omega (arith, all, g.few.findings, known.findings, known.passes.few);
-        bytes = omega (arith, all, g.few.bytes, put_few);
+        findings = omega (arith, all, g.far.few.findings, known.findings, known.passes.few);
+        bytes = omega (arith, all, g.far.few.bytes, put_few);
         put = omega (arith, known.fits, size);
       }
 
   module _ {q : Run} {out' : List ℕ} (on : PassesOn r p scratch' out1 q out') where
     stepped : run_over T trace ≡ from_stop p.stop S' (g.found ++ known.found) (drop p.taken unread)
     stepped =
-        g.goes going
+        g.goes
         ∙ ap (λ (s : List ℕ). run_in S g.found (lines_of s)) (sym (append-nil unread))
         ∙ known.passes.same g.found [] (λ _. refl)
         ∙ ap (from_stop p.stop S' (g.found ++ known.found)) (append-nil (drop p.taken unread))
 
-    pub going_on : Going T trace out q S' out'
-    going_on =
+    far_on : Far out q S' out' (g.found ++ known.found)
+    far_on =
         let its : take p.put scratch' ≡ all_shown known.found = known.front in
         let both : all_shown g.found ++ take p.put scratch' ≡ all_shown (g.found ++ known.found) =
         ap (λ (x : List ℕ). all_shown g.found ++ x) its ∙ sym (all_shown_append g.found known.found)
         in
         let long : length (all_shown (g.found ++ known.found)) ≡ r.bytes + p.put =
         ap length (all_shown_append g.found known.found) ∙ length-append (all_shown g.found) (all_shown known.found)
-        ∙ ap₂ (λ (a b : ℕ). a + b) (sym g.bytes) (sym known.bytes)
+        ∙ ap₂ (λ (a b : ℕ). a + b) (sym g.far.bytes) (sym known.bytes)
         in
         record {
-          found = g.found ++ known.found;
-          lines = g.lines + known.passes.lines;
+          lines = g.far.lines + known.passes.lines;
           follows = following;
           few = record {
-            findings = omega (arith, on.findings, g.few.findings, known.findings, known.passes.few);
-            bytes = omega (arith, on.bytes, g.few.bytes, put_few);
+            findings = omega (arith, on.findings, g.far.few.findings, known.findings, known.passes.few);
+            bytes = omega (arith, on.bytes, g.far.few.bytes, put_few);
           };
-          findings = omega (arith, on.findings, g.findings, known.findings, length-append g.found known.found);
+          findings = omega (arith, on.findings, g.far.findings, known.findings, length-append g.found known.found);
           bytes = on.bytes ∙ sym long;
           shown = λ room.
-              put_behind out out1 out' (all_shown g.found) (take p.put scratch') r.bytes g.as_long g.bytes g.shown on.shown
+              put_behind out out1 out' (all_shown g.found) (take p.put scratch') r.bytes g.far.as_long g.far.bytes g.far.shown on.shown
               (omega (arith, room, ap length both))
               ∙ ap (put out 0) both;
-          as_long = ap length on.shown ∙ put_as_long out1 r.bytes (take p.put scratch') ∙ g.as_long;
-          within = omega (arith, on.at, taken_within);
-          goes = λ h.
-              stepped
-              ∙ ap (λ (x : Stop). from_stop x S' (g.found ++ known.found) (drop p.taken unread)) (full_is p.stop (sym on.going ∙ h))
-              ∙ ap (λ (s : List ℕ). run_in S' (g.found ++ known.found) (lines_of s)) (drop-drop p.taken r.at trace ∙ ap (λ (n : ℕ). drop n trace) (sym on.at));
-          ends = λ h.
-              stepped
-              ∙ on_end p.stop S' (g.found ++ known.found) (drop p.taken unread) (sym on.going ∙ h) (λ more. false≢true (sym (known.passes.more more).0))
-              ∙ ap (ran S' (g.found ++ known.found)) (sym on.refusal);
+          as_long = ap length on.shown ∙ put_as_long out1 r.bytes (take p.put scratch') ∙ g.far.as_long;
         }
 
-    pub less : still trace q < still trace r
-    less = go q.going refl
-      where
-        go : (b : Bool) → q.going ≡ b → still trace q < still trace r
-        go true h =
-            let line = known.passes.full (full_is p.stop (sym on.going ∙ h)) (omega (arith, size)) in
-            omega (arith, line, known.passes.some, taken_within, on.at, ap one_if h, ap one_if going)
-        go false h = omega (arith, on.at, ap one_if h, ap one_if going)
+    pub going_on : p.stop ≡ Stop.Full → Going T trace out q S' out'
+    going_on full =
+        record {
+          found = g.found ++ known.found;
+          far = far_on;
+          within = omega (arith, on.at, taken_within);
+          goes =
+              stepped
+              ∙ ap (λ (x : Stop). from_stop x S' (g.found ++ known.found) (drop p.taken unread)) full
+              ∙ ap (λ (s : List ℕ). run_in S' (g.found ++ known.found) (lines_of s)) (drop-drop p.taken r.at trace ∙ ap (λ (n : ℕ). drop n trace) (sym on.at));
+        }
+
+    pub ended_so : (p.stop ≡ Stop.Full → ⊥) → Ended T trace out q p.stop S' out'
+    ended_so full =
+        record {
+          found = g.found ++ known.found;
+          far = far_on;
+          ends = stepped ∙ on_end p.stop S' (g.found ++ known.found) (drop p.taken unread) full (λ more. false≢true (sym (known.passes.more more).0));
+        }
+
+    -- a slice that is full took a line, so fewer bytes are left
+    pub less : p.stop ≡ Stop.Full → length trace - q.at < length trace - r.at
+    less full =
+        let line = known.passes.full full (omega (arith, size)) in
+        omega (arith, line, known.passes.some, taken_within, on.at)

@@ -1,15 +1,16 @@
 -- Bytes put at a place where there is room. Assumes nothing.
-use Prim.Native.Nat.{ℕ, ◌+◌, ◌≤◌, ◌<◌}
+use Prim.Native.Nat.{ℕ, ◌+◌, ◌-◌, ◌≤◌, ◌<◌}
 use mathlib.Core.Path.{◌≡◌, refl, sym, ap, ap₂, ◌∙◌}
-use mathlib.Core.List.{List, ◌++◌, append_assoc}
+use mathlib.Core.List.{List, ◌++◌}
 use native.Mathlib.Decide.{dec_lt}
 use native.Mathlib.Nat.{zero-add}
 use native.Mathlib.Omega.{arith}
 use borrow.Author.Tests.{le-leb, lt-leb}
-use lib.ListN.{length, take, drop, length-append}
-use lib.Seq.{paste, length-take-le}
+use lib.ListN.{length, take, length-append}
+use lib.Seq.{drop-drop, length-take-le}
+use borrow.Rule.Slice.PartMut.{put_mid}
+use Rattle.std.specs.Prelude.{Option}
 use Rattle.numbers.specs.Writing.{put}
-use Rattle.numbers.specs.declared.Room.{Room}
 use Rattle.numbers.proofs.Put.{length_put, put_put}
 use Rattle.run.proofs.Putting.{Last}
 use Rattle.trace.specs.Running.{put_fitting}
@@ -39,10 +40,10 @@ module _ (d : List ℕ) (at : ℕ) (s : List ℕ) (n : ℕ) (all : n ≤ length 
   pub front_nowhere : length d < at + n → d ≡ put_fitting d at (take n s)
   front_nowhere h = sym (put_nowhere d at (take n s) (omega (arith, h, long)))
 
-  pub front_there : at + n ≤ length d → paste d at s n ≡ put_fitting d at (take n s)
-  front_there h =
-      append_assoc (take at d) (take n s) (drop (at + n) d)
-      ∙ ap (λ (k : ℕ). take at d ++ (take n s ++ drop (at + k) d)) (sym long)
+  pub front_there : {bs : List ℕ} → at + n ≤ length d → bs ≡ take n s → put_mid at ((at + n) - at) d bs ≡ put_fitting d at (take n s)
+  front_there h e =
+      let size : (at + n) - at ≡ length (take n s) = omega (arith, long) in
+      (λ i. take at d ++ (e i ++ drop-drop (size i) at d i))
       ∙ sym (put_there d at (take n s) (omega (arith, h, long)))
 
 -- ---- behind what was put at the front
@@ -58,6 +59,6 @@ put_behind out out1 out' xs ys n l e h p fits =
 
 -- ---- the last line
 
-pub last_there : {d bs d' : List ℕ} {at w : ℕ} {r : Room} → Last d at bs w r d' → (at + w ≡ at + length bs) × (d' ≡ put_fitting d at bs)
+pub last_there : {d bs d' : List ℕ} {at w : ℕ} {r : Option ℕ} → Last d at bs w r d' → (at + w ≡ at + length bs) × (d' ≡ put_fitting d at bs)
 unfolding put_fitting
 last_there {at = at} last = (ap (λ (n : ℕ). at + n) last.width, last.puts.left)

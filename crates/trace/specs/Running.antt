@@ -1,14 +1,14 @@
 -- What is known on the way through a trace, from one function to the next. Assumes nothing.
-use Rattle.std.specs.Prelude.{ℕ, ◌+◌, ◌*◌, ◌≤◌, ◌≡◌, Bool, true, false, List, length, take}
+use Rattle.std.specs.Prelude.{ℕ, ◌+◌, ◌*◌, ◌≤◌, ◌≡◌, List, length, take}
 use Rattle.words.specs.Choice.{if_true◌then◌else◌}
 use Rattle.numbers.specs.Writing.{put, has_room}
+use Rattle.lines.specs.Numbered.{number_of}
 use Rattle.history.specs.Replies.{most_lines}
 use Rattle.answers.specs.Answer.{most_found}
 use Rattle.tables.specs.Tables.{Tables}
 use Rattle.demands.specs.Calls.{report_in}
 use Rattle.run.specs.declared.Passed.{Passed}
 use Rattle.run.specs.declared.Stop.{Stop}
-use Rattle.run.specs.declared.Stop.TheVariants as Stop
 use Rattle.trace.specs.declared.Run.{Run}
 use Rattle.trace.specs.Whole.{run_of}
 
@@ -25,26 +25,18 @@ pub record Few (r : Run) (lines : ℕ) : Type 0 where
   pub findings : r.findings ≤ most_found * lines
   pub bytes : r.bytes ≤ scratch_size * lines
 
--- the refusal, or 0
-abbrev pub refusal_of : Stop → ℕ
-refusal_of (Stop.Refused k) = k
-refusal_of Stop.Full = 0
-refusal_of Stop.More = 0
-refusal_of Stop.End = 0
-
-abbrev pub is_full : Stop → Bool
-is_full (Stop.Refused k) = false
-is_full Stop.Full = true
-is_full Stop.More = false
-is_full Stop.End = false
+-- the number in the last line: that of the refusal, or 0
+abbrev pub number_in : Stop → ℕ
+number_in (Stop.Refused k) = number_of k
+number_in Stop.Full = 0
+number_in Stop.More = 0
+number_in Stop.End = 0
 
 -- after one call of the loop, which has left its findings at the front of `scratch`
 pub record PassesOn (r : Run) (p : Passed) (scratch out : List ℕ) (q : Run) (out' : List ℕ) : Type 0 where
   pub at : q.at ≡ r.at + p.taken
   pub findings : q.findings ≡ r.findings + p.findings
   pub bytes : q.bytes ≡ r.bytes + p.put
-  pub refusal : q.refusal ≡ refusal_of p.stop
-  pub going : q.going ≡ is_full p.stop
   pub shown : out' ≡ put_fitting out r.bytes (take p.put scratch)
 
 -- all sums on the way fit

@@ -2,7 +2,6 @@
 #![tactic(auto)]
 
 ghost use Rattle.std.specs.Prelude.{◌≡◌, ◌+◌, ◌*◌, ◌≤◌, length, take};
-ghost use Rattle.std.proofs.Math.Seq.{paste};
 ghost use Rattle.history.specs.Replies.{most_lines};
 ghost use Rattle.history.specs.Report.{end_line};
 ghost use Rattle.classes.specs.Supers.{all_classes};
@@ -10,16 +9,14 @@ ghost use Rattle.book.specs.Layout.{whole};
 ghost use Rattle.book.specs.Threads.{lines_in, closed_in};
 ghost use Rattle.tables.specs.Tables.{tables};
 ghost use Rattle.trace.specs.Whole.{leaves, whole_outcome};
-ghost use Rattle.trace.specs.Running.{put_fitting, scratch_size, Few, refusal_of, is_full, SumsFit, PassesOn, Measured};
+ghost use Rattle.trace.specs.Running.{put_fitting, scratch_size, Few, number_in, SumsFit, PassesOn, Measured};
 
 use rows::Number;
 use run::{Passed, Stop};
 
-// What is answered of a whole trace. None of it is a refusal: that of a line is part of the report.
-#[derive(Clone, Copy)]
-pub enum Reported {
-    // The report has so many bytes, and stands at the start of the slice.
-    Bytes(usize),
+// Why no report was written. None of it is a refusal: that of a line is part of the report.
+#[derive(Clone, Copy, Debug, PartialEq, Eq)]
+pub enum Unreported {
     // The slice is short for the report, which has so many bytes.
     Needs(usize),
     // The thread book or the class table is short.
@@ -29,46 +26,21 @@ pub enum Reported {
 // Findings are put here before they are copied.
 const SCRATCH: usize = 4096;
 
-// A run so far: how many bytes of the trace are taken, how many findings there are, how many bytes they take, the refusal or 0, and whether it goes on.
+// A run so far: how many bytes of the trace are taken, how many findings there are, and how many bytes they take.
 #[derive(Clone, Copy)]
 struct Run {
     at: usize,
     findings: usize,
     bytes: usize,
-    refusal: u8,
-    going: bool,
 }
 
-fn refusal_of(stop: Stop) -> u8
-    ensures { result ≡ refusal_of stop }
+// The number that is printed in the last line: that of the refusal, or 0.
+fn number_of(stop: Stop) -> u8
+    ensures { result ≡ number_in stop }
 {
     match stop {
-        Stop::Refused(k) => k,
-        Stop::Full => 0,
-        Stop::More => 0,
-        Stop::End => 0,
-    }
-}
-
-fn is_full(stop: Stop) -> bool
-    ensures { result ≡ is_full stop }
-{
-    match stop {
-        Stop::Refused(_) => false,
-        Stop::Full => true,
-        Stop::More => false,
-        Stop::End => false,
-    }
-}
-
-fn copy(out: &mut [u8], at: usize, s: &[u8], n: usize)
-    requires { (at + n ≤ length out.old) × (n ≤ length s.now) }
-    ensures { out.new ≡ paste out.old at s.now n }
-{
-    let mut i = 0;
-    while i < n {
-        out[at + i] = s[i];
-        i += 1;
+        Stop::Refused(k) => k.number(),
+        _ => 0,
     }
 }
 
@@ -80,7 +52,7 @@ fn put_front(out: &mut [u8], at: usize, s: &[u8], n: usize)
     if out.len() < at + n {
         return;
     }
-    copy(out, at, s, n);
+    out[at..at + n].copy_from_slice(&s[..n]);
 }
 
 // With what one call of the loop has put into `scratch`, copied behind the findings before where there is room.
@@ -95,26 +67,24 @@ fn with_passed(
     ensures { PassesOn run passed scratch.now out.old result out.new }
 {
     put_front(out, run.bytes, scratch, passed.put);
-    let stop = passed.stop;
     Run {
         at: run.at + passed.taken,
         findings: run.findings + passed.findings,
         bytes: run.bytes + passed.put,
-        refusal: refusal_of(stop),
-        going: is_full(stop),
     }
 }
 
 // The last line, behind the findings where there is room; how long the report is.
-fn put_last(run: Run, book: &[u64], out: &mut [u8]) -> usize
+fn put_last(run: Run, stop: Stop, book: &[u64], out: &mut [u8]) -> usize
     requires { (lines_in book.now ≤ most_lines) × Few run most_lines }
-    ensures { (result ≡ run.bytes + length (end_line (closed_in book.now) (lines_in book.now) run.refusal run.findings)) × (out.new ≡ put_fitting out.old run.bytes (end_line (closed_in book.now) (lines_in book.now) run.refusal run.findings)) }
+    ensures { (result ≡ run.bytes + length (end_line (closed_in book.now) (lines_in book.now) (number_in stop) run.findings)) × (out.new ≡ put_fitting out.old run.bytes (end_line (closed_in book.now) (lines_in book.now) (number_in stop) run.findings)) }
 {
     let closed = book::is_closed(book);
     let lines = book::lines_of(book) as u32;
+    let refusal = number_of(stop);
     let findings = run.findings as u32;
-    let width = report::end_width(closed, lines, run.refusal, findings);
-    report::put_end(out, run.bytes, closed, lines, run.refusal, findings);
+    let width = report::end_width(closed, lines, refusal, findings);
+    report::put_end(out, run.bytes, closed, lines, refusal, findings);
     run.bytes + width
 }
 
@@ -138,10 +108,9 @@ fn report_into(
         at: 0,
         findings: 0,
         bytes: 0,
-        refusal: 0,
-        going: true,
     };
-    while so_far.going {
+    // No range counts the pieces: how far one goes shows once it is judged.
+    loop {
         let at = so_far.at;
         let passed = run::run_lines(
             &trace[at..],
@@ -155,11 +124,15 @@ fn report_into(
             &mut scratch,
         );
         so_far = with_passed(so_far, passed, trace, &scratch, out);
+        let stop = passed.stop;
+        match stop {
+            Stop::Full => {}
+            _ => return put_last(so_far, stop, book, out),
+        }
     }
-    put_last(so_far, book, out)
 }
 
-// Judges all lines of a trace from a start, and writes the report at the start of `out`: findings, then the `end` line.
+// Judges all lines of a trace from a start, and writes the report at the start of `out`, findings, then the `end` line: how many bytes it has.
 // Where `out` is short nothing is written there; the tables, its work room, are left as the run left them. Over a short book or class table nothing is touched.
 pub fn judge_trace(
     trace: &[u8],
@@ -170,14 +143,14 @@ pub fn judge_trace(
     book: &mut [u64],
     classes: &mut [Number],
     out: &mut [u8],
-) -> Reported
+) -> Result<usize, Unreported>
     ensures { leaves result (tables rows.new marks.new pins.new pinmarks.new book.new classes.new) out.new ≡ whole_outcome (tables rows.old marks.old pins.old pinmarks.old book.old classes.old) trace.now out.old }
 {
     if book.len() < book::WHOLE {
-        return Reported::ShortTables;
+        return Err(Unreported::ShortTables);
     }
     if classes::is_short(classes) {
-        return Reported::ShortTables;
+        return Err(Unreported::ShortTables);
     }
     let mut unused = [0];
     let w = report_into(
@@ -191,8 +164,8 @@ pub fn judge_trace(
         &mut unused,
     );
     if out.len() < w {
-        return Reported::Needs(w);
+        return Err(Unreported::Needs(w));
     }
     report_into(trace, rows, marks, pins, pinmarks, book, classes, out);
-    Reported::Bytes(w)
+    Ok(w)
 }

@@ -2,7 +2,7 @@
 use Prim.Native.Nat.{ℕ, ◌≤◌, ◌<◌}
 use mathlib.Core.Path.{◌≡◌, refl, sym, ap, ◌∙◌}
 use mathlib.Core.Bool.{Bool, true, false, not, ◌&&◌, ◌||◌, false≢true}
-use mathlib.Core.Option.{Option}
+use Rattle.std.specs.Prelude.{Option}
 use borrow.Author.Tests.{le-leb, lt-leb}
 use lib.Dec.{eqb}
 use Rattle.facts.specs.Table.{is_allowed_pending, is_allowed_critical}
@@ -10,10 +10,10 @@ use Rattle.facts.specs.Named.{PopLocalFrame, MonitorExit}
 use Rattle.history.specs.Items.{Item, native_or_attached}
 use Rattle.history.specs.Acceptance.{deepest}
 use Rattle.history.specs.Breaches.{place_rule}
-use Rattle.answers.specs.declared.Answer.{Answer}
+use Rattle.answers.specs.declared.Findings.{Findings}
 use Rattle.answers.specs.declared.Judged.{Judged}
-use Rattle.answers.specs.Answer.{answer_of}
-use Rattle.answers.specs.Listed.{rule_number, listed}
+use Rattle.answers.specs.Answer.{findings_of}
+use Rattle.answers.specs.Listed.{listed}
 use Rattle.sight.specs.declared.call.CallSight.{CallSight}
 use Rattle.weigh.specs.Call.{call_refusal, judged_call}
 
@@ -51,8 +51,8 @@ module _ (closed : Bool) (top : Option Item) (many : ℕ) (x : Bool) (e : x ≡ 
 
 -- ---- what is judged
 
-pub call_judged : (line env f a b c : ℕ) (s : CallSight) (p3 c3 : Bool) (r1 r2 r3 : ℕ) → p3 ≡ (eqb s.pending 1 && not (is_allowed_pending f)) → c3 ≡ (s.critical && not (is_allowed_critical f))
-    → r1 ≡ rule_number (place_rule s.pa a s.a.there s.a.fits) → r2 ≡ rule_number (place_rule s.pb b s.b.there s.b.fits) → r3 ≡ rule_number (place_rule s.pc c s.c.there s.c.fits)
+pub call_judged : (line env f a b c : ℕ) (s : CallSight) (p3 c3 : Bool) (r1 r2 r3 : Option ℕ) → p3 ≡ (eqb s.pending 1 && not (is_allowed_pending f)) → c3 ≡ (s.critical && not (is_allowed_critical f))
+    → r1 ≡ place_rule s.pa a s.a.there s.a.fits → r2 ≡ place_rule s.pb b s.b.there s.b.fits → r3 ≡ place_rule s.pc c s.c.there s.c.fits
     → record {
       line = line;
       foreign = not (eqb env s.env);
@@ -86,5 +86,5 @@ call_judged line env f a b c s p3 c3 r1 r2 r3 e3 ec k1 k2 k3 i =
       c = c;
     }
 
-pub judged_found : (x j : Judged) (r : Answer) → j ≡ x → r ≡ answer_of (listed j) → r ≡ answer_of (listed x)
-judged_found x j r e k = k ∙ ap (λ (y : Judged). answer_of (listed y)) e
+pub judged_found : (x j : Judged) (r : Findings) → j ≡ x → r ≡ findings_of (listed j) → r ≡ findings_of (listed x)
+judged_found x j r e k = k ∙ ap (λ (y : Judged). findings_of (listed y)) e

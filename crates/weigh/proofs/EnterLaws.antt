@@ -1,36 +1,12 @@
 -- What the code's tests of N say. Assumes nothing.
-use Prim.Native.Nat.{ℕ, ◌+◌, ◌≤◌, ◌<◌}
+use Prim.Native.Nat.{ℕ}
 use mathlib.Core.Path.{◌≡◌, refl, sym, ap, ◌∙◌}
 use mathlib.Core.Bool.{Bool, true, false, not, ◌||◌}
 use mathlib.Core.List.{List}
 use borrow.Author.Tests.{not-true, not-false}
-use native.Mathlib.Numerals.{add-one}
-use lib.Dec.{eqb}
-use lib.ListN.{length, get_or, drop, drop_of_length-le}
-use lib.Seq.{drop-cons}
-use Rattle.words.specs.Lists.{any}
+use lib.ListN.{length}
 use Rattle.sight.specs.declared.enter.EnterSight.{EnterSight}
 use Rattle.weigh.specs.Enter.{named_twice, env_fits, enter_room, enter_refusal}
-
--- ---- N names one twice
-
-module _ (s : List ℕ) (i : ℕ) where
-  twice_here : (b : Bool) → i < length s → b ≡ any (λ (g : ℕ). eqb g (get_or s i 0)) (drop (i + 1) s)
-      → named_twice (drop i s) ≡ (b || named_twice (drop (i + 1) s))
-  twice_here b h e =
-      ap named_twice (drop-cons s i 0 h)
-      ∙ ap (λ (j : ℕ). any (λ (g : ℕ). eqb g (get_or s i 0)) (drop j s) || named_twice (drop j s)) (sym (add-one i))
-      ∙ ap (λ (x : Bool). x || named_twice (drop (i + 1) s)) (sym e)
-
-  pub twice_hit : (b : Bool) → i < length s → b ≡ any (λ (g : ℕ). eqb g (get_or s i 0)) (drop (i + 1) s) → b ≡ true → true ≡ named_twice (drop i s)
-  twice_hit b h e y = ap (λ (x : Bool). x || named_twice (drop (i + 1) s)) (sym y) ∙ sym (twice_here b h e)
-
-  pub twice_next : (b : Bool) → i < length s → b ≡ any (λ (g : ℕ). eqb g (get_or s i 0)) (drop (i + 1) s) → b ≡ false
-      → named_twice (drop i s) ≡ named_twice (drop (i + 1) s)
-  twice_next b h e n = twice_here b h e ∙ ap (λ (x : Bool). x || named_twice (drop (i + 1) s)) n
-
-  pub twice_end : length s ≤ i → false ≡ named_twice (drop i s)
-  twice_end h = ap named_twice (sym (drop_of_length-le s h))
 
 -- ---- the tests in their order
 

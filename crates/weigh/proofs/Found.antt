@@ -3,7 +3,7 @@ use Prim.Native.Nat.{ℕ, zero, suc, ◌<◌}
 use mathlib.Core.Path.{◌≡◌, refl, sym, ap, ◌∙◌}
 use mathlib.Core.Bool.{Bool, not, ◌&&◌}
 use mathlib.Core.List.{List, []}
-use mathlib.Core.Option.{Option, none}
+use Rattle.std.specs.Prelude.{Option, None}
 use native.Mathlib.Decide.{dec_lt}
 use native.Mathlib.Omega.{arith}
 use borrow.Author.Tests.{lt-ltb, le-ltb, lt-leb, le-leb}
@@ -16,9 +16,7 @@ use Rattle.facts.specs.Table.{fact_of}
 use Rattle.facts.specs.Classes.{no_class, class_a, class_b}
 use Rattle.facts.specs.Results.{is_local_result}
 use Rattle.facts.specs.declared.Place.{Place}
-use Rattle.facts.specs.declared.Place.TheVariants as Place
 use Rattle.facts.specs.declared.Result.{Result}
-use Rattle.facts.specs.declared.Result.TheVariants as Result
 use Rattle.lines.specs.Line.{Statement, X, C, R, D, Z, states, above_zero}
 use Rattle.lines.specs.Events.{is_status, result_in_line}
 use Rattle.rows.specs.Table.{Table}
@@ -31,7 +29,7 @@ use Rattle.book.specs.Threads.{stack, depth, thread_of, thread_in, top_capacity}
 use Rattle.book.proofs.Frames.{length_frames}
 use Rattle.answers.specs.Listed.{listed}
 use Rattle.answers.proofs.Found.{of_one_rule}
-use Rattle.answers.proofs.OfLine.{by_rules, as_seen, as_judged, same_of_rule, return_listed, detach_listed, end_listed}
+use Rattle.answers.proofs.OfLine.{by_rules, as_seen, return_listed, detach_listed, end_listed}
 use Rattle.tables.specs.Tables.{Tables, handles_in, seen_in}
 use Rattle.sight.specs.Spots.{class_here, handle_spot, place_fits, place_spot}
 use Rattle.sight.specs.Returns.{over_capacity, overflows_in, return_sight}
@@ -62,11 +60,9 @@ module _ (T : Tables) (line t env f a b c : ℕ) (n : ℤ) where
       told fixed p h = place_rule p h (place_spot fixed p T t f h).there (place_spot fixed p T t f h).fits
 
       same : (k : ℕ)
-          → as_judged line k (call_rule t env f (seen_in T) (suc k)) (told (class_a f) (fact_of f).a a) (told (class_b f) (fact_of f).b b) (told no_class (fact_of f).c c) a b c
+          → as_seen line k (call_rule t env f (seen_in T) (suc k)) (told (class_a f) (fact_of f).a a) (told (class_b f) (fact_of f).b b) (told no_class (fact_of f).c c) a b c
           ≡ as_seen line k (call_rule t env f (seen_in T) (suc k)) (rule_here (class_a f) (fact_of f).a t f a (seen_in T)) (rule_here (class_b f) (fact_of f).b t f b (seen_in T)) (rule_here no_class (fact_of f).c t f c (seen_in T)) a b c
-      same k =
-          same_of_rule line k (call_rule t env f (seen_in T) (suc k)) (told (class_a f) (fact_of f).a a) (told (class_b f) (fact_of f).b b) (told no_class (fact_of f).c c) a b c
-          ∙ λ i.
+      same k i =
           as_seen line k (call_rule t env f (seen_in T) (suc k)) (rule_told (class_a f) (fact_of f).a a i) (rule_told (class_b f) (fact_of f).b b i)
           (rule_told no_class (fact_of f).c c i) a b c
 
@@ -83,8 +79,8 @@ module _ (T : Tables) (line t r : ℕ) where
       here : Option ℕ
       here = rule_here no_class Place.HandleOrNull t 0 r (seen_in T)
 
-      same : (k : ℕ) → as_judged line k (line_rule (X t r) (seen_in T) (suc k)) here none none r 0 0 ≡ as_seen line k (line_rule (X t r) (seen_in T) (suc k)) here none none r r r
-      same k = same_of_rule line k (line_rule (X t r) (seen_in T) (suc k)) here none none r 0 0
+      same : (k : ℕ) → as_seen line k (line_rule (X t r) (seen_in T) (suc k)) here None None r 0 0 ≡ as_seen line k (line_rule (X t r) (seen_in T) (suc k)) here None None r r r
+      same k = refl
 
 -- ---- R
 

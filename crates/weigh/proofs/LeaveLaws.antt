@@ -2,14 +2,14 @@
 use Prim.Native.Nat.{ℕ}
 use mathlib.Core.Path.{◌≡◌, refl, sym, ap, ◌∙◌}
 use mathlib.Core.Bool.{Bool, true, false, not, ◌&&◌, ◌||◌}
-use mathlib.Core.Option.{Option}
+use Rattle.std.specs.Prelude.{Option, None}
 use Rattle.words.specs.Choice.{if_true◌then◌else◌}
 use Rattle.facts.specs.declared.Place.TheVariants as Place
 use Rattle.history.specs.Items.{Item, is_native, is_attached}
 use Rattle.history.specs.Breaches.{place_rule}
-use Rattle.answers.specs.declared.Answer.{Answer}
-use Rattle.answers.specs.Answer.{answer_of}
-use Rattle.answers.specs.Listed.{rule_number, listed}
+use Rattle.answers.specs.declared.Findings.{Findings}
+use Rattle.answers.specs.Answer.{findings_of}
+use Rattle.answers.specs.Listed.{listed}
 use Rattle.sight.specs.declared.leave.LeaveSight.{LeaveSight}
 use Rattle.weigh.specs.Leave.{leave_refusal, judged_leave}
 use Rattle.weigh.specs.Detach.{detach_refusal}
@@ -40,10 +40,10 @@ module _ (closed : Bool) (top : Option Item) (x : Bool) where
   unfolding detach_refusal
   detach_0 = in_turn closed (is_attached top) x
 
-pub leave_found : (line r : ℕ) (s : LeaveSight) (rule : ℕ) (y : Answer) → rule ≡ rule_number (place_rule Place.HandleOrNull r s.result.there s.result.fits)
-    → y ≡ answer_of (listed (record { line = line; foreign = false; env = 0; pending = false; critical = s.critical; unheld = false; unpushed = false; rule1 = rule; a = r; rule2 = 0; b = 0; rule3 = 0; c = 0 }))
-    → y ≡ answer_of (listed (judged_leave line r s))
+pub leave_found : (line r : ℕ) (s : LeaveSight) (rule : Option ℕ) (y : Findings) → rule ≡ place_rule Place.HandleOrNull r s.result.there s.result.fits
+    → y ≡ findings_of (listed (record { line = line; foreign = false; env = 0; pending = false; critical = s.critical; unheld = false; unpushed = false; rule1 = rule; a = r; rule2 = None; b = 0; rule3 = None; c = 0 }))
+    → y ≡ findings_of (listed (judged_leave line r s))
 unfolding judged_leave
 leave_found line r s rule y e k =
     k
-    ∙ ap (λ (n : ℕ). answer_of (listed (record { line = line; foreign = false; env = 0; pending = false; critical = s.critical; unheld = false; unpushed = false; rule1 = n; a = r; rule2 = 0; b = 0; rule3 = 0; c = 0 }))) e
+    ∙ ap (λ (n : Option ℕ). findings_of (listed (record { line = line; foreign = false; env = 0; pending = false; critical = s.critical; unheld = false; unpushed = false; rule1 = n; a = r; rule2 = None; b = 0; rule3 = None; c = 0 }))) e

@@ -1,3 +1,4 @@
+pub mod StepLaws
 pub mod PlaceLaws
 pub mod CallLaws
 pub mod LeaveLaws

@@ -2,93 +2,92 @@
 use Prim.Native.Nat.{ℕ, ◌%◌}
 use mathlib.Core.Path.{◌≡◌, refl, sym, ap, ◌∙◌}
 use mathlib.Core.Bool.{Bool, true, false, not}
+use Rattle.std.specs.Prelude.{Option, None, Some}
 use borrow.Author.Tests.{eq-eqb, ne_eqb, not-true, not-false}
 use Rattle.words.specs.Choice.{if_true◌then◌else◌}
-use Rattle.answers.specs.Listed.{rule_number}
 use Rattle.facts.specs.Results.{is_handle_place, is_identity_place}
 use Rattle.facts.specs.declared.Place.{Place}
-use Rattle.facts.specs.declared.Place.TheVariants as Place
 use Rattle.history.specs.Breaches.{handle_rule, kind_rule, place_rule}
 
 module _ (h : ℕ) (there fits : Bool) where
   -- a nonzero identity in a handle place
-  pub identity_there : h % 4 ≡ 0 → 4 ≡ rule_number (handle_rule h there fits)
+  pub identity_there : h % 4 ≡ 0 → Some 4 ≡ handle_rule h there fits
   unfolding handle_rule
   identity_there e = rw (eq-eqb (h % 4) 0 e) refl
 
-  pub handle_fits : (h % 4 ≡ 0 → ⊥) → there ≡ true → fits ≡ true → 0 ≡ rule_number (handle_rule h there fits)
+  pub handle_fits : (h % 4 ≡ 0 → ⊥) → there ≡ true → fits ≡ true → None ≡ handle_rule h there fits
   unfolding handle_rule
   handle_fits z y f = rw (ne_eqb (h % 4) 0 z, y, f) refl
 
-  pub wrong_class : (h % 4 ≡ 0 → ⊥) → there ≡ true → fits ≡ false → 4 ≡ rule_number (handle_rule h there fits)
+  pub wrong_class : (h % 4 ≡ 0 → ⊥) → there ≡ true → fits ≡ false → Some 4 ≡ handle_rule h there fits
   unfolding handle_rule
   wrong_class z y f = rw (ne_eqb (h % 4) 0 z, y, f) refl
 
-  pub local_dead : (h % 4 ≡ 0 → ⊥) → there ≡ false → h % 4 ≡ 1 → 11 ≡ rule_number (handle_rule h there fits)
+  pub local_dead : (h % 4 ≡ 0 → ⊥) → there ≡ false → h % 4 ≡ 1 → Some 11 ≡ handle_rule h there fits
   unfolding handle_rule
   local_dead z y e = rw (ne_eqb (h % 4) 0 z, eq-eqb (h % 4) 1 e, y) refl
 
-  pub shared_dead : (h % 4 ≡ 0 → ⊥) → there ≡ false → (h % 4 ≡ 1 → ⊥) → 10 ≡ rule_number (handle_rule h there fits)
+  pub shared_dead : (h % 4 ≡ 0 → ⊥) → there ≡ false → (h % 4 ≡ 1 → ⊥) → Some 10 ≡ handle_rule h there fits
   unfolding handle_rule
   shared_dead z y e = rw (ne_eqb (h % 4) 0 z, ne_eqb (h % 4) 1 e, y) refl
 
-  pub null_kind : (k : ℕ) → h ≡ 0 → 0 ≡ rule_number (kind_rule k h there fits)
+  pub null_kind : (k : ℕ) → h ≡ 0 → None ≡ kind_rule k h there fits
   unfolding kind_rule
   null_kind k e = rw (eq-eqb h 0 e) refl
 
-  pub right_kind : (k r : ℕ) → (h ≡ 0 → ⊥) → h % 4 ≡ k → r ≡ rule_number (handle_rule h there fits) → r ≡ rule_number (kind_rule k h there fits)
+  pub right_kind : (k : ℕ) (r : Option ℕ) → (h ≡ 0 → ⊥) → h % 4 ≡ k → r ≡ handle_rule h there fits → r ≡ kind_rule k h there fits
   unfolding kind_rule
   right_kind k r z e q = rw (ne_eqb h 0 z, eq-eqb (h % 4) k e) q
 
-  pub other_kind : (k : ℕ) → (h ≡ 0 → ⊥) → (h % 4 ≡ k → ⊥) → 4 ≡ rule_number (kind_rule k h there fits)
+  pub other_kind : (k : ℕ) → (h ≡ 0 → ⊥) → (h % 4 ≡ k → ⊥) → Some 4 ≡ kind_rule k h there fits
   unfolding kind_rule
   other_kind k z e = rw (ne_eqb h 0 z, ne_eqb (h % 4) k e) refl
 
-  pub null_or_handle : h ≡ 0 → 0 ≡ rule_number (place_rule Place.HandleOrNull h there fits)
+  pub null_or_handle : h ≡ 0 → None ≡ place_rule Place.HandleOrNull h there fits
   unfolding place_rule
   null_or_handle e = rw (eq-eqb h 0 e) refl
 
-  pub handle_or_null : (r : ℕ) → (h ≡ 0 → ⊥) → r ≡ rule_number (handle_rule h there fits) → r ≡ rule_number (place_rule Place.HandleOrNull h there fits)
+  pub handle_or_null : (r : Option ℕ) → (h ≡ 0 → ⊥) → r ≡ handle_rule h there fits → r ≡ place_rule Place.HandleOrNull h there fits
   unfolding place_rule
   handle_or_null r z q = rw (ne_eqb h 0 z) q
 
-  pub null_handle : h ≡ 0 → 7 ≡ rule_number (place_rule Place.Handle h there fits)
+  pub null_handle : h ≡ 0 → Some 7 ≡ place_rule Place.Handle h there fits
   unfolding place_rule
   null_handle e = rw (eq-eqb h 0 e) refl
 
-  pub some_handle : (r : ℕ) → (h ≡ 0 → ⊥) → r ≡ rule_number (handle_rule h there fits) → r ≡ rule_number (place_rule Place.Handle h there fits)
+  pub some_handle : (r : Option ℕ) → (h ≡ 0 → ⊥) → r ≡ handle_rule h there fits → r ≡ place_rule Place.Handle h there fits
   unfolding place_rule
   some_handle r z q = rw (ne_eqb h 0 z) q
 
-  pub null_buffer : h ≡ 0 → 7 ≡ rule_number (place_rule Place.Buffer h there fits)
+  pub null_buffer : h ≡ 0 → Some 7 ≡ place_rule Place.Buffer h there fits
   unfolding place_rule
   null_buffer e = rw (eq-eqb h 0 e) refl
 
-  pub buffer_out : (h ≡ 0 → ⊥) → there ≡ true → 0 ≡ rule_number (place_rule Place.Buffer h there fits)
+  pub buffer_out : (h ≡ 0 → ⊥) → there ≡ true → None ≡ place_rule Place.Buffer h there fits
   unfolding place_rule
   buffer_out z y = rw (ne_eqb h 0 z, y) refl
 
-  pub buffer_not_out : (h ≡ 0 → ⊥) → there ≡ false → 8 ≡ rule_number (place_rule Place.Buffer h there fits)
+  pub buffer_not_out : (h ≡ 0 → ⊥) → there ≡ false → Some 8 ≡ place_rule Place.Buffer h there fits
   unfolding place_rule
   buffer_not_out z y = rw (ne_eqb h 0 z, y) refl
 
-  pub null_identity : h ≡ 0 → 7 ≡ rule_number (place_rule Place.Identity h there fits)
+  pub null_identity : h ≡ 0 → Some 7 ≡ place_rule Place.Identity h there fits
   unfolding place_rule
   null_identity e = rw (eq-eqb h 0 e) refl
 
-  pub not_wanted : (h ≡ 0 → ⊥) → h % 4 ≡ 0 → not there ≡ true → 5 ≡ rule_number (place_rule Place.Identity h there fits)
+  pub not_wanted : (h ≡ 0 → ⊥) → h % 4 ≡ 0 → not there ≡ true → Some 5 ≡ place_rule Place.Identity h there fits
   unfolding place_rule
   not_wanted z e n = rw (ne_eqb h 0 z, eq-eqb (h % 4) 0 e, not-true there n) refl
 
-  pub right_identity : (h ≡ 0 → ⊥) → h % 4 ≡ 0 → not there ≡ false → fits ≡ true → 0 ≡ rule_number (place_rule Place.Identity h there fits)
+  pub right_identity : (h ≡ 0 → ⊥) → h % 4 ≡ 0 → not there ≡ false → fits ≡ true → None ≡ place_rule Place.Identity h there fits
   unfolding place_rule
   right_identity z e n f = rw (ne_eqb h 0 z, eq-eqb (h % 4) 0 e, not-false there n, f) refl
 
-  pub final_written : (h ≡ 0 → ⊥) → h % 4 ≡ 0 → not there ≡ false → fits ≡ false → 6 ≡ rule_number (place_rule Place.Identity h there fits)
+  pub final_written : (h ≡ 0 → ⊥) → h % 4 ≡ 0 → not there ≡ false → fits ≡ false → Some 6 ≡ place_rule Place.Identity h there fits
   unfolding place_rule
   final_written z e n f = rw (ne_eqb h 0 z, eq-eqb (h % 4) 0 e, not-false there n, f) refl
 
-  pub handle_there : (h ≡ 0 → ⊥) → (h % 4 ≡ 0 → ⊥) → 4 ≡ rule_number (place_rule Place.Identity h there fits)
+  pub handle_there : (h ≡ 0 → ⊥) → (h % 4 ≡ 0 → ⊥) → Some 4 ≡ place_rule Place.Identity h there fits
   unfolding place_rule
   handle_there z e = rw (ne_eqb h 0 z, ne_eqb (h % 4) 0 e) refl
 
@@ -107,24 +106,24 @@ module _ (h : ℕ) (there fits : Bool) where
 
   -- ---- by the kind of place
 
-  pub at_place : (p q : Place) (r : ℕ) → p ≡ q → r ≡ rule_number (place_rule q h there fits) → r ≡ rule_number (place_rule p h there fits)
-  at_place p q r e k = k ∙ ap (λ (x : Place). rule_number (place_rule x h there fits)) (sym e)
+  pub at_place : (p q : Place) (r : Option ℕ) → p ≡ q → r ≡ place_rule q h there fits → r ≡ place_rule p h there fits
+  at_place p q r e k = k ∙ ap (λ (x : Place). place_rule x h there fits) (sym e)
 
-  pub at_kind : (p q : Place) (k r : ℕ) → place_rule q h there fits ≡ kind_rule k h there fits → p ≡ q → r ≡ rule_number (kind_rule k h there fits) → r ≡ rule_number (place_rule p h there fits)
-  at_kind p q k r d e y = at_place p q r e (y ∙ ap rule_number (sym d))
+  pub at_kind : (p q : Place) (k : ℕ) (r : Option ℕ) → place_rule q h there fits ≡ kind_rule k h there fits → p ≡ q → r ≡ kind_rule k h there fits → r ≡ place_rule p h there fits
+  at_kind p q k r d e y = at_place p q r e (y ∙ sym d)
 
-  pub at_local : (p : Place) (r : ℕ) → p ≡ Place.LocalOrNull → r ≡ rule_number (kind_rule 1 h there fits) → r ≡ rule_number (place_rule p h there fits)
+  pub at_local : (p : Place) (r : Option ℕ) → p ≡ Place.LocalOrNull → r ≡ kind_rule 1 h there fits → r ≡ place_rule p h there fits
   unfolding place_rule
   at_local p r = at_kind p Place.LocalOrNull 1 r refl
 
-  pub at_global : (p : Place) (r : ℕ) → p ≡ Place.GlobalOrNull → r ≡ rule_number (kind_rule 2 h there fits) → r ≡ rule_number (place_rule p h there fits)
+  pub at_global : (p : Place) (r : Option ℕ) → p ≡ Place.GlobalOrNull → r ≡ kind_rule 2 h there fits → r ≡ place_rule p h there fits
   unfolding place_rule
   at_global p r = at_kind p Place.GlobalOrNull 2 r refl
 
-  pub at_weak : (p : Place) (r : ℕ) → p ≡ Place.WeakOrNull → r ≡ rule_number (kind_rule 3 h there fits) → r ≡ rule_number (place_rule p h there fits)
+  pub at_weak : (p : Place) (r : Option ℕ) → p ≡ Place.WeakOrNull → r ≡ kind_rule 3 h there fits → r ≡ place_rule p h there fits
   unfolding place_rule
   at_weak p r = at_kind p Place.WeakOrNull 3 r refl
 
-  pub at_unused : (p : Place) → p ≡ Place.Unused → 0 ≡ rule_number (place_rule p h there fits)
+  pub at_unused : (p : Place) → p ≡ Place.Unused → None ≡ place_rule p h there fits
   unfolding place_rule
-  at_unused p e = at_place p Place.Unused 0 e refl
+  at_unused p e = at_place p Place.Unused None e refl

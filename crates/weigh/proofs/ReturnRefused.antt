@@ -3,7 +3,7 @@ use Prim.Native.Nat.{ℕ, ◌+◌, ◌≤◌, ◌<◌}
 use mathlib.Core.Path.{◌≡◌, refl, sym, ap, ap₂, ◌∙◌}
 use mathlib.Core.Bool.{Bool, true, false, not, ◌&&◌, ◌||◌}
 use mathlib.Core.List.{List, [], ◌∷◌}
-use mathlib.Core.Option.{Option}
+use Rattle.std.specs.Prelude.{Option}
 use native.Mathlib.Decide.{dec_lt}
 use native.Mathlib.Omega.{arith}
 use borrow.Author.Tests.{lt-ltb, le-ltb, lt-leb, le-leb, eqb-true}
@@ -16,7 +16,6 @@ use Rattle.facts.specs.Table.{table as fact_table, fact_of}
 use Rattle.facts.specs.Named.{PushLocalFrame}
 use Rattle.facts.specs.Results.{is_buffer_result}
 use Rattle.facts.specs.declared.Result.{Result}
-use Rattle.facts.specs.declared.Result.TheVariants as Result
 use Rattle.lines.specs.Line.{R, is_zero, above_zero}
 use Rattle.lines.specs.Events.{is_status, result_in_line}
 use Rattle.lines.proofs.Tests.{and_true}

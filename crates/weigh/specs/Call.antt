@@ -1,6 +1,5 @@
 -- What is answered to C, from what it was told. Assumes nothing.
-use Rattle.std.specs.Prelude.{ℕ, Bool, not, ◌&&◌, eqb, leb}
-use Rattle.std.proofs.Math.Option.{Option}
+use Rattle.std.specs.Prelude.{ℕ, Bool, not, ◌&&◌, eqb, leb, Option}
 use Rattle.words.specs.Choice.{if_true◌then◌else◌}
 use Rattle.facts.specs.Table.{is_allowed_pending, is_allowed_critical}
 use Rattle.facts.specs.Named.{PopLocalFrame, MonitorExit}
@@ -8,7 +7,6 @@ use Rattle.history.specs.Items.{Item, native_or_attached}
 use Rattle.history.specs.Acceptance.{deepest}
 use Rattle.history.specs.Breaches.{place_rule}
 use Rattle.answers.specs.declared.Judged.{Judged}
-use Rattle.answers.specs.Listed.{rule_number}
 use Rattle.sight.specs.declared.call.CallSight.{CallSight}
 
 -- 0, 4 or 7
@@ -26,10 +24,10 @@ judged_call line env f a b c s =
       critical = s.critical && not (is_allowed_critical f);
       unheld = eqb f MonitorExit && eqb s.monitors 0;
       unpushed = eqb f PopLocalFrame && not s.pushed;
-      rule1 = rule_number (place_rule s.pa a s.a.there s.a.fits);
+      rule1 = place_rule s.pa a s.a.there s.a.fits;
       a = a;
-      rule2 = rule_number (place_rule s.pb b s.b.there s.b.fits);
+      rule2 = place_rule s.pb b s.b.there s.b.fits;
       b = b;
-      rule3 = rule_number (place_rule s.pc c s.c.there s.c.fits);
+      rule3 = place_rule s.pc c s.c.there s.c.fits;
       c = c;
     }

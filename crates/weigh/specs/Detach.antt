@@ -1,6 +1,5 @@
 -- What is answered to D, from what it was told. Assumes nothing.
-use Rattle.std.specs.Prelude.{ℕ, Bool, not, ◌&&◌, List, ◌++◌}
-use Rattle.std.proofs.Math.Option.{Option}
+use Rattle.std.specs.Prelude.{ℕ, Bool, not, ◌&&◌, List, ◌++◌, Option}
 use Rattle.words.specs.Choice.{if_true◌then◌else◌}
 use Rattle.history.specs.Items.{Item, is_attached}
 use Rattle.history.specs.Breaches.{when, some_of}

@@ -1,6 +1,5 @@
 -- What is answered to N, from what it was told. Assumes nothing.
-use Rattle.std.specs.Prelude.{ℕ, Bool, true, false, not, ◌&&◌, ◌||◌, List, [], ◌∷◌, eqb, leb, ltb, length}
-use Rattle.std.proofs.Math.Option.{Option}
+use Rattle.std.specs.Prelude.{ℕ, Bool, true, false, not, ◌&&◌, ◌||◌, List, [], ◌∷◌, eqb, leb, ltb, length, Option}
 use Rattle.words.specs.Lists.{any}
 use Rattle.history.specs.Items.{Item, is_empty, is_call}
 use Rattle.history.specs.Acceptance.{first_refusal, deepest}

@@ -1,12 +1,10 @@
 -- What is answered to X, from what it was told. Assumes nothing.
-use Rattle.std.specs.Prelude.{ℕ, Bool, false, not, ◌&&◌}
-use Rattle.std.proofs.Math.Option.{Option}
+use Rattle.std.specs.Prelude.{ℕ, Bool, false, not, ◌&&◌, Option, None}
 use Rattle.words.specs.Choice.{if_true◌then◌else◌}
 use Rattle.facts.specs.declared.Place.TheVariants as Place
 use Rattle.history.specs.Items.{Item, is_native}
 use Rattle.history.specs.Breaches.{place_rule}
 use Rattle.answers.specs.declared.Judged.{Judged}
-use Rattle.answers.specs.Listed.{rule_number}
 use Rattle.sight.specs.declared.leave.LeaveSight.{LeaveSight}
 
 -- 0 or 4
@@ -24,10 +22,10 @@ judged_leave line r s =
       critical = s.critical;
       unheld = false;
       unpushed = false;
-      rule1 = rule_number (place_rule Place.HandleOrNull r s.result.there s.result.fits);
+      rule1 = place_rule Place.HandleOrNull r s.result.there s.result.fits;
       a = r;
-      rule2 = 0;
+      rule2 = None;
       b = 0;
-      rule3 = 0;
+      rule3 = None;
       c = 0;
     }

@@ -1,4 +1,4 @@
-// A: whether it is in turn. The other numbers given instead of it are those of N with no handles.
+// A: whether it is in turn. It is refused as N with no handles is, else.
 ghost use Rattle.std.specs.Prelude.{◌≡◌};
 ghost use Rattle.book.specs.Threads.{top_is};
 ghost use Rattle.weigh.specs.Attach.{attach_turn};

@@ -2,47 +2,43 @@
 ghost use Rattle.std.specs.Prelude.{◌≡◌, ◌&&◌, not, eqb};
 ghost use Rattle.facts.specs.Table.{is_allowed_pending, is_allowed_critical};
 ghost use Rattle.book.specs.Threads.{top_is};
-ghost use Rattle.answers.specs.Answer.{answer_of};
+ghost use Rattle.lines.specs.Numbered.{passes};
+ghost use Rattle.answers.specs.Answer.{findings_of};
 ghost use Rattle.answers.specs.Listed.{listed};
 ghost use Rattle.weigh.specs.Call.{call_refusal, judged_call};
 
-use answers::{Answer, Judged};
+use answers::{Findings, Judged};
 use book::Top;
 use facts::functions::{MONITOR_EXIT, POP_LOCAL_FRAME};
+use lines::refusal::Refusal;
 use sight::call::CallSight;
 use words::Handle;
 
-// The number given instead of it, or 0. `top` is on top of the thread's `many` open items.
-pub fn refusal(closed: bool, top: Top, many: u32) -> u8
-    ensures { result ≡ call_refusal closed (top_is top) many }
+// It is not refused. `top` is on top of the thread's `many` open items.
+pub fn allows(closed: bool, top: Top, many: u32) -> Result<(), Refusal>
+    ensures { result ≡ passes (call_refusal closed (top_is top) many) }
 {
     if closed | !crate::steps::may_call(top) {
-        return 4;
+        return Err(Refusal::OutOfStep);
     }
     if crate::steps::DEEPEST <= many {
-        return 7;
+        return Err(Refusal::NoRoom);
     }
-    0
+    Ok(())
 }
 
 // An exception is pending, and f may not be called with one. Its mark is looked at only where one is.
 fn against_pending(pending: u64, f: u32) -> bool
     ensures { result ≡ (eqb pending 1 && not (is_allowed_pending f)) }
 {
-    if pending == 1 {
-        return !facts::allowed_pending(f);
-    }
-    false
+    pending == 1 && !facts::allowed_pending(f)
 }
 
 // And so for a critical region.
 fn against_critical(critical: bool, f: u32) -> bool
     ensures { result ≡ (critical && not (is_allowed_critical f)) }
 {
-    if critical {
-        return !facts::allowed_critical(f);
-    }
-    false
+    critical && !facts::allowed_critical(f)
 }
 
 fn judge(seen: CallSight, line: u32, env: Handle, f: u32, a: Handle, b: Handle, c: Handle) -> Judged
@@ -85,8 +81,8 @@ pub fn findings(
     a: Handle,
     b: Handle,
     c: Handle,
-) -> Answer
-    ensures { result ≡ answer_of (listed (judged_call line env f a b c seen)) }
+) -> Findings
+    ensures { result ≡ findings_of (listed (judged_call line env f a b c seen)) }
 {
-    answers::findings(judge(seen, line, env, f, a, b, c))
+    judge(seen, line, env, f, a, b, c).findings()
 }

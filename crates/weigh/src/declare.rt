@@ -1,17 +1,19 @@
-// K: the number given instead of it, or 0. It has no findings.
+// K: whether it is refused. It has no findings.
 ghost use Rattle.std.specs.Prelude.{◌≡◌};
+ghost use Rattle.lines.specs.Numbered.{passes};
 ghost use Rattle.weigh.specs.Declare.{declare_refusal};
 
+use lines::refusal::Refusal;
 use sight::declare::DeclareSight;
 
-pub fn refusal(closed: bool, seen: DeclareSight) -> u8
-    ensures { result ≡ declare_refusal closed seen }
+pub fn allows(closed: bool, seen: DeclareSight) -> Result<(), Refusal>
+    ensures { result ≡ passes (declare_refusal closed seen) }
 {
     if closed {
-        return 4;
+        return Err(Refusal::OutOfStep);
     }
     if seen.known | !seen.under {
-        return 9;
+        return Err(Refusal::WrongClass);
     }
-    0
+    Ok(())
 }

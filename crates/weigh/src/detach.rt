@@ -1,29 +1,32 @@
 // D: what is answered to it.
 ghost use Rattle.std.specs.Prelude.{◌≡◌};
 ghost use Rattle.book.specs.Threads.{top_is};
-ghost use Rattle.answers.specs.Answer.{answer_of};
+ghost use Rattle.lines.specs.Numbered.{passes};
+ghost use Rattle.answers.specs.Answer.{findings_of};
 ghost use Rattle.weigh.specs.Detach.{detach_refusal, found_detach};
 
-use answers::Answer;
+use answers::Findings;
 use book::Top;
+use lines::refusal::Refusal;
 use sight::detach::DetachSight;
 use words::Handle;
 
-// The number given instead of it, or 0.
-pub fn refusal(closed: bool, top: Top) -> u8
-    ensures { result ≡ detach_refusal closed (top_is top) }
+// It is not refused.
+pub fn allows(closed: bool, top: Top) -> Result<(), Refusal>
+    ensures { result ≡ passes (detach_refusal closed (top_is top)) }
 {
     if closed | !crate::steps::is_attached(top) {
-        return 4;
+        return Err(Refusal::OutOfStep);
     }
-    0
+    Ok(())
 }
 
 // Line number `line`, accepted.
-pub fn findings(seen: DetachSight, line: u32) -> Answer
-    ensures { result ≡ answer_of (found_detach line seen) }
+pub fn findings(seen: DetachSight, line: u32) -> Findings
+    ensures { result ≡ findings_of (found_detach line seen) }
 {
     let held = seen.monitors;
-    let r3 = answers::and_found_if(answers::nothing(), seen.critical, line, 3, 0, 0);
-    answers::and_found_if(r3, 0 < held, line, 9, 0, held as Handle)
+    Findings::none()
+        .and_if(seen.critical, line, 3, 0, 0)
+        .and_if(0 < held, line, 9, 0, held as Handle)
 }

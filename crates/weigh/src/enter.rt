@@ -1,10 +1,12 @@
-// N: the number given instead of it, or 0. It has no findings.
-ghost use Rattle.std.specs.Prelude.{◌≡◌, ℕ, ◌≤◌, eqb, length, drop};
+// N: whether it is refused. It has no findings.
+ghost use Rattle.std.specs.Prelude.{◌≡◌, ℕ, eqb};
 ghost use Rattle.words.specs.Lists.{any};
+ghost use Rattle.lines.specs.Numbered.{passes};
 ghost use Rattle.book.specs.Threads.{top_is};
 ghost use Rattle.weigh.specs.Enter.{enter_turn, named_twice, env_fits, enter_room, enter_refusal};
 
 use book::Top;
+use lines::refusal::Refusal;
 use sight::enter::EnterSight;
 use words::Handle;
 
@@ -21,30 +23,22 @@ fn env_fits(seen: EnterSight, env: Handle) -> bool
     ((seen.env == 0) | (seen.env == env)) & !seen.elsewhere
 }
 
-// h is one of the handles from a place on.
-fn is_named(hs: &[Handle], from: usize, h: Handle) -> bool
-    requires { from ≤ length hs.now }
-    ensures { result ≡ any (λ (g : ℕ). eqb g h) (drop from hs.now) }
+fn is_named(hs: &[Handle], h: Handle) -> bool
+    ensures { result ≡ any (λ (g : ℕ). eqb g h) hs.now }
 {
-    let mut i = from;
-    while i < hs.len() {
-        if hs[i] == h {
-            return true;
-        }
-        i += 1;
-    }
-    false
+    hs.contains(&h)
 }
 
 fn named_twice(hs: &[Handle]) -> bool
     ensures { result ≡ named_twice hs.now }
 {
-    let mut i = 0;
-    while i < hs.len() {
-        if is_named(hs, i + 1, hs[i]) {
+    let mut left = hs;
+    // Each handle is looked for in the rest behind it, which no chain hands out.
+    while let Some((&h, rest)) = left.split_first() {
+        if is_named(rest, h) {
             return true;
         }
-        i += 1;
+        left = rest;
     }
     false
 }
@@ -56,18 +50,18 @@ fn has_room(seen: EnterSight, many: u32, n: usize) -> bool
     (n <= seen.free) & (seen.frames < crate::steps::DEEPEST) & (many < crate::steps::DEEPEST)
 }
 
-// For N in turn: the number given instead of it, or 0.
-pub fn refusal(seen: EnterSight, many: u32, env: Handle, hs: &[Handle]) -> u8
-    ensures { result ≡ enter_refusal many env hs.now seen }
+// For N in turn: it is not refused.
+pub fn allows(seen: EnterSight, many: u32, env: Handle, hs: &[Handle]) -> Result<(), Refusal>
+    ensures { result ≡ passes (enter_refusal many env hs.now seen) }
 {
     if !env_fits(seen, env) {
-        return 5;
+        return Err(Refusal::WrongEnv);
     }
     if seen.alive | named_twice(hs) {
-        return 6;
+        return Err(Refusal::AlreadyAlive);
     }
     if !has_room(seen, many, hs.len()) {
-        return 7;
+        return Err(Refusal::NoRoom);
     }
-    0
+    Ok(())
 }

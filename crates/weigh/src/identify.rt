@@ -1,20 +1,22 @@
-// M: the number given instead of it, or 0. It has no findings.
+// M: whether it is refused. It has no findings.
 ghost use Rattle.std.specs.Prelude.{◌≡◌};
+ghost use Rattle.lines.specs.Numbered.{passes};
 ghost use Rattle.weigh.specs.Identify.{identify_refusal};
 
+use lines::refusal::Refusal;
 use sight::identify::IdentifySight;
 
-pub fn refusal(closed: bool, seen: IdentifySight) -> u8
-    ensures { result ≡ identify_refusal closed seen }
+pub fn allows(closed: bool, seen: IdentifySight) -> Result<(), Refusal>
+    ensures { result ≡ passes (identify_refusal closed seen) }
 {
     if closed {
-        return 4;
+        return Err(Refusal::OutOfStep);
     }
     if !seen.known {
-        return 9;
+        return Err(Refusal::WrongClass);
     }
     if !seen.fits {
-        return 7;
+        return Err(Refusal::NoRoom);
     }
-    0
+    Ok(())
 }

@@ -1,32 +1,34 @@
 // X: what is answered to it.
 ghost use Rattle.std.specs.Prelude.{◌≡◌};
 ghost use Rattle.book.specs.Threads.{top_is};
-ghost use Rattle.answers.specs.Answer.{answer_of};
+ghost use Rattle.lines.specs.Numbered.{passes};
+ghost use Rattle.answers.specs.Answer.{findings_of};
 ghost use Rattle.answers.specs.Listed.{listed};
 ghost use Rattle.weigh.specs.Leave.{leave_refusal, judged_leave};
 
-use answers::{Answer, Judged};
+use answers::{Findings, Judged};
 use book::Top;
+use lines::refusal::Refusal;
 use sight::leave::LeaveSight;
 use words::Handle;
 
-// The number given instead of it, or 0.
-pub fn refusal(closed: bool, top: Top) -> u8
-    ensures { result ≡ leave_refusal closed (top_is top) }
+// It is not refused.
+pub fn allows(closed: bool, top: Top) -> Result<(), Refusal>
+    ensures { result ≡ passes (leave_refusal closed (top_is top)) }
 {
     if closed | !crate::steps::is_native(top) {
-        return 4;
+        return Err(Refusal::OutOfStep);
     }
-    0
+    Ok(())
 }
 
 // Line number `line`, accepted.
-pub fn findings(seen: LeaveSight, line: u32, res: Handle) -> Answer
-    ensures { result ≡ answer_of (listed (judged_leave line res seen)) }
+pub fn findings(seen: LeaveSight, line: u32, res: Handle) -> Findings
+    ensures { result ≡ findings_of (listed (judged_leave line res seen)) }
 {
     let at = seen.result;
     let rule1 = crate::places::handle_or_null_rule(res, at.there, at.fits);
-    answers::findings(Judged {
+    let judged = Judged {
         line,
         foreign: false,
         env: 0,
@@ -36,9 +38,10 @@ pub fn findings(seen: LeaveSight, line: u32, res: Handle) -> Answer
         unpushed: false,
         rule1,
         a: res,
-        rule2: 0,
+        rule2: None,
         b: 0,
-        rule3: 0,
+        rule3: None,
         c: 0,
-    })
+    };
+    judged.findings()
 }

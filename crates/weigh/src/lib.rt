@@ -1,4 +1,4 @@
-// What is answered to a line that was read, from what it was told of the lent tables: the number given instead, or its findings.
+// What is answered to a line that was read, from what it was told of the lent tables: whether it is refused, or its findings.
 #![tactic(auto)]
 
 pub mod attach;

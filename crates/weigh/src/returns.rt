@@ -1,12 +1,14 @@
 // R: what is answered to it.
 ghost use Rattle.std.specs.Prelude.{◌≡◌};
 ghost use Rattle.book.specs.Threads.{top_is};
-ghost use Rattle.answers.specs.Answer.{answer_of};
+ghost use Rattle.lines.specs.Numbered.{passes};
+ghost use Rattle.answers.specs.Answer.{findings_of};
 ghost use Rattle.weigh.specs.Returns.{return_turn, return_refusal, found_return};
 
-use answers::Answer;
+use answers::Findings;
 use book::Top;
 use facts::functions::PUSH_LOCAL_FRAME;
+use lines::refusal::Refusal;
 use sight::returns::ReturnSight;
 use words::Handle;
 
@@ -17,23 +19,23 @@ pub fn in_turn(closed: bool, f: u32, top: Top) -> bool
     !closed & crate::steps::is_call_of(f, top)
 }
 
-// For R in turn: the number given instead of it, or 0; `acts` where the status is 0.
-pub fn refusal(seen: ReturnSight, f: u32, acts: bool) -> u8
-    ensures { result ≡ return_refusal f acts seen }
+// For R in turn: it is not refused; `acts` where the status is 0.
+pub fn allows(seen: ReturnSight, f: u32, acts: bool) -> Result<(), Refusal>
+    ensures { result ≡ passes (return_refusal f acts seen) }
 {
     let new = seen.made;
     if new.alive {
-        return 6;
+        return Err(Refusal::AlreadyAlive);
     }
     if new.fits & (!((f == PUSH_LOCAL_FRAME) & acts) | (seen.frames < crate::steps::DEEPEST)) {
-        return 0;
+        return Ok(());
     }
-    7
+    Err(Refusal::NoRoom)
 }
 
 // Line number `line`, accepted.
-pub fn findings(seen: ReturnSight, line: u32, h: Handle) -> Answer
-    ensures { result ≡ answer_of (found_return line h seen) }
+pub fn findings(seen: ReturnSight, line: u32, h: Handle) -> Findings
+    ensures { result ≡ findings_of (found_return line h seen) }
 {
-    answers::and_found_if(answers::nothing(), seen.over, line, 11, 0, h)
+    Findings::none().and_if(seen.over, line, 11, 0, h)
 }

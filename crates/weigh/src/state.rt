@@ -1,20 +1,22 @@
-// O: the number given instead of it, or 0. It has no findings.
+// O: whether it is refused. It has no findings.
 ghost use Rattle.std.specs.Prelude.{◌≡◌};
+ghost use Rattle.lines.specs.Numbered.{passes};
 ghost use Rattle.weigh.specs.State.{state_refusal};
 
+use lines::refusal::Refusal;
 use sight::state::StateSight;
 
-pub fn refusal(closed: bool, seen: StateSight) -> u8
-    ensures { result ≡ state_refusal closed seen }
+pub fn allows(closed: bool, seen: StateSight) -> Result<(), Refusal>
+    ensures { result ≡ passes (state_refusal closed seen) }
 {
     if closed {
-        return 4;
+        return Err(Refusal::OutOfStep);
     }
     if !seen.known {
-        return 9;
+        return Err(Refusal::WrongClass);
     }
     if !seen.alive {
-        return 10;
+        return Err(Refusal::NotAlive);
     }
-    0
+    Ok(())
 }

@@ -10,17 +10,16 @@ use lib.IntN.{ℤ}
 use lib.ListN.{length, get_or, drop, set, length-append, length-set, drop_of_length-le}
 use lib.Seq.{drop-cons}
 use borrow.Author.Tests.{lt-ltb, le-ltb, le-leb}
+use Rattle.std.specs.Prelude.{Option, Some, Result, Ok, Err}
 use Rattle.words.specs.Text.{tab, line_feed}
 use Rattle.numbers.specs.Decimal.{shown}
 use Rattle.numbers.specs.Signed.{signed}
 use Rattle.numbers.specs.Writing.{put, Puts}
-use Rattle.numbers.specs.declared.Room.{Room}
-use Rattle.numbers.specs.declared.Room.TheVariants.{To}
 use Rattle.numbers.proofs.Put.{put_one, put_put, put_cons, length_put}
 use Rattle.lines.specs.Writing.{tabbed, lettered}
 use Rattle.lines.specs.Sizes.{signed_at}
 use Rattle.writer.specs.Laid.{Writes}
-use Rattle.lines.specs.declared.Wrote.{Wrote}
+use Rattle.lines.specs.declared.refusal.Refusal.{Refusal}
 
 -- ---- one number after the other
 
@@ -53,10 +52,10 @@ put_next d at k vs i h l =
 
 -- ---- a whole line
 
-pub writes_short : {bs d : List ℕ} → length d < length bs → Writes bs d (Wrote.Refused 7) d
+pub writes_short : {bs d : List ℕ} → length d < length bs → Writes bs d (Err Refusal.NoRoom) d
 writes_short {bs} {d} h = record { reply = rw (lt-ltb (length d) (length bs) h); left = rw (lt-ltb (length d) (length bs) h) }
 
-pub writes_as : {bs cs d d' : List ℕ} {r : Wrote} → bs ≡ cs → Writes bs d r d' → Writes cs d r d'
+pub writes_as : {bs cs d d' : List ℕ} {r : Result ℕ Refusal} → bs ≡ cs → Writes bs d r d' → Writes cs d r d'
 writes_as e w = rw (← e) w
 
 pub length_lettered : (b : ℕ) (ns : List ℤ) → length (lettered b ns) ≡ length (tabbed ns) + 2
@@ -75,7 +74,7 @@ framed d b t h =
     ∙ ap (λ (i : ℕ). (b ∷ (t ++ (line_feed ∷ []))) ++ drop i d) z
 
 pub writes_framed : (d : List ℕ) (b : ℕ) (ns : List ℤ) {n : ℕ} {d' : List ℕ} → length (tabbed ns) + 2 ≤ length d → n ≡ 1 + length (tabbed ns)
-    → d' ≡ set (put (set d 0 b) 1 (tabbed ns)) n line_feed → Writes (lettered b ns) d (Wrote.Bytes (n + 1)) d'
+    → d' ≡ set (put (set d 0 b) 1 (tabbed ns)) n line_feed → Writes (lettered b ns) d (Ok (n + 1)) d'
 writes_framed d b ns {n} {d'} h e g =
     let l = length_lettered b ns in
     let k : n + 1 ≡ length (lettered b ns) = omega arith in
@@ -87,8 +86,8 @@ writes_framed d b ns {n} {d'} h e g =
 
 -- ---- a number put after a tab, where there is room
 
-pub put_room : (d : List ℕ) (at : ℕ) (xs : List ℕ) {r : Room} {d' : List ℕ} → at + suc (length xs) ≤ length d → Puts (set d at tab) (at + 1) xs r d'
-    → (r ≡ To (at + suc (length xs))) × (d' ≡ put d at (tab ∷ xs))
+pub put_room : (d : List ℕ) (at : ℕ) (xs : List ℕ) {r : Option ℕ} {d' : List ℕ} → at + suc (length xs) ≤ length d → Puts (set d at tab) (at + 1) xs r d'
+    → (r ≡ Some (at + suc (length xs))) × (d' ≡ put d at (tab ∷ xs))
 put_room d at xs h p =
     let l = length-set d at tab in
     let t = le-leb (at + 1 + length xs) (length (set d at tab)) (omega arith) in

@@ -1,35 +1,35 @@
 // An event taken apart into its letter and numbers.
-ghost use Rattle.std.specs.Prelude.{◌≡◌};
+ghost use Rattle.std.specs.Prelude.{◌≡◌, ◌==◌, ◌&&◌, nat_le};
+ghost use Rattle.std.specs.List.{list_all};
+ghost use Rattle.lines.specs.Line.{most_handles};
 ghost use Rattle.writer.specs.Apart.{are_empty, apart, apart_return};
 
 use lines::{Event, ranges};
 use words::Handle;
 
-// The letter, how many numbers there are, their sizes at the front, and whether the one that may be below zero is;
-// and whether the event has its handles, or its result and status, as an event has them.
+// The letter, how many numbers there are, their sizes at the front, and whether the one that may be below zero is. Ten at the most, in fixed memory: there is no heap.
 #[derive(Clone, Copy)]
 pub(crate) struct Taken {
     pub letter: u8,
     pub count: usize,
     pub minus: bool,
     pub values: [Handle; 10],
-    pub good: bool,
 }
 
 const MOST_HANDLES: u32 = 8;
 
-// No slot from n on names a handle.
-fn are_empty(h: [Handle; 8], n: u32) -> bool
-    ensures { result ≡ are_empty n h }
+// No slot names a handle.
+fn are_empty(slots: &[Handle]) -> bool
+    ensures { result ≡ list_all (λ x. x == 0) slots.now }
 {
-    let mut ok = true;
-    let mut i = n;
-    while i < MOST_HANDLES {
-        let x = h[i as usize];
-        ok = ok & (x == 0);
-        i += 1;
-    }
-    ok
+    slots.iter().all(|x| *x == 0)
+}
+
+// As many handles as there may be, and no slot past them names one.
+fn are_named(h: [Handle; 8], n: u32) -> bool
+    ensures { result ≡ (nat_le n most_handles && are_empty n h) }
+{
+    n <= MOST_HANDLES && are_empty(&h[n as usize..])
 }
 
 // What a function returns is its status, or its result where it has no status; the other is 0.
@@ -40,7 +40,7 @@ fn take_return(
     status: i32,
     pending: u32,
     empty: bool,
-) -> Taken
+) -> Option<Taken>
     ensures { result ≡ apart_return thread function res status pending empty }
 {
     let t = thread as Handle;
@@ -48,46 +48,43 @@ fn take_return(
     let p = pending as Handle;
     if ranges::gives_status(function) {
         let size = numbers::size_of(status);
-        return Taken {
+        return ((res == 0) & empty).then_some(Taken {
             letter: b'R',
             count: 4,
             minus: numbers::is_negative(status),
             values: [t, f, size, p, 0, 0, 0, 0, 0, 0],
-            good: (res == 0) & empty,
-        };
+        });
     }
-    Taken {
+    ((numbers::size_of(status) == 0) & empty).then_some(Taken {
         letter: b'R',
         count: 4,
         minus: false,
         values: [t, f, res, p, 0, 0, 0, 0, 0, 0],
-        good: (numbers::size_of(status) == 0) & empty,
-    }
+    })
 }
 
-pub(crate) fn take_apart(e: Event, h: [Handle; 8]) -> Taken
+// None where the event has not its handles, or its result and status, as an event has them.
+pub(crate) fn take_apart(e: Event, h: [Handle; 8]) -> Option<Taken>
     ensures { result ≡ apart e h }
 {
     match e {
         Event::Enter { thread, env, count } => {
             let t = thread as Handle;
-            Taken {
+            are_named(h, count).then_some(Taken {
                 letter: b'N',
                 count: count as usize + 2,
                 minus: false,
                 values: [t, env, h[0], h[1], h[2], h[3], h[4], h[5], h[6], h[7]],
-                good: (count <= MOST_HANDLES) & are_empty(h, count),
-            }
+            })
         }
         Event::Leave { thread, result } => {
             let t = thread as Handle;
-            Taken {
+            are_empty(&h).then_some(Taken {
                 letter: b'X',
                 count: 2,
                 minus: false,
                 values: [t, result, 0, 0, 0, 0, 0, 0, 0, 0],
-                good: are_empty(h, 0),
-            }
+            })
         }
         Event::Call {
             thread,
@@ -100,13 +97,12 @@ pub(crate) fn take_apart(e: Event, h: [Handle; 8]) -> Taken
         } => {
             let t = thread as Handle;
             let f = function as Handle;
-            Taken {
+            are_empty(&h).then_some(Taken {
                 letter: b'C',
                 count: 7,
                 minus: numbers::is_negative(n),
                 values: [t, env, f, a, b, c, numbers::size_of(n), 0, 0, 0],
-                good: are_empty(h, 0),
-            }
+            })
         }
         Event::Return {
             thread,
@@ -114,37 +110,34 @@ pub(crate) fn take_apart(e: Event, h: [Handle; 8]) -> Taken
             result,
             status,
             pending,
-        } => take_return(thread, function, result, status, pending, are_empty(h, 0)),
+        } => take_return(thread, function, result, status, pending, are_empty(&h)),
         Event::Attach { thread, env } => {
             let t = thread as Handle;
-            Taken {
+            are_empty(&h).then_some(Taken {
                 letter: b'A',
                 count: 2,
                 minus: false,
                 values: [t, env, 0, 0, 0, 0, 0, 0, 0, 0],
-                good: are_empty(h, 0),
-            }
+            })
         }
         Event::Detach { thread } => {
             let t = thread as Handle;
-            Taken {
+            are_empty(&h).then_some(Taken {
                 letter: b'D',
                 count: 1,
                 minus: false,
                 values: [t, 0, 0, 0, 0, 0, 0, 0, 0, 0],
-                good: are_empty(h, 0),
-            }
+            })
         }
         Event::Declare { class, superclass } => {
             let k = class as Handle;
             let s = superclass as Handle;
-            Taken {
+            are_empty(&h).then_some(Taken {
                 letter: b'K',
                 count: 2,
                 minus: false,
                 values: [k, s, 0, 0, 0, 0, 0, 0, 0, 0],
-                good: are_empty(h, 0),
-            }
+            })
         }
         Event::State {
             thread,
@@ -153,13 +146,12 @@ pub(crate) fn take_apart(e: Event, h: [Handle; 8]) -> Taken
         } => {
             let t = thread as Handle;
             let k = class as Handle;
-            Taken {
+            are_empty(&h).then_some(Taken {
                 letter: b'O',
                 count: 3,
                 minus: false,
                 values: [t, handle, k, 0, 0, 0, 0, 0, 0, 0],
-                good: are_empty(h, 0),
-            }
+            })
         }
         Event::Identify {
             identity,
@@ -172,27 +164,18 @@ pub(crate) fn take_apart(e: Event, h: [Handle; 8]) -> Taken
             let k = class as Handle;
             let u = isstatic as Handle;
             let v = isfinal as Handle;
-            Taken {
+            are_empty(&h).then_some(Taken {
                 letter: b'M',
                 count: 5,
                 minus: false,
                 values: [identity, s, k, u, v, 0, 0, 0, 0, 0],
-                good: are_empty(h, 0),
-            }
+            })
         }
-        Event::End => Taken {
+        Event::End => are_empty(&h).then_some(Taken {
             letter: b'Z',
             count: 0,
             minus: false,
             values: [0; 10],
-            good: are_empty(h, 0),
-        },
-        Event::Refused(_) => Taken {
-            letter: 0,
-            count: 0,
-            minus: false,
-            values: [0; 10],
-            good: false,
-        },
+        }),
     }
 }

@@ -6,8 +6,5 @@ use Rattle.book.specs.Threads.{thread_in}
 use Rattle.book.proofs.Steps.{left_of}
 use Rattle.book.proofs.frames_left.Given as goal
 
-abbrev pub invariant-loop-d : goal.invariant-loop-d
-invariant-loop-d l = (l.d ≤ deepest) × (length (without_native (thread_in l.book l.t).frames) ≡ left_of l.book l.t l.d)
-
-abbrev pub decreases-loop-d : goal.decreases-loop-d
-decreases-loop-d l = l.d
+abbrev pub invariant-loop-i : goal.invariant-loop-i
+invariant-loop-i l = (l.i ≤ deepest) × (length (without_native (thread_in l.book l.t).frames) ≡ left_of l.book l.t l.i)

@@ -1,14 +1,13 @@
 -- `book::natives_below` meets its contract. Assumes nothing.
-use Rattle.std.proofs.Common.{refl, arith, rules}
-use Rattle.rows.specs.Scan.{how_many}
-use Rattle.rows.proofs.ScanLaws.{how_many_next, how_many_end}
+use Rattle.std.proofs.Common.{◌∙◌, rules, tests, arith}
+use Rattle.std.proofs.lemmas.Iterator.{YieldsList-from_range}
+use Rattle.std.proofs.lemmas.Iterator.Consumers.{YieldsList-at, YieldsList-from_filter, count_from_yields_List}
+use Rattle.rows.specs.Marks.{bit}
+use Rattle.book.proofs.Natives.{passing}
 use Rattle.book.proofs.natives_below.Goals as goal
 
-pub loop-d-init : goal.loop-d-init
-loop-d-init c = (search rules, unfold how_many in refl, search rules)
-
-pub loop-d-preserved : goal.loop-d-preserved
-loop-d-preserved c = (omega arith, search how_many_next, omega arith)
-
 pub returns : goal.returns
-returns c = search how_many_end
+returns c =
+    count_from_yields_List c.filter.result _ c.count.ensures.ran
+    (YieldsList-from_filter _ (bit c.args.marks) (YieldsList-at c.filter.ensures.source (YieldsList-from_range 0 c.args.n c.args.n (cc) (omega arith))) c.filter.ensures.closure (λ x r q k. search (rules, tests)))
+    ∙ passing (bit c.args.marks) c.args.n

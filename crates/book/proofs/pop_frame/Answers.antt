@@ -7,6 +7,6 @@ returns c =
     pop_top _ _ _ _ _ _ _
     c.frames_of-d.ensures.0
     c.top_pushed.ensures
-    c.one_if-gone.ensures.0
-    c.less.ensures
+    c.from-gone.ensures
+    c.saturating_sub.ensures
     c.store.ensures

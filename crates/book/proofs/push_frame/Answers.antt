@@ -10,7 +10,7 @@ returns c =
     push_room _ _ _ _ _ _ _ _ _
     c.frames_of-d.ensures.0
     c.if-d.false
-    c.one_if-mark.ensures.0
+    c.from-mark.ensures
     c.store.ensures
     c.store-2.ensures
     c.store-3.ensures

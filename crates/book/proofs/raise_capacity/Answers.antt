@@ -2,8 +2,8 @@
 use Rattle.book.proofs.Steps.{raise_none, raise_some}
 use Rattle.book.proofs.raise_capacity.Goals as goal
 
-pub returns-then-d-eq0 : goal.returns-then-d-eq0
-returns-then-d-eq0 c = search raise_none
+pub returns-in_default : goal.returns-in_default
+returns-in_default c = raise_none _ _ _ _ c.frames_of.ensures.0 c.in_default.ensures
 
 pub returns : goal.returns
-returns c = search raise_some
+returns c = raise_some _ _ _ _ _ _ _ _ c.frames_of.ensures.0 c.in-Some.ensures c.top_capacity.ensures c.max-c.ensures c.store.ensures

@@ -1,13 +1,13 @@
 -- `book::some_overdone` meets its contract. Assumes nothing.
-use Rattle.std.proofs.Common.{arith}
-use Rattle.book.proofs.Steps.{unfit_first, unfit_next, unfit_last}
+use Rattle.std.proofs.Common.{refl, rules, tests}
+use Rattle.std.proofs.lemmas.Iterator.{YieldsList-from_range}
+use Rattle.std.proofs.lemmas.Iterator.Search.{any_from_yields_List}
+use Rattle.book.specs.Unfit.{overdone_in}
+use Rattle.book.proofs.Steps.{unfit_by}
 use Rattle.book.proofs.some_overdone.Goals as goal
 
-pub loop-t-init : goal.loop-t-init
-loop-t-init c = (omega arith, search unfit_first)
-
-pub loop-t-preserved : goal.loop-t-preserved
-loop-t-preserved c = (omega arith, search unfit_next)
-
 pub returns : goal.returns
-returns c = search unfit_last
+returns c =
+    unfit_by _ _ _ c.requires c.lines_of.ensures
+    (any_from_yields_List (overdone_in c.args.book.now) c.any.new.self _ _ c.any.ensures.ran
+    (YieldsList-from_range 1 17 16 (cc) refl) (λ x b q k. search (rules, tests)))

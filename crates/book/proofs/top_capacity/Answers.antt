@@ -2,8 +2,8 @@
 use Rattle.book.proofs.Steps.{capacity_none, capacity_some}
 use Rattle.book.proofs.top_capacity.Goals as goal
 
-pub returns-then-d-eq0 : goal.returns-then-d-eq0
-returns-then-d-eq0 c = search capacity_none
+pub returns-in_default : goal.returns-in_default
+returns-in_default c = capacity_none _ _ _ c.frames_of.ensures.0 c.in_default.ensures
 
 pub returns : goal.returns
-returns c = search capacity_some
+returns c = capacity_some _ _ _ _ _ c.frames_of.ensures.0 c.in-Some.ensures c.number.ensures

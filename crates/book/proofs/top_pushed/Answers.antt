@@ -2,8 +2,8 @@
 use Rattle.book.proofs.Steps.{pushed_none, pushed_some}
 use Rattle.book.proofs.top_pushed.Goals as goal
 
-pub returns-then-d-eq0 : goal.returns-then-d-eq0
-returns-then-d-eq0 c = search pushed_none
+pub returns-in_default : goal.returns-in_default
+returns-in_default c = pushed_none _ _ _ c.frames_of.ensures.0 c.in_default.ensures
 
 pub returns : goal.returns
-returns c = search pushed_some
+returns c = pushed_some _ _ _ _ _ c.frames_of.ensures.0 c.in-Some.ensures c.frame_pushed.ensures

@@ -1,5 +1,5 @@
 -- The loop of `book::unfit`. Assumes nothing.
-use Rattle.std.proofs.Common.{◌≡◌, suc, ◌-◌, ◌≤◌, false}
+use Rattle.std.proofs.Common.{◌≡◌, suc, ◌≤◌, false}
 use Rattle.lines.specs.Line.{threads}
 use Rattle.book.specs.Turns.{ByTurns}
 use Rattle.book.specs.Unfit.{unfit}
@@ -8,6 +8,3 @@ use Rattle.book.proofs.unfit.Given as goal
 
 abbrev pub invariant-loop-t : goal.invariant-loop-t
 invariant-loop-t l = (l.t ≤ suc threads) × (l.doubt ≡ false → ByTurns l.marks → unfit l.book ≡ overdone_from l.book l.t)
-
-abbrev pub decreases-loop-t : goal.decreases-loop-t
-decreases-loop-t l = suc threads - l.t

@@ -1,16 +1,13 @@
 -- `exported::stop_told` meets its contract. Assumes nothing.
-use mathlib.Core.Path.{sym, ap}
-use Rattle.numbers.proofs.Minus.{minus_fits}
+use mathlib.Core.Path.{sym, ap, ◌∙◌}
+use mir.Syntax.{w32}
+use mir.Facts.{to_z-of_z}
 use Rattle.exported.specs.Pieced.{stop_told}
-use Rattle.exported.proofs.Piecing.{refused_told}
 use borrow.Author.Rules.{rules}
 use Rattle.exported.proofs.stop_told.Goals as goal
 
-pub overflow_sub-result : goal.overflow_sub-result
-overflow_sub-result c = minus_fits {k = c.in-Refused.k} (search rules)
-
 pub returns-in-Refused : goal.returns-in-Refused
-returns-in-Refused c = refused_told _ c.in-Refused.is (search rules)
+returns-in-Refused c = to_z-of_z {w = w32} {z = c.told.result} (search rules) ∙ c.told.ensures ∙ sym (ap stop_told c.in-Refused.is)
 
 pub returns-in-Full : goal.returns-in-Full
 returns-in-Full c = sym (ap stop_told c.in-Full.is)

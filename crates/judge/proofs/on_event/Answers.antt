@@ -6,8 +6,7 @@ use mathlib.Core.Path.{refl, sym}
 use mir.Facts.{to_z-of_z}
 use lib.Seq.{length-take-le}
 use Rattle.judge.proofs.Reading.{few_named}
-use Rattle.judge.proofs.Dispatch.{of_enter, of_leave, of_call, of_return, of_attach, of_detach, of_declare, of_state, of_identify, of_end, of_refused}
-use borrow.Author.Rules.{sfits_of}
+use Rattle.judge.proofs.Dispatch.{of_enter, of_leave, of_call, of_return, of_attach, of_detach, of_declare, of_state, of_identify, of_end}
 use Rattle.judge.proofs.on_event.Goals as goal
 
 pub slice_bounds-handles-end : goal.slice_bounds-handles-end
@@ -165,6 +164,3 @@ shape_of-book-in-End c = c.end.auto.book
 
 pub returns-in-End : goal.returns-in-End
 returns-in-End c = of_end _ _ _ _ _ _ _ c.in-End.is (c.end.ensures _ _ _)
-
-pub returns-in-Refused : goal.returns-in-Refused
-returns-in-Refused c = of_refused _ _ _ _ _ _ _ _ c.in-Refused.is c.refused.ensures refl

@@ -7,7 +7,4 @@ use Rattle.lines.specs.Sizes.{named}
 use Rattle.lines.proofs.named.Given as goal
 
 abbrev pub invariant-loop-i : goal.invariant-loop-i
-invariant-loop-i l = (length l.v ≡ 10) × (l.i ≤ 8) × (l.h ≡ padded (take l.i (named l.n l.v)))
-
-abbrev pub decreases-loop-i : goal.decreases-loop-i
-decreases-loop-i l = 8 - l.i
+invariant-loop-i l = (length l.v ≡ 10) × (length l.h ≡ 8) × (l.i ≤ l.n) × (l.h ≡ padded (take (l.i - 2) (named l.n l.v)))

@@ -1,6 +1,6 @@
 -- `program::judge_all` meets its contract. Assumes nothing.
 use Prim.Native.Nat.{ℕ}
-use mathlib.Core.Path.{◌≡◌, refl, sym, ◌∙◌}
+use mathlib.Core.Path.{◌≡◌, refl, ◌∙◌}
 use mathlib.Core.Bool.{Bool}
 use mathlib.Core.List.{List}
 use native.Mathlib.Omega.{arith}
@@ -15,7 +15,7 @@ use Rattle.program.specs.Running.{unread_in}
 use Rattle.program.proofs.Lent.{start_lent}
 use Rattle.program.proofs.Judging.{judged_start}
 use Rattle.program.proofs.Finishing.{whatever_classes}
-use Rattle.program.proofs.Turning.{still_newest}
+use Rattle.program.proofs.Turning.{not_both, still_newest}
 use Rattle.program.proofs.Turns.{Going, Passing, going_start, fits, going_on, fewer_left, finished, leaks_then, still_asked}
 use Rattle.program.proofs.judge_all.Goals as goal
 
@@ -53,35 +53,32 @@ finish-finished-requires c =
     let l = c.loop-so_far in
     let n = c.run_lines-passed.new in
     let p = passing {T = tables l.rows l.marks l.pins l.pinmarks l.book l.classes} {S = tables n.rows n.marks n.pins n.pinmarks n.book n.classes} l.out c.has_ended.result l.invariant.0 (search rules) c.run_lines-passed.auto.out c.has_ended.ensures c.run_lines-passed.ensures in
-    (finished p c.if-so_far-ne0.true c.turned-so_far.ensures.0, c.turned-so_far.ensures.1)
+    (c.in-Some.is, finished p (not_both c.in-Some.is) c.turned-so_far.ensures.0, c.turned-so_far.ensures.1)
 
 pub add_leaks-requires : goal.add_leaks-requires
 add_leaks-requires c =
     let l = c.loop-so_far in
     let n = c.run_lines-passed.new in
     let p = passing {T = tables l.rows l.marks l.pins l.pinmarks l.book l.classes} {S = tables n.rows n.marks n.pins n.pinmarks n.book n.classes} l.out c.has_ended.result l.invariant.0 (search rules) c.run_lines-passed.auto.out c.has_ended.ensures c.run_lines-passed.ensures in
-    (c.finish-finished.ensures.1, whatever_classes _ _ _ _ _ _ _ _ (leaks_then p c.if-so_far-ne0.true c.turned-so_far.ensures.0 c.finish-finished.ensures.0))
+    (c.finish-finished.ensures.1, whatever_classes _ _ _ _ _ _ _ _ (leaks_then p (not_both c.in-Some.is) c.turned-so_far.ensures.0 c.finish-finished.ensures.0))
 
-pub shape_of-buf-then-so_far-ne0 : goal.shape_of-buf-then-so_far-ne0
-shape_of-buf-then-so_far-ne0 c = c.turned-so_far.auto.buf ∙ c.loop-so_far.invariant.0.size ∙ sym c.requires
-
-pub returns-then-so_far-ne0 : goal.returns-then-so_far-ne0
-returns-then-so_far-ne0 c =
+pub returns-in-Some : goal.returns-in-Some
+returns-in-Some c =
     let l = c.loop-so_far in
     let n = c.run_lines-passed.new in
     let p = passing {T = tables l.rows l.marks l.pins l.pinmarks l.book l.classes} {S = tables n.rows n.marks n.pins n.pinmarks n.book n.classes} l.out c.has_ended.result l.invariant.0 (search rules) c.run_lines-passed.auto.out c.has_ended.ensures c.run_lines-passed.ensures in
-    (c.add_leaks.ensures.0 ∙ still_asked p c.if-so_far-ne0.true c.turned-so_far.ensures.0 c.finish-finished.ensures.0, c.add_leaks.ensures.1)
+    (c.add_leaks.ensures.0 ∙ still_asked p (not_both c.in-Some.is) c.turned-so_far.ensures.0 c.finish-finished.ensures.0, c.add_leaks.ensures.1)
 
 pub loop-so_far-smaller : goal.loop-so_far-smaller
 loop-so_far-smaller c =
     let l = c.loop-so_far in
     let n = c.run_lines-passed.new in
     let p = passing {T = tables l.rows l.marks l.pins l.pinmarks l.book l.classes} {S = tables n.rows n.marks n.pins n.pinmarks n.book n.classes} l.out c.has_ended.result l.invariant.0 (search rules) c.run_lines-passed.auto.out c.has_ended.ensures c.run_lines-passed.ensures in
-    fewer_left p c.if-so_far-ne0.false c.turned-so_far.auto.buf c.turned-so_far.ensures.0
+    fewer_left p c.in-None.is c.turned-so_far.auto.buf c.turned-so_far.ensures.0
 
 pub loop-so_far-preserved : goal.loop-so_far-preserved
 loop-so_far-preserved c =
     let l = c.loop-so_far in
     let n = c.run_lines-passed.new in
     let p = passing {T = tables l.rows l.marks l.pins l.pinmarks l.book l.classes} {S = tables n.rows n.marks n.pins n.pinmarks n.book n.classes} l.out c.has_ended.result l.invariant.0 (search rules) c.run_lines-passed.auto.out c.has_ended.ensures c.run_lines-passed.ensures in
-    (going_on p c.if-so_far-ne0.false c.turned-so_far.auto.buf c.turned-so_far.ensures.0, c.turned-so_far.ensures.1)
+    (going_on p c.in-None.is c.turned-so_far.auto.buf c.turned-so_far.ensures.0, c.turned-so_far.ensures.1)

@@ -6,6 +6,5 @@ use Rattle.program.proofs.put_last.Goals as goal
 
 pub returns : goal.returns
 returns c =
-    let run = c.args.run in
-    let last = last_put run.refusal run.findings c.is_closed-closed.ensures c.lines_of-lines.ensures c.end_width-width.ensures c.put_end.ensures in
+    let last = last_put c.args.run.findings c.is_closed-closed.ensures c.lines_of-lines.ensures c.number_of-refusal.ensures c.end_width-width.ensures c.put_end.ensures in
     (last.width, omega (arith, last.short), last_fits last (search rules))

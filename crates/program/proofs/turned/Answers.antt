@@ -24,7 +24,7 @@ read_more-requires c = (
 pub returns-in-Refused : goal.returns-in-Refused
 returns-in-Refused c =
     let s = c.stopped-in-Refused.ensures in
-    (is_refused _ c.in-Refused.is (ended c.requires.1 (wrote c.args.run.streams _ c.print-streams.ensures.0 c.is_unwritable.ensures c.if-is_unwritable.false) s refl), still_newest s.1 c.print-streams.ensures.1)
+    (is_refused _ c.in-Refused.is (ended c.requires.1 (wrote c.args.run.streams _ c.print-streams.ensures.0 c.is_unwritable.ensures c.if-is_unwritable.false) s), still_newest s.1 c.print-streams.ensures.1)
 
 pub returns-in-Full : goal.returns-in-Full
 returns-in-Full c = (is_full c.in-Full.is (passed c.requires.1 (wrote c.args.run.streams _ c.print-streams.ensures.0 c.is_unwritable.ensures c.if-is_unwritable.false)) refl, c.print-streams.ensures.1)
@@ -38,4 +38,4 @@ returns-in-More c = (
 pub returns-in-End : goal.returns-in-End
 returns-in-End c =
     let s = c.stopped-in-End.ensures in
-    (is_at_end c.in-End.is (ended c.requires.1 (wrote c.args.run.streams _ c.print-streams.ensures.0 c.is_unwritable.ensures c.if-is_unwritable.false) s refl), still_newest s.1 c.print-streams.ensures.1)
+    (is_at_end c.in-End.is (ended c.requires.1 (wrote c.args.run.streams _ c.print-streams.ensures.0 c.is_unwritable.ensures c.if-is_unwritable.false) s), still_newest s.1 c.print-streams.ensures.1)

@@ -5,13 +5,13 @@ use borrow.Author.Rules.{rules}
 use Rattle.report.proofs.put_field.Goals as goal
 
 pub bounds-d-p : goal.bounds-d-p
-bounds-d-p c = let a = c.args in to_fits a.d.now a.at (digits a.n) a.after c.requires c.write.ensures c.in-To.is
+bounds-d-p c = let a = c.args in to_fits a.d.now a.at (digits a.n) a.after c.requires c.write.ensures c.in-Some.is
 
 pub overflow_add-result : goal.overflow_add-result
-overflow_add-result c = let a = c.args in let h = to_fits a.d.now a.at (digits a.n) a.after c.requires c.write.ensures c.in-To.is in search rules
+overflow_add-result c = let a = c.args in let h = to_fits a.d.now a.at (digits a.n) a.after c.requires c.write.ensures c.in-Some.is in search rules
 
-pub returns-in-To : goal.returns-in-To
-returns-in-To c = let a = c.args in fills_one a.d.now a.at (digits a.n) a.after c.requires c.write.ensures c.in-To.is
+pub returns-in-Some : goal.returns-in-Some
+returns-in-Some c = let a = c.args in fills_one a.d.now a.at (digits a.n) a.after c.requires c.write.ensures c.in-Some.is
 
-pub returns-in-Short : goal.returns-in-Short
-returns-in-Short c = let a = c.args in absurd (not_short a.d.now a.at (digits a.n) a.after c.requires c.write.ensures c.in-Short.is)
+pub returns-in-None : goal.returns-in-None
+returns-in-None c = let a = c.args in absurd (not_short a.d.now a.at (digits a.n) a.after c.requires c.write.ensures c.in-None.is)

@@ -10,5 +10,5 @@ put_each-requires c = omega (arith, c.findings_width.ensures.0, c.has_room.ensur
 pub returns-then-has_room : goal.returns-then-has_room
 returns-then-has_room c = fills_puts c.put_each.ensures
 
-pub returns : goal.returns
-returns c = short (omega (arith, c.findings_width.ensures.0, c.has_room.ensures.1 c.if-has_room.false))
+pub returns-else-has_room : goal.returns-else-has_room
+returns-else-has_room c = short (omega (arith, c.findings_width.ensures.0, c.has_room.ensures.1 c.if-has_room.false))

@@ -27,5 +27,5 @@ returns-then-has_room c =
     let a = c.args in
     fills_puts (fills_then (leak_parts a.rule a.thread a.value a.line) c.put_bytes-i.ensures (fills_then (fields_parts a.rule a.thread a.value a.line) c.put_field-j.ensures c.put_three.ensures))
 
-pub returns : goal.returns
-returns c = short (omega (arith, c.leak_width.ensures.0, c.has_room.ensures.1 c.if-has_room.false))
+pub returns-else-has_room : goal.returns-else-has_room
+returns-else-has_room c = short (omega (arith, c.leak_width.ensures.0, c.has_room.ensures.1 c.if-has_room.false))

@@ -43,26 +43,5 @@ loop-way-preserved c =
       class_tables = c.step-answer.auto.classes;
     } in guided_on {S' = (tables c.step-answer.new.rows c.step-answer.new.marks c.step-answer.new.pins c.step-answer.new.pinmarks c.step-answer.new.book c.step-answer.new.classes)} c.loop-way.invariant c.loop-way-test.true c.step-answer.ensures.outcome as_long c.step-answer.ensures.guided.0 c.step-answer.ensures.guided.1 c.step-answer.ensures.fit c.heard-way.ensures
 
-pub shape_of-rows : goal.shape_of-rows
-shape_of-rows c = c.loop-way.invariant.alike.reference_rows
-
-pub shape_of-marks : goal.shape_of-marks
-shape_of-marks c = c.loop-way.invariant.alike.reference_marks
-
-pub shape_of-pins : goal.shape_of-pins
-shape_of-pins c = c.loop-way.invariant.alike.pin_rows
-
-pub shape_of-pinmarks : goal.shape_of-pinmarks
-shape_of-pinmarks c = c.loop-way.invariant.alike.pin_marks
-
-pub shape_of-book : goal.shape_of-book
-shape_of-book c = c.loop-way.invariant.alike.books
-
-pub shape_of-classes : goal.shape_of-classes
-shape_of-classes c = c.loop-way.invariant.alike.class_tables
-
-pub shape_of-out : goal.shape_of-out
-shape_of-out c = c.loop-way.invariant.going.as_long
-
 pub returns : goal.returns
 returns c = going_told c.how_far.ensures c.loop-way.invariant.going (omega (arith, c.loop-way-test.false))

@@ -33,26 +33,5 @@ loop-way-preserved c =
       going_on c.loop-way.invariant.1 c.loop-way-test.true {S' = (tables c.step-answer.new.rows c.step-answer.new.marks c.step-answer.new.pins c.step-answer.new.pinmarks c.step-answer.new.book c.step-answer.new.classes)} c.step-answer.ensures c.heard-way.ensures,
     )
 
-pub shape_of-rows : goal.shape_of-rows
-shape_of-rows c = c.loop-way.invariant.0.reference_rows
-
-pub shape_of-marks : goal.shape_of-marks
-shape_of-marks c = c.loop-way.invariant.0.reference_marks
-
-pub shape_of-pins : goal.shape_of-pins
-shape_of-pins c = c.loop-way.invariant.0.pin_rows
-
-pub shape_of-pinmarks : goal.shape_of-pinmarks
-shape_of-pinmarks c = c.loop-way.invariant.0.pin_marks
-
-pub shape_of-book : goal.shape_of-book
-shape_of-book c = c.loop-way.invariant.0.books
-
-pub shape_of-classes : goal.shape_of-classes
-shape_of-classes c = c.loop-way.invariant.0.class_tables
-
-pub shape_of-out : goal.shape_of-out
-shape_of-out c = c.loop-way.invariant.1.as_long
-
 pub returns : goal.returns
 returns c = going_told c.how_far.ensures c.loop-way.invariant.1 (omega (arith, c.loop-way-test.false))

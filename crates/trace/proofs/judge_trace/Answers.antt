@@ -14,50 +14,11 @@ returns-then-is_short c = classes_short _ _ _ (omega (arith, c.if-book-lt-WHOLE.
 pub report_into-w-requires : goal.report_into-w-requires
 report_into-w-requires c = (omega (arith, c.if-book-lt-WHOLE.false), ltb-false _ _ (sym c.is_short.ensures ∙ c.if-is_short.false))
 
-pub shape_of-rows-then-out-w : goal.shape_of-rows-then-out-w
-shape_of-rows-then-out-w c = c.report_into-w.auto.rows
-
-pub shape_of-marks-then-out-w : goal.shape_of-marks-then-out-w
-shape_of-marks-then-out-w c = c.report_into-w.auto.marks
-
-pub shape_of-pins-then-out-w : goal.shape_of-pins-then-out-w
-shape_of-pins-then-out-w c = c.report_into-w.auto.pins
-
-pub shape_of-pinmarks-then-out-w : goal.shape_of-pinmarks-then-out-w
-shape_of-pinmarks-then-out-w c = c.report_into-w.auto.pinmarks
-
-pub shape_of-book-then-out-w : goal.shape_of-book-then-out-w
-shape_of-book-then-out-w c = c.report_into-w.auto.book
-
-pub shape_of-classes-then-out-w : goal.shape_of-classes-then-out-w
-shape_of-classes-then-out-w c = c.report_into-w.auto.classes
-
 pub returns-then-out-w : goal.returns-then-out-w
 returns-then-out-w c = out_short _ _ _ (omega (arith, c.if-book-lt-WHOLE.false), ltb-false _ _ (sym c.is_short.ensures ∙ c.if-is_short.false)) c.report_into-w.ensures c.if-out-w.true
 
 pub report_into-requires : goal.report_into-requires
 report_into-requires c = (omega (arith, c.if-book-lt-WHOLE.false, c.report_into-w.auto.book), as_long c.report_into-w.auto.classes (ltb-false _ _ (sym c.is_short.ensures ∙ c.if-is_short.false)))
-
-pub shape_of-rows : goal.shape_of-rows
-shape_of-rows c = c.report_into.auto.rows ∙ c.report_into-w.auto.rows
-
-pub shape_of-marks : goal.shape_of-marks
-shape_of-marks c = c.report_into.auto.marks ∙ c.report_into-w.auto.marks
-
-pub shape_of-pins : goal.shape_of-pins
-shape_of-pins c = c.report_into.auto.pins ∙ c.report_into-w.auto.pins
-
-pub shape_of-pinmarks : goal.shape_of-pinmarks
-shape_of-pinmarks c = c.report_into.auto.pinmarks ∙ c.report_into-w.auto.pinmarks
-
-pub shape_of-book : goal.shape_of-book
-shape_of-book c = c.report_into.auto.book ∙ c.report_into-w.auto.book
-
-pub shape_of-classes : goal.shape_of-classes
-shape_of-classes c = c.report_into.auto.classes ∙ c.report_into-w.auto.classes
-
-pub shape_of-out : goal.shape_of-out
-shape_of-out c = c.report_into.auto.out
 
 pub returns : goal.returns
 returns c =

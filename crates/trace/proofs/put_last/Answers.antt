@@ -5,5 +5,4 @@ use Rattle.trace.proofs.put_last.Goals as goal
 
 pub returns : goal.returns
 returns c =
-    let run = c.args.run in
-    last_there (last_put run.refusal run.findings c.is_closed-closed.ensures c.lines_of-lines.ensures c.end_width-width.ensures c.put_end.ensures)
+    last_there (last_put c.args.run.findings c.is_closed-closed.ensures c.lines_of-lines.ensures c.number_of-refusal.ensures c.end_width-width.ensures c.put_end.ensures)

@@ -3,4 +3,4 @@ use mathlib.Core.Path.{refl}
 use Rattle.trace.proofs.with_passed.Goals as goal
 
 pub returns : goal.returns
-returns c = record { at = refl; findings = refl; bytes = refl; refusal = c.refusal_of.ensures; going = c.is_full.ensures; shown = c.put_front.ensures }
+returns c = record { at = refl; findings = refl; bytes = refl; shown = c.put_front.ensures }

@@ -6,6 +6,3 @@ use Rattle.classes.proofs.identities.first.Given as goal
 
 abbrev pub invariant-loop-i : goal.invariant-loop-i
 invariant-loop-i l = (l.i ≤ l.to) × (first_from (is_for l.table l.x) l.i (l.to - l.i) ≡ first_from (is_for l.table l.x) l.from (l.to - l.from))
-
-abbrev pub decreases-loop-i : goal.decreases-loop-i
-decreases-loop-i l = l.to - l.i

@@ -6,5 +6,5 @@ use Rattle.guide.proofs.pins.cell_of.Goals as goal
 pub returns-then-t-le16 : goal.returns-then-t-le16
 returns-then-t-le16 c = (cell_own _ c.if-t-le16.true, search rules)
 
-pub returns : goal.returns
-returns c = (cell_other _ c.if-t-le16.false, search rules)
+pub returns-else-t-le16 : goal.returns-else-t-le16
+returns-else-t-le16 c = (cell_other _ c.if-t-le16.false, search rules)

@@ -1,6 +1,6 @@
 -- The loop of `guide::pins::fill`. Assumes nothing.
 use mathlib.Core.Path.{◌≡◌}
-use Prim.Native.Nat.{◌≤◌, ◌-◌}
+use Prim.Native.Nat.{◌≤◌}
 use lib.ListN.{length}
 use Rattle.rows.specs.Table.{table}
 use Rattle.guide.specs.Pins.{filled}
@@ -8,6 +8,3 @@ use Rattle.guide.proofs.pins.fill.Given as goal
 
 abbrev pub invariant-loop-r : goal.invariant-loop-r
 invariant-loop-r l = (l.r ≤ l.n) × (length l.guide ≡ length l.initial.guide) × (l.guide ≡ filled (table l.rows l.marks) l.initial.guide l.r)
-
-abbrev pub decreases-loop-r : goal.decreases-loop-r
-decreases-loop-r l = l.n - l.r

@@ -1,23 +1,12 @@
--- `guide::pins::find` meets its contract; the invariant: the places before s are full, and `best` is the lowest row that they name. Assumes nothing.
-use mathlib.Core.Path.{refl}
+-- `guide::pins::find` meets its contract. Assumes nothing.
+use Rattle.std.proofs.Common.{rules}
 use Rattle.rows.specs.Pins.{pins, is_buffer}
 use Rattle.guide.specs.Pins.{found_in}
-use Rattle.guide.proofs.NamedLaws.{found_scanned, at_first_place, found_open, looks_on, found_none}
-use mathlib.Core.Path.{ap}
-use mathlib.Core.Bool.{not}
+use Rattle.guide.proofs.NamedLaws.{told_some, told_none}
 use Rattle.guide.proofs.pins.find.Goals as goal
 
-pub returns-then-guide-eq0 : goal.returns-then-guide-eq0
-returns-then-guide-eq0 c = unfold found_in in found_scanned pins (is_buffer c.args.t c.args.f c.args.b) _ _ _ _ _ c.find.ensures c.if-guide-eq0.true
+pub returns-in-Some : goal.returns-in-Some
+returns-in-Some c = unfold found_in in told_some pins (is_buffer c.args.t c.args.f c.args.b) _ _ _ _ _ _ _ _ c.first_of.ensures c.second_of.ensures c.in-Some.is (c.find-listed.ensures (is_buffer c.args.t c.args.f c.args.b) (λ x b e. search rules))
 
-pub loop-left-init : goal.loop-left-init
-loop-left-init c = at_first_place refl c.first_of-s.ensures c.room-best.ensures
-
-pub returns-then-not-is_full : goal.returns-then-not-is_full
-returns-then-not-is_full c = unfold found_in in found_open pins (is_buffer _ _ _) _ _ _ _ _ _ _ _ _ _ _ c.word_at-w.ensures c.named_row.ensures c.lesser-best.ensures c.is_full.ensures c.loop-left.invariant c.loop-left-test.true (ap not c.if-not-is_full.true)
-
-pub loop-left-preserved : goal.loop-left-preserved
-loop-left-preserved c = looks_on pins (is_buffer _ _ _) _ _ _ _ _ _ _ _ _ _ _ c.word_at-w.ensures c.named_row.ensures c.lesser-best.ensures c.is_full.ensures _ c.loop-left.invariant c.loop-left-test.true (ap not c.if-not-is_full.false) c.second_of-s.ensures
-
-pub returns : goal.returns
-returns c = unfold found_in in found_none pins (is_buffer _ _ _) _ _ _ _ _ _ _ _ c.loop-left.invariant c.loop-left-test.false c.find-2.ensures
+pub returns-in-None : goal.returns-in-None
+returns-in-None c = unfold found_in in told_none pins (is_buffer c.args.t c.args.f c.args.b) _ _ _ _ _ _ _ _ c.first_of.ensures c.second_of.ensures c.in-None.is (c.find-listed.ensures (is_buffer c.args.t c.args.f c.args.b) (λ x b e. search rules)) c.find.ensures

@@ -12,5 +12,5 @@ overflow_add-result c = record { fits = cell_fits c.args.t c.args.f c.if-t-f.tru
 pub returns-then-t-f : goal.returns-then-t-f
 returns-then-t-f c = (cell_own _ _ c.if-t-f.true, cell_low _ _ c.if-t-f.true)
 
-pub returns : goal.returns
-returns c = (cell_other _ _ c.if-t-f.false, search rules)
+pub returns-else-t-f : goal.returns-else-t-f
+returns-else-t-f c = (cell_other _ _ c.if-t-f.false, search rules)

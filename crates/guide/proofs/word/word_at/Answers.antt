@@ -1,9 +1,7 @@
 -- `guide::word::word_at` meets its contract. Assumes nothing.
-use Rattle.guide.proofs.Steps.{word_past, word_inside}
+use Rattle.std.proofs.Common.{rules}
+use Rattle.guide.specs.Listing.{word_at}
 use Rattle.guide.proofs.word.word_at.Goals as goal
 
-pub returns-then-guide-s : goal.returns-then-guide-s
-returns-then-guide-s c = word_past _ _ c.if-guide-s.true
-
 pub returns : goal.returns
-returns c = word_inside _ _ c.if-guide-s.false
+returns c = unfold word_at in search rules

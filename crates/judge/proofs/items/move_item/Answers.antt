@@ -3,8 +3,7 @@ use mir.Syntax.{w32}
 use borrow.Author.Rules.{rules}
 use mathlib.Core.Path.{refl}
 use mir.Facts.{to_z-of_z}
-use Rattle.judge.proofs.Moving.{native_opened, native_closed, call_opened, call_closed, attached_opened, attached_closed, none_declared, none_stated, none_identified, none_at_end, none_refused}
-use borrow.Author.Rules.{sfits_of}
+use Rattle.judge.proofs.Moving.{native_opened, native_closed, call_opened, call_closed, attached_opened, attached_closed, none_declared, none_stated, none_identified, none_at_end}
 use Rattle.judge.proofs.items.move_item.Goals as goal
 
 pub shape_of-book-in-Enter : goal.shape_of-book-in-Enter
@@ -54,6 +53,3 @@ returns-in-Identify c = none_identified _ _ _ c.in-Identify.is refl
 
 pub returns-in-End : goal.returns-in-End
 returns-in-End c = none_at_end _ _ _ c.in-End.is refl
-
-pub returns-in-Refused : goal.returns-in-Refused
-returns-in-Refused c = none_refused _ _ _ c.in-Refused.is refl

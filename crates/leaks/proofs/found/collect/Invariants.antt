@@ -1,5 +1,4 @@
 -- The loop of `leaks::found::collect`. Assumes nothing.
-use Prim.Native.Nat.{◌-◌, ◌≤◌}
 use mathlib.Core.Path.{◌≡◌}
 use lib.ListN.{length}
 use Rattle.rows.specs.Table.{table}
@@ -8,7 +7,4 @@ use Rattle.leaks.specs.Found.{found_from, Added}
 use Rattle.leaks.proofs.found.collect.Given as goal
 
 abbrev pub invariant-loop-i : goal.invariant-loop-i
-invariant-loop-i l = (l.i ≤ l.count) × (length l.leaks ≡ length l.initial.leaks) × Added (found_from (table l.rows l.marks) (table l.pins l.pinmarks) l.first l.i) l.at l.n (entries_in l.initial.leaks) (entries_in l.leaks)
-
-abbrev pub decreases-loop-i : goal.decreases-loop-i
-decreases-loop-i l = l.count - l.i
+invariant-loop-i l = (length l.leaks ≡ length l.initial.leaks) × Added (found_from (table l.rows l.marks) (table l.pins l.pinmarks) l.first l.i) l.at l.n (entries_in l.initial.leaks) (entries_in l.leaks)

@@ -1,5 +1,5 @@
 -- `lines::heads::gather` meets its contract. The loop keeps that what is gathered so far with the fields to come is what all of them give. Assumes nothing.
-use mathlib.Core.Path.{refl, ap, ap₂, sym, subst, ◌∙◌}
+use mathlib.Core.Path.{ap, ap₂, sym, subst, ◌∙◌}
 use Prim.Native.Nat.{ℕ, ◌+◌, ◌<◌}
 use native.Mathlib.Omega.{arith}
 use Rattle.words.specs.Text.{tab}
@@ -10,9 +10,6 @@ use Rattle.lines.specs.Forms.{most_fields}
 use Rattle.lines.specs.Gathered.{fields_from, Gathered, gathered_as, taken, gathered}
 use Rattle.lines.proofs.Gathering.{turn, over_end, next_fits, nothing_mends}
 use Rattle.lines.proofs.heads.gather.Goals as goal
-
-pub loop-at-init : goal.loop-at-init
-loop-at-init c = refl
 
 pub returns-then-t-gt-MOST_FIELDS : goal.returns-then-t-gt-MOST_FIELDS
 returns-then-t-gt-MOST_FIELDS c =

@@ -3,7 +3,7 @@ use mathlib.Core.Path.{ap, sym, ◌∙◌}
 use borrow.Author.Tests.{not-true, not-false}
 use Rattle.lines.specs.Gathered.{fields_from, nothing_yet, no_values, gathered_as, gathered}
 use Rattle.lines.specs.declared.forms.Counts.{Counts}
-use Rattle.lines.proofs.Content.{not_alone, alone_some}
+use Rattle.lines.proofs.Content.{not_alone}
 use Rattle.lines.proofs.HeadLaws.{refused_headed, gathered_headed}
 use mathlib.Core.Bool.{not}
 use Rattle.lines.proofs.heads.take_content.Goals as goal
@@ -11,12 +11,9 @@ use Rattle.lines.proofs.heads.take_content.Goals as goal
 pub returns-then-not-letter_alone : goal.returns-then-not-letter_alone
 returns-then-not-letter_alone c = refused_headed (sym (not_alone c.args.s.now (sym c.letter_alone.ensures ∙ not-true c.letter_alone.result (ap not c.if-not-letter_alone.true))))
 
-pub bounds-s-0 : goal.bounds-s-0
-bounds-s-0 c = alone_some c.args.s.now (sym c.letter_alone.ensures ∙ not-false c.letter_alone.result (ap not c.if-not-letter_alone.false))
-
 pub returns : goal.returns
 returns c =
     let s = c.args.s.now in
-    gathered_headed s (sym c.letter_alone.ensures ∙ not-false c.letter_alone.result (ap not c.if-not-letter_alone.false)) c.gather-t.result _
-    (c.gather-t.ensures ∙ ap (λ (f : Counts). gathered f.signed (gathered_as nothing_yet no_values) (fields_from s 2)) c.counts_of-counts.ensures)
+    gathered_headed s (sym c.letter_alone.ensures ∙ not-false c.letter_alone.result (ap not c.if-not-letter_alone.false)) c.gather.result _
+    (c.gather.ensures ∙ ap (λ (f : Counts). gathered f.signed (gathered_as nothing_yet no_values) (fields_from s 2)) c.counts_of-counts.ensures)
     c.take_gathered.ensures

@@ -1,5 +1,5 @@
 -- The loop of `rows::marks::free_below`. Assumes nothing.
-use Prim.Native.Nat.{◌*◌, ◌+◌, ◌-◌, ◌≤◌}
+use Prim.Native.Nat.{◌*◌, ◌≤◌}
 use mathlib.Core.Path.{◌≡◌}
 use Rattle.rows.specs.Marks.{word}
 use Rattle.rows.specs.Scan.{lowest}
@@ -9,6 +9,3 @@ use Rattle.rows.proofs.marks.free_below.Given as goal
 
 abbrev pub invariant-loop-w : goal.invariant-loop-w
 invariant-loop-w l = (l.from ≤ l.w) × (l.w ≤ most) × (l.w * word ≡ lowest (free_at l.marks l.from) (l.w * word))
-
-abbrev pub decreases-loop-w : goal.decreases-loop-w
-decreases-loop-w l = l.n + word - l.w * word

@@ -1,5 +1,5 @@
 -- The loop of `rows::marks::used_below`. Assumes nothing.
-use Prim.Native.Nat.{◌*◌, ◌-◌, ◌≤◌}
+use Prim.Native.Nat.{◌*◌, ◌≤◌}
 use mathlib.Core.Path.{◌≡◌}
 use Rattle.rows.specs.Marks.{used, word}
 use Rattle.rows.specs.Scan.{how_many}
@@ -7,6 +7,3 @@ use Rattle.rows.proofs.marks.used_below.Given as goal
 
 abbrev pub invariant-loop-w : goal.invariant-loop-w
 invariant-loop-w l = (l.w ≤ l.full) × (l.sum ≤ l.w * word) × (l.sum ≡ how_many (used l.marks) (l.w * word))
-
-abbrev pub decreases-loop-w : goal.decreases-loop-w
-decreases-loop-w l = l.full - l.w

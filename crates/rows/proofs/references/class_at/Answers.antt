@@ -4,8 +4,8 @@ use Rattle.rows.specs.Table.{room}
 use Rattle.rows.proofs.ClassLaws.{class_some, class_none}
 use Rattle.rows.proofs.references.class_at.Goals as goal
 
-pub read-row-requires : goal.read-row-requires
-read-row-requires c = unfold room in omega arith
+pub read-requires : goal.read-requires
+read-requires c = unfold room in omega arith
 
 pub returns-then-r-room : goal.returns-then-r-room
 returns-then-r-room c = search class_some

@@ -1,5 +1,6 @@
 -- `rows::references::count` meets its contract; the invariant: the sum is that of the words before w. Assumes nothing.
-use mathlib.Core.Path.{◌∙◌}
+use Rattle.std.proofs.Common.{rules}
+use Rattle.rows.specs.References.{in_frame}
 use native.Mathlib.Omega.{arith}
 use Rattle.rows.specs.Table.{counted, room}
 use Rattle.rows.proofs.MarkLaws.{count_last, count_word}
@@ -15,8 +16,5 @@ overflow_add-sum c = unfold room in omega arith
 pub loop-w-preserved : goal.loop-w-preserved
 loop-w-preserved c = (omega arith, omega arith, search count_word)
 
-pub overflow_add-sum-2 : goal.overflow_add-sum-2
-overflow_add-sum-2 c = unfold room in omega arith
-
 pub returns : goal.returns
-returns c = c.count_of.ensures ∙ (unfold counted in search count_last)
+returns c = unfold counted in count_last _ _ _ _ _ _ c.loop-w.invariant.2 (omega arith) (omega arith) c.room-n.ensures (c.count_first.ensures.1 (in_frame c.args.t c.args.f) (λ x b e. search rules))

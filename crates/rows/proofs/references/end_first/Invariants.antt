@@ -1,5 +1,5 @@
 -- The loop of `rows::references::end_first`. Assumes nothing.
-use Prim.Native.Nat.{◌*◌, ◌-◌, ◌≤◌}
+use Prim.Native.Nat.{◌*◌, ◌≤◌}
 use lib.ListN.{length}
 use mathlib.Core.Path.{◌≡◌}
 use Rattle.rows.specs.Marks.{word}
@@ -9,6 +9,3 @@ use Rattle.rows.proofs.references.end_first.Given as goal
 
 abbrev pub invariant-loop-i : goal.invariant-loop-i
 invariant-loop-i l = (l.i ≤ l.m) × (length l.rows ≡ length l.initial.rows) × (length l.marks ≡ length l.initial.marks) × (table l.rows l.marks ≡ ended_from references (from_frame l.t l.f) (table l.initial.rows l.initial.marks) (l.w * word) l.i)
-
-abbrev pub decreases-loop-i : goal.decreases-loop-i
-decreases-loop-i l = l.m - l.i

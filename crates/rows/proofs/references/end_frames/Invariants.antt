@@ -1,5 +1,5 @@
 -- The loop of `rows::references::end_frames`. Assumes nothing.
-use Prim.Native.Nat.{◌*◌, ◌-◌, ◌≤◌}
+use Prim.Native.Nat.{◌*◌, ◌≤◌}
 use lib.ListN.{length}
 use mathlib.Core.Path.{◌≡◌}
 use Rattle.rows.specs.Marks.{word}
@@ -9,6 +9,3 @@ use Rattle.rows.proofs.references.end_frames.Given as goal
 
 abbrev pub invariant-loop-w : goal.invariant-loop-w
 invariant-loop-w l = (l.w ≤ l.full) × (length l.rows ≡ length l.initial.rows) × (length l.marks ≡ length l.initial.marks) × (table l.rows l.marks ≡ ended_from references (from_frame l.t l.f) (table l.initial.rows l.initial.marks) 0 (l.w * word))
-
-abbrev pub decreases-loop-w : goal.decreases-loop-w
-decreases-loop-w l = l.full - l.w

@@ -1,6 +1,7 @@
 -- `rows::references::end_in` meets its contract. Assumes nothing.
 use native.Mathlib.Omega.{arith}
-use Rattle.rows.specs.References.{references}
+use Rattle.std.proofs.Common.{rules}
+use Rattle.rows.specs.References.{from_frame, references}
 use Rattle.rows.specs.Table.{room}
 use Rattle.rows.proofs.TableLaws.{ended_unmatched, ended_unused}
 use Rattle.rows.proofs.references.end_in.Goals as goal
@@ -14,8 +15,8 @@ bounds-marks-w c = unfold room in omega arith
 pub returns-then-marks-w-eq0 : goal.returns-then-marks-w-eq0
 returns-then-marks-w-eq0 c = search ended_unused
 
-pub above-requires : goal.above-requires
-above-requires c = unfold room in omega arith
+pub matching-requires-clause-there : goal.matching-requires-clause-there
+matching-requires-clause-there c = unfold room in omega arith
 
-pub returns-else-above-ne0 : goal.returns-else-above-ne0
-returns-else-above-ne0 c = ended_unmatched references _ _ _ _ _ c.above.ensures c.if-above-ne0.false
+pub returns-else-matching-ne0 : goal.returns-else-matching-ne0
+returns-else-matching-ne0 c = ended_unmatched references _ _ _ _ _ (c.matching.ensures.1 (from_frame c.args.t c.args.f) (λ x b e. search rules)) c.if-matching-ne0.false

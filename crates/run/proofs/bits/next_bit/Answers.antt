@@ -15,4 +15,4 @@ pub overflow_add-i : goal.overflow_add-i
 overflow_add-i c = record { fits = omega (arith, trailing_le word (c.args.v / 2 ^ c.args.i)) }
 
 pub returns : goal.returns
-returns c = none_between _ _ _ c.lesser.ensures (search rules)
+returns c = none_between _ _ _ c.min.ensures (search rules)

@@ -1,5 +1,4 @@
 -- `run::call::act_on` meets its contract. Assumes nothing.
-use mathlib.Core.Path.{◌∙◌}
 use Rattle.act.proofs.Calling.{references_called, tables_called}
 use Rattle.run.proofs.call.act_on.Goals as goal
 
@@ -8,27 +7,6 @@ end_top-requires c = c.delete.ensures.guided
 
 pub release-requires : goal.release-requires
 release-requires c = c.requires.1
-
-pub shape_of-rows : goal.shape_of-rows
-shape_of-rows c = c.end_top.auto.rows ∙ c.delete.auto.rows
-
-pub shape_of-marks : goal.shape_of-marks
-shape_of-marks c = c.end_top.auto.marks ∙ c.delete.auto.marks
-
-pub shape_of-guide : goal.shape_of-guide
-shape_of-guide c = c.end_top.auto.guide ∙ c.delete.auto.guide
-
-pub shape_of-pins : goal.shape_of-pins
-shape_of-pins c = c.release.auto.pins
-
-pub shape_of-pinmarks : goal.shape_of-pinmarks
-shape_of-pinmarks c = c.release.auto.pinmarks
-
-pub shape_of-pinguide : goal.shape_of-pinguide
-shape_of-pinguide c = c.release.auto.pinguide
-
-pub shape_of-book : goal.shape_of-book
-shape_of-book c = c.write_book.auto.book
 
 pub returns : goal.returns
 returns c = let args = c.args in record { left = (λ cs. tables_called args.rows.now args.marks.now args.pins.now args.pinmarks.now args.book.now cs c.end_top.new.rows c.end_top.new.marks c.release.new.pins c.release.new.pinmarks c.write_book.new.book args.t args.f args.a args.row args.place args.pinrow (references_called _ _ _ args.book.now args.t args.f args.a args.row c.delete.ensures.left c.end_top.ensures.left) c.release.ensures.left c.write_book.ensures); guided = (c.end_top.ensures.guided, c.release.ensures.guided) }

@@ -1,5 +1,4 @@
 -- `run::dispatch::on_call` meets its contract. Assumes nothing.
-use mathlib.Core.Path.{refl}
 use mir.Facts.{to_z-of_z}
 use mir.Syntax.{w32}
 use borrow.Author.Rules.{rules}
@@ -18,77 +17,11 @@ returns-requires c = let pre = c.requires in (pre.2, pre.3)
 pub on_statement-requires : goal.on_statement-requires
 on_statement-requires c = (c.requires.0, c.requires.1, calls_not c.args.event c.in_default.not-Call c.in_default.not-Return, c.requires.2)
 
-pub shape_of-rows-in-Call : goal.shape_of-rows-in-Call
-shape_of-rows-in-Call c = c.call.auto.rows
-
-pub shape_of-marks-in-Call : goal.shape_of-marks-in-Call
-shape_of-marks-in-Call c = c.call.auto.marks
-
-pub shape_of-guide-in-Call : goal.shape_of-guide-in-Call
-shape_of-guide-in-Call c = c.call.auto.guide
-
-pub shape_of-pins-in-Call : goal.shape_of-pins-in-Call
-shape_of-pins-in-Call c = c.call.auto.pins
-
-pub shape_of-pinmarks-in-Call : goal.shape_of-pinmarks-in-Call
-shape_of-pinmarks-in-Call c = c.call.auto.pinmarks
-
-pub shape_of-pinguide-in-Call : goal.shape_of-pinguide-in-Call
-shape_of-pinguide-in-Call c = c.call.auto.pinguide
-
-pub shape_of-book-in-Call : goal.shape_of-book-in-Call
-shape_of-book-in-Call c = c.call.auto.book
-
-pub shape_of-classes-in-Call : goal.shape_of-classes-in-Call
-shape_of-classes-in-Call c = refl
-
 pub returns-in-Call : goal.returns-in-Call
 returns-in-Call c = let args = c.args in record { outcome = (λ hs. of_call _ _ hs _ _ (tables c.args.rows.now c.args.marks.now c.args.pins.now c.args.pinmarks.now c.args.book.now c.args.classes.now) (leaves c.call.result (tables c.call.new.rows c.call.new.marks c.call.new.pins c.call.new.pinmarks c.call.new.book args.classes.now)) c.in-Call.is (c.call.ensures.outcome _)); guided = c.call.ensures.guided }
 
-pub shape_of-rows-in-Return : goal.shape_of-rows-in-Return
-shape_of-rows-in-Return c = c.returns.auto.rows
-
-pub shape_of-marks-in-Return : goal.shape_of-marks-in-Return
-shape_of-marks-in-Return c = c.returns.auto.marks
-
-pub shape_of-guide-in-Return : goal.shape_of-guide-in-Return
-shape_of-guide-in-Return c = c.returns.auto.guide
-
-pub shape_of-pins-in-Return : goal.shape_of-pins-in-Return
-shape_of-pins-in-Return c = c.returns.auto.pins
-
-pub shape_of-pinmarks-in-Return : goal.shape_of-pinmarks-in-Return
-shape_of-pinmarks-in-Return c = c.returns.auto.pinmarks
-
-pub shape_of-pinguide-in-Return : goal.shape_of-pinguide-in-Return
-shape_of-pinguide-in-Return c = c.returns.auto.pinguide
-
-pub shape_of-book-in-Return : goal.shape_of-book-in-Return
-shape_of-book-in-Return c = c.returns.auto.book
-
 pub returns-in-Return : goal.returns-in-Return
 returns-in-Return c = let args = c.args in record { outcome = (λ hs. of_return _ _ hs _ _ (tables c.args.rows.now c.args.marks.now c.args.pins.now c.args.pinmarks.now c.args.book.now c.args.classes.now) (leaves c.returns.result (tables c.returns.new.rows c.returns.new.marks c.returns.new.pins c.returns.new.pinmarks c.returns.new.book args.classes.now)) _ (to_z-of_z {w = w32} {z = c.in-Return.status} (search rules)) c.in-Return.is (c.returns.ensures.outcome args.classes.now args.many)); guided = c.returns.ensures.guided }
-
-pub shape_of-rows-in_default : goal.shape_of-rows-in_default
-shape_of-rows-in_default c = c.on_statement.auto.rows
-
-pub shape_of-marks-in_default : goal.shape_of-marks-in_default
-shape_of-marks-in_default c = refl
-
-pub shape_of-guide-in_default : goal.shape_of-guide-in_default
-shape_of-guide-in_default c = refl
-
-pub shape_of-pins-in_default : goal.shape_of-pins-in_default
-shape_of-pins-in_default c = refl
-
-pub shape_of-pinmarks-in_default : goal.shape_of-pinmarks-in_default
-shape_of-pinmarks-in_default c = refl
-
-pub shape_of-book-in_default : goal.shape_of-book-in_default
-shape_of-book-in_default c = c.on_statement.auto.book
-
-pub shape_of-classes-in_default : goal.shape_of-classes-in_default
-shape_of-classes-in_default c = c.on_statement.auto.classes
 
 pub returns-in_default : goal.returns-in_default
 returns-in_default c = let args = c.args in record { outcome = (λ hs. c.on_statement.ensures.outcome hs _ args.many); guided = (c.on_statement.ensures.guided, c.requires.3) }

@@ -1,5 +1,4 @@
 -- `run::kept::end_first` meets its contract; the invariant: the rows before i that pass are ended. Assumes nothing.
-use Prim.Native.Nat.{◌-◌}
 use borrow.Author.Rules.{rules}
 use mathlib.Core.Path.{refl}
 use native.Mathlib.Omega.{arith}

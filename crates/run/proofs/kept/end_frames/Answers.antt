@@ -1,5 +1,4 @@
 -- `run::kept::end_frames` meets its contract; the invariant: the rows of the words before w that pass are ended. Assumes nothing.
-use Prim.Native.Nat.{◌-◌}
 use mathlib.Core.Path.{refl, ◌∙◌}
 use native.Mathlib.Omega.{arith}
 use Rattle.rows.specs.References.{from_frame, references}

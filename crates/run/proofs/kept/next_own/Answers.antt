@@ -8,4 +8,4 @@ pub returns-then-m-i : goal.returns-then-m-i
 returns-then-m-i c = (omega arith, omega arith, λ k u v. absurd (omega arith))
 
 pub returns : goal.returns
-returns c = none_below _ _ _ _ _ c.lesser.ensures c.next_bit.ensures.0 (search rules) c.next_bit.ensures.2
+returns c = none_below _ _ _ _ _ c.min.ensures c.next_bit.ensures.0 (search rules) c.next_bit.ensures.2

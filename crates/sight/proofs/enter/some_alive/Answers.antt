@@ -1,19 +1,18 @@
 -- `sight::enter::some_alive` meets its contract. Assumes nothing.
-use Rattle.sight.proofs.AnyLaws.{any_hit, any_next, any_end}
+use Rattle.std.proofs.Common.{ℕ, ◌∙◌, rules, tests}
+use Rattle.std.specs.Prelude.{nat_lt}
+use Rattle.std.proofs.lemmas.Iterator.{YieldsList-from_slice}
+use Rattle.std.proofs.lemmas.Iterator.Search.{any_from_yields_List}
+use Rattle.rows.specs.Table.{table}
+use Rattle.history.specs.Handles.{is_local}
+use Rattle.tables.specs.Tables.{handles_in}
 use Rattle.sight.specs.Sights.{some_alive}
-use mathlib.Core.Path.{refl, sym, ◌∙◌}
-use Prim.Native.Nat.{◌-◌}
-use native.Mathlib.Omega.{arith}
+use Rattle.sight.proofs.AnyLaws.{any_is}
 use Rattle.sight.proofs.enter.some_alive.Goals as goal
 
-pub loop-i-init : goal.loop-i-init
-loop-i-init c = (omega arith, refl)
-
-pub returns-then-local_alive : goal.returns-then-local_alive
-returns-then-local_alive c = unfold some_alive in any_hit _ _ _ _ c.loop-i-test.true c.local_alive.ensures c.if-local_alive.true ∙ c.loop-i.invariant.1
-
-pub loop-i-preserved : goal.loop-i-preserved
-loop-i-preserved c = (omega arith, sym (any_next _ _ _ _ c.loop-i-test.true c.local_alive.ensures c.if-local_alive.false) ∙ c.loop-i.invariant.1)
-
 pub returns : goal.returns
-returns c = unfold some_alive in any_end _ _ _ c.loop-i-test.false ∙ c.loop-i.invariant.1
+returns c =
+    unfold some_alive in
+    any_from_yields_List (λ (h : ℕ). nat_lt 0 (handles_in (table c.args.rows.now c.args.marks.now) (is_local c.args.t h))) c.any.new.self _ _ c.any.ensures.ran
+    (YieldsList-from_slice c.args.hs.now (cc)) (λ x b q k. search (rules, tests))
+    ∙ any_is _ c.args.hs.now

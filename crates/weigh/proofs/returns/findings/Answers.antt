@@ -3,4 +3,4 @@ use Rattle.weigh.proofs.ReturnLaws.{return_found}
 use Rattle.weigh.proofs.returns.findings.Goals as goal
 
 pub returns : goal.returns
-returns c = return_found _ _ _ _ _ c.nothing.ensures c.and_found_if.ensures
+returns c = return_found _ _ _ _ _ c.none.ensures c.and_if.ensures

@@ -1,18 +1,15 @@
 -- `weigh::steps::is_attached` meets its contract. Assumes nothing.
-use mathlib.Core.Path.{sym, ap}
+use mathlib.Core.Path.{◌∙◌}
 use Rattle.history.specs.Items.{is_attached}
 use Rattle.book.specs.Threads.{top_is}
-use Rattle.book.specs.declared.Top.{Top}
+use Rattle.weigh.proofs.StepLaws.{of_top, of_item, no_attached}
 use Rattle.weigh.proofs.steps.is_attached.Goals as goal
 
-pub returns-in-Nothing : goal.returns-in-Nothing
-returns-in-Nothing c = unfold top_is in ap (λ (x : Top). is_attached (top_is x)) (sym c.in-Nothing.is)
-
-pub returns-in-Native : goal.returns-in-Native
-returns-in-Native c = unfold top_is in ap (λ (x : Top). is_attached (top_is x)) (sym c.in-Native.is)
+pub returns-in_default : goal.returns-in_default
+returns-in_default c = unfold top_is in of_top is_attached c.in_default.is
 
 pub returns-in-Attached : goal.returns-in-Attached
-returns-in-Attached c = unfold top_is in ap (λ (x : Top). is_attached (top_is x)) (sym c.in-Attached.is)
+returns-in-Attached c = unfold top_is in of_item is_attached c.in-Some.is c.in-Attached.is
 
-pub returns-in-Call : goal.returns-in-Call
-returns-in-Call c = unfold top_is in ap (λ (x : Top). is_attached (top_is x)) (sym c.in-Call.is)
+pub returns-in_default-matches : goal.returns-in_default-matches
+returns-in_default-matches c = no_attached _ c.in_default-matches.not-Attached ∙ of_top is_attached c.in-Some.is

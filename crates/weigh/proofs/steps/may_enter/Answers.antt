@@ -1,19 +1,17 @@
 -- `weigh::steps::may_enter` meets its contract. Assumes nothing.
-use mathlib.Core.Path.{sym, ap}
+use mathlib.Core.Path.{◌∙◌}
 use mathlib.Core.Bool.{◌||◌}
-use Rattle.history.specs.Items.{is_empty, is_call}
+use Rattle.std.specs.Prelude.{Option}
+use Rattle.history.specs.Items.{Item, is_empty, is_call}
 use Rattle.book.specs.Threads.{top_is}
-use Rattle.book.specs.declared.Top.{Top}
+use Rattle.weigh.proofs.StepLaws.{of_top, of_item, no_enter}
 use Rattle.weigh.proofs.steps.may_enter.Goals as goal
 
-pub returns-in-Nothing : goal.returns-in-Nothing
-returns-in-Nothing c = unfold top_is in ap (λ (x : Top). is_empty (top_is x) || is_call (top_is x)) (sym c.in-Nothing.is)
-
-pub returns-in-Native : goal.returns-in-Native
-returns-in-Native c = unfold top_is in ap (λ (x : Top). is_empty (top_is x) || is_call (top_is x)) (sym c.in-Native.is)
-
-pub returns-in-Attached : goal.returns-in-Attached
-returns-in-Attached c = unfold top_is in ap (λ (x : Top). is_empty (top_is x) || is_call (top_is x)) (sym c.in-Attached.is)
+pub returns-in_default : goal.returns-in_default
+returns-in_default c = unfold top_is in of_top (λ (o : Option Item). is_empty o || is_call o) c.in_default.is
 
 pub returns-in-Call : goal.returns-in-Call
-returns-in-Call c = unfold top_is in ap (λ (x : Top). is_empty (top_is x) || is_call (top_is x)) (sym c.in-Call.is)
+returns-in-Call c = unfold top_is in of_item (λ (o : Option Item). is_empty o || is_call o) c.in-Some.is c.in-Call.is
+
+pub returns-in_default-matches : goal.returns-in_default-matches
+returns-in_default-matches c = no_enter _ c.in_default-matches.not-Call ∙ of_top (λ (o : Option Item). is_empty o || is_call o) c.in-Some.is

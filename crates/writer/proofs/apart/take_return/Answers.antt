@@ -17,7 +17,7 @@ returns-then-gives_status c =
     unfold apart_return in let a = c.args in
     let z = to_z-of_z {w = w32} c.ranges.status in
     rw (sym c.gives_status.ensures ∙ c.if-gives_status.true)
-    (ap₂ (λ (m : Bool) (n : ℕ). taken 82 4 m (a.thread ∷ a.function ∷ n ∷ a.pending ∷ 0 ∷ 0 ∷ 0 ∷ 0 ∷ 0 ∷ 0 ∷ []) (eqb a.res 0 && a.empty))
+    (c.then_some.ensures ∙ ap₂ (λ (m : Bool) (n : ℕ). taken 82 4 m (a.thread ∷ a.function ∷ n ∷ a.pending ∷ 0 ∷ 0 ∷ 0 ∷ 0 ∷ 0 ∷ 0 ∷ []) (eqb a.res 0 && a.empty))
     (c.is_negative.ensures ∙ ap is_negative z) (c.size_of-size.ensures ∙ ap nat_abs z))
 
 pub returns : goal.returns
@@ -25,5 +25,5 @@ returns c =
     unfold apart_return in let a = c.args in
     let z = to_z-of_z {w = w32} c.ranges.status in
     rw (sym c.gives_status.ensures ∙ c.if-gives_status.false)
-    (ap (λ (b : Bool). taken 82 4 false (a.thread ∷ a.function ∷ a.res ∷ a.pending ∷ 0 ∷ 0 ∷ 0 ∷ 0 ∷ 0 ∷ 0 ∷ []) (b && a.empty))
+    (c.then_some-2.ensures ∙ ap (λ (b : Bool). taken 82 4 false (a.thread ∷ a.function ∷ a.res ∷ a.pending ∷ 0 ∷ 0 ∷ 0 ∷ 0 ∷ 0 ∷ 0 ∷ []) (b && a.empty))
     (ap (λ (n : ℕ). eqb n 0) (c.size_of.ensures ∙ ap nat_abs z) ∙ zero_size a.status))
