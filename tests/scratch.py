@@ -6,7 +6,7 @@ import pathlib, re, shutil, subprocess, tempfile
 
 ROOT = pathlib.Path(__file__).resolve().parent.parent
 HISTORY = ['words', 'facts', 'numbers', 'lines', 'history']
-DEFINITIONS = HISTORY + ['rows', 'classes', 'book', 'tables', 'demands']
+DEFINITIONS = HISTORY + ['rows', 'guide', 'classes', 'book', 'tables', 'demands']
 TYPE = re.compile(r'^pub type [^\n]*\n|^(?:pub(?:\(crate\))? )?(?:enum|struct) .*?^}\n', re.M | re.S)
 USE = re.compile(r'^use ([\w:]+)::(?:(\w+)|\{([^}]*)\});$', re.M)
 

@@ -13,13 +13,14 @@ use Rattle.facts.specs.Named.{PopLocalFrame}
 use Rattle.facts.specs.declared.Place.{Place}
 use Rattle.facts.specs.Results.{is_buffer_place}
 use Rattle.lines.specs.Line.{C}
-use Rattle.rows.specs.Table.{Table, table, found, ended, ended_all}
+use Rattle.rows.specs.Table.{Table, found, ended, ended_all}
 use Rattle.rows.specs.References.{references, is_handle, from_frame}
 use Rattle.rows.specs.Pins.{pins, is_buffer}
 use Rattle.history.specs.Frames.{top_pushed}
 use Rattle.book.specs.Threads.{thread_in}
 use Rattle.book.specs.Moves.{frame_popped, line_counted}
-use Rattle.tables.specs.Tables.{Tables, tables}
+use Rattle.tables.specs.Tables.{Tables}
+use Rattle.tables.specs.Lent.{with_references, with_pins, with_book}
 use Rattle.tables.specs.Acting.{first_ended, is_delete, delete_owner, pin_owner, references_after, pins_after, book_after, classes_after, acted}
 use Rattle.act.specs.Books.{popped, called_book}
 use Rattle.act.specs.Calls.{deleted, top_ended, called_references, released, called}
@@ -27,53 +28,45 @@ use Rattle.act.proofs.Choosing.{chosen, passed_over}
 
 -- ---- a handle
 
-module _ (T : Table) (f a row : ℕ) (b : Bool) (e : b ≡ is_delete f a) where
-  pub handle_ended : (T' : Table) → b ≡ true → T' ≡ ended references T row → T' ≡ deleted T f a row
+module _ (T : Tables) (f a row : ℕ) (b : Bool) (e : b ≡ is_delete f a) where
+  pub handle_ended : (T' : Tables) → b ≡ true → T' ≡ with_references T (ended references T.references row) → T' ≡ with_references T (deleted T.references f a row)
   unfolding deleted
-  handle_ended T' h k = chosen (is_delete f a) (ended references T row) T (sym e ∙ h) k
+  handle_ended T' h k = k ∙ ap (with_references T) (chosen (is_delete f a) (ended references T.references row) T.references (sym e ∙ h) refl)
 
-  pub no_handle_ended : b ≡ false → T ≡ deleted T f a row
+  pub no_handle_ended : b ≡ false → T ≡ with_references T (deleted T.references f a row)
   unfolding deleted
-  no_handle_ended h = passed_over (is_delete f a) (ended references T row) T (sym e ∙ h) refl
+  no_handle_ended h = ap (with_references T) (passed_over (is_delete f a) (ended references T.references row) T.references (sym e ∙ h) refl)
 
 -- ---- the top frame
 
-module _ (T : Table) (b : List ℕ) (t f : ℕ) (y : Bool) (e : y ≡ (eqb f PopLocalFrame && top_pushed (thread_in b t).frames)) where
-  pub frame_ended : (T' : Table) (d : ℕ) → y ≡ true → d ≡ length (thread_in b t).frames → T' ≡ ended_all references (from_frame t d) T
-      → T' ≡ top_ended T b t f
+module _ (T : Tables) (t f : ℕ) (y : Bool) (e : y ≡ (eqb f PopLocalFrame && top_pushed (thread_in T.book t).frames)) where
+  abbrev its_rows : ℕ → Table
+  its_rows d = ended_all references (from_frame t d) T.references
+
+  pub frame_ended : (T' : Tables) (d : ℕ) → y ≡ true → d ≡ length (thread_in T.book t).frames → T' ≡ with_references T (ended_all references (from_frame t d) T.references)
+      → T' ≡ with_references T (top_ended T.references T.book t f)
   unfolding top_ended
   frame_ended T' d h ed k =
-      chosen
-      (eqb f PopLocalFrame && top_pushed (thread_in b t).frames)
-      (ended_all references (from_frame t (length (thread_in b t).frames)) T)
-      T
-      (sym e ∙ h)
-      (k ∙ ap (λ (n : ℕ). ended_all references (from_frame t n) T) ed)
+      k
+      ∙ ap (with_references T)
+      (chosen (eqb f PopLocalFrame && top_pushed (thread_in T.book t).frames) (its_rows (length (thread_in T.book t).frames)) T.references (sym e ∙ h) (ap its_rows ed))
 
-  pub no_frame_ended : y ≡ false → T ≡ top_ended T b t f
+  pub no_frame_ended : y ≡ false → T ≡ with_references T (top_ended T.references T.book t f)
   unfolding top_ended
   no_frame_ended h =
-      passed_over
-      (eqb f PopLocalFrame && top_pushed (thread_in b t).frames)
-      (ended_all references (from_frame t (length (thread_in b t).frames)) T)
-      T
-      (sym e ∙ h)
-      refl
-
-pub references_called : (T S S' : Table) (b : List ℕ) (t f a row : ℕ) → S ≡ deleted T f a row → S' ≡ top_ended S b t f → S' ≡ called_references T b t f a row
-unfolding called_references
-references_called T S S' b t f a row e k = k ∙ ap (λ (X : Table). top_ended X b t f) e
+      ap (with_references T)
+      (passed_over (eqb f PopLocalFrame && top_pushed (thread_in T.book t).frames) (its_rows (length (thread_in T.book t).frames)) T.references (sym e ∙ h) refl)
 
 -- ---- a buffer
 
-module _ (P : Table) (p : Place) (row : ℕ) (b : Bool) (e : b ≡ is_buffer_place p) where
-  pub buffer_ended : (P' : Table) → b ≡ true → P' ≡ ended pins P row → P' ≡ released P p row
+module _ (T : Tables) (p : Place) (row : ℕ) (b : Bool) (e : b ≡ is_buffer_place p) where
+  pub buffer_ended : (T' : Tables) → b ≡ true → T' ≡ with_pins T (ended pins T.pins row) → T' ≡ with_pins T (released T.pins p row)
   unfolding released
-  buffer_ended P' h q = chosen (is_buffer_place p) (ended pins P row) P (sym e ∙ h) q
+  buffer_ended T' h q = q ∙ ap (with_pins T) (chosen (is_buffer_place p) (ended pins T.pins row) T.pins (sym e ∙ h) refl)
 
-  pub no_buffer_ended : b ≡ false → P ≡ released P p row
+  pub no_buffer_ended : b ≡ false → T ≡ with_pins T (released T.pins p row)
   unfolding released
-  no_buffer_ended h = passed_over (is_buffer_place p) (ended pins P row) P (sym e ∙ h) refl
+  no_buffer_ended h = ap (with_pins T) (passed_over (is_buffer_place p) (ended pins T.pins row) T.pins (sym e ∙ h) refl)
 
 -- ---- the book
 
@@ -102,10 +95,16 @@ one_of_two true true top T D E h = absurd (false≢true (sym (h refl)))
 one_of_two true false top T D E h = refl
 one_of_two false pop top T D E h = refl
 
-pub tables_called : (rs ms ps ns b cs rs' ms' ps' ns' b' : List ℕ) (t f a x : ℕ) (p : Place) (y : ℕ) → table rs' ms' ≡ called_references (table rs ms) b t f a x
-    → table ps' ns' ≡ released (table ps ns) p y → b' ≡ called_book b t f → tables rs' ms' ps' ns' b' cs ≡ called (tables rs ms ps ns b cs) t f a x p y
-unfolding called
-tables_called rs ms ps ns b cs rs' ms' ps' ns' b' t f a x p y er ep eb i = record { references = er i; pins = ep i; book = eb i; classes = cs }
+-- one step after another
+pub tables_called : (T T1 T2 T3 : Tables) (b : List ℕ) (t f a x : ℕ) (p : Place) (y : ℕ) → T1 ≡ with_references T (deleted T.references f a x)
+    → T2 ≡ with_references T1 (top_ended T1.references T1.book t f) → T3 ≡ with_pins T2 (released T2.pins p y) → b ≡ called_book T3.book t f → with_book T3 b ≡ called T t f a x p y
+unfolding called called_references
+tables_called T T1 T2 T3 b t f a x p y e1 e2 e3 eb =
+    ap (with_book T3) eb
+    ∙ ap (λ (X : Tables). with_book X (called_book X.book t f))
+    (e3
+    ∙ ap (λ (X : Tables). with_pins X (released X.pins p y))
+    (e2 ∙ ap (λ (X : Tables). with_references X (top_ended X.references X.book t f)) e1))
 
 if_same : {A : Type 0} (d : Bool) (x y z : A) → (d ≡ true → x ≡ y) → (if_true d then x else z) ≡ (if_true d then y else z)
 if_same true x y z h = h refl

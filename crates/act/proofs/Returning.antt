@@ -18,7 +18,7 @@ use Rattle.facts.specs.declared.Result.{Result}
 use Rattle.facts.specs.Results.{is_buffer_result, is_handle_result, is_local_result}
 use Rattle.lines.specs.Line.{R, is_zero, above_zero}
 use Rattle.lines.specs.Events.{is_status, gives_status, result_in_line}
-use Rattle.rows.specs.Table.{Table, table, free_row, stored, taken}
+use Rattle.rows.specs.Table.{Table, free_row, stored, taken}
 use Rattle.rows.specs.References.{references}
 use Rattle.rows.specs.Pins.{pins}
 use Rattle.rows.specs.declared.references.Reference.{Reference}
@@ -27,8 +27,9 @@ use Rattle.history.specs.Buffers.{ordinary, critical, pin, gets}
 use Rattle.history.specs.Acceptance.{made_by}
 use Rattle.book.specs.Threads.{thread_in}
 use Rattle.book.specs.Moves.{capacity_raised, pending_set, line_counted}
-use Rattle.tables.specs.Tables.{Tables, tables, reference_of, pin_row_of, seen_in}
+use Rattle.tables.specs.Tables.{Tables, reference_of, pin_row_of, seen_in}
 use Rattle.tables.specs.Acting.{all_taken, pin_owner, status_acted, references_after, pins_after, book_after, classes_after, acted}
+use Rattle.tables.specs.Lent.{with_references, with_pins, with_book}
 use Rattle.act.specs.Returns.{result_row, made, got, held, status_taken, returned_book, returned}
 use Rattle.act.proofs.Choosing.{chosen, passed_over}
 
@@ -47,30 +48,30 @@ module _ (line : ℕ) (k : Result) (t d h c : ℕ) (y : Bool) (e : y ≡ is_loca
 not_null : (x y : Bool) (h : ℕ) (b : Bool) → x ≡ y → (x && not (eqb h 0)) ≡ b → (y && not (eqb h 0)) ≡ b
 not_null x y h b e q = sym (ap (λ (z : Bool). z && not (eqb h 0)) e) ∙ q
 
-module _ (T : Table) (line : ℕ) (k : Result) (t d f h row : ℕ) (y : Bool) (e : y ≡ is_handle_result k) where
-  pub handle_stored : (T' : Table) (x : Reference) (c : ℕ) → (y && not (eqb h 0)) ≡ true → c ≡ class_made f → x ≡ result_row line k t d h c → T' ≡ stored references T row x
-      → T' ≡ made T line k t d f h row
+module _ (T : Tables) (line : ℕ) (k : Result) (t d f h row : ℕ) (y : Bool) (e : y ≡ is_handle_result k) where
+  pub handle_stored : (T' : Tables) (x : Reference) (c : ℕ) → (y && not (eqb h 0)) ≡ true → c ≡ class_made f → x ≡ result_row line k t d h c
+      → T' ≡ with_references T (stored references T.references row x) → T' ≡ with_references T (made T.references line k t d f h row)
   unfolding made
   handle_stored T' x c q ec ex s =
-      rw (not_null y (is_handle_result k) h true e q) (s ∙ ap (stored references T row) (ex ∙ ap (result_row line k t d h) ec))
+      rw (not_null y (is_handle_result k) h true e q) (s ∙ ap (λ (z : Reference). with_references T (stored references T.references row z)) (ex ∙ ap (result_row line k t d h) ec))
 
-  pub no_handle_stored : (y && not (eqb h 0)) ≡ false → T ≡ made T line k t d f h row
+  pub no_handle_stored : (y && not (eqb h 0)) ≡ false → T ≡ with_references T (made T.references line k t d f h row)
   unfolding made
   no_handle_stored q = rw (not_null y (is_handle_result k) h false e q) refl
 
 -- ---- a buffer
 
-module _ (P : Table) (line : ℕ) (k : Result) (t f h row : ℕ) (y : Bool) (e : y ≡ is_buffer_result k) where
-  pub buffer_stored : (P' : Table) (j o : ℕ) → (y && not (eqb h 0)) ≡ true → j ≡ family f → o ≡ (if_true is_critical j then t else 0)
-      → P' ≡ stored pins P row (record { thread = o; family = j; buffer = h; line = line }) → P' ≡ got P line k t f h row
+module _ (T : Tables) (line : ℕ) (k : Result) (t f h row : ℕ) (y : Bool) (e : y ≡ is_buffer_result k) where
+  pub buffer_stored : (T' : Tables) (j o : ℕ) → (y && not (eqb h 0)) ≡ true → j ≡ family f → o ≡ (if_true is_critical j then t else 0)
+      → T' ≡ with_pins T (stored pins T.pins row (record { thread = o; family = j; buffer = h; line = line })) → T' ≡ with_pins T (got T.pins line k t f h row)
   unfolding got
-  buffer_stored P' j o q ej eo es =
+  buffer_stored T' j o q ej eo es =
       rw (not_null y (is_buffer_result k) h true e q)
       (es
-      ∙ ap (λ (s : ℕ). stored pins P row (record { thread = s; family = j; buffer = h; line = line })) eo
-      ∙ ap (λ (i : ℕ). stored pins P row (record { thread = if_true is_critical i then t else 0; family = i; buffer = h; line = line })) ej)
+      ∙ ap (λ (s : ℕ). with_pins T (stored pins T.pins row (record { thread = s; family = j; buffer = h; line = line }))) eo
+      ∙ ap (λ (i : ℕ). with_pins T (stored pins T.pins row (record { thread = if_true is_critical i then t else 0; family = i; buffer = h; line = line }))) ej)
 
-  pub no_buffer_stored : (y && not (eqb h 0)) ≡ false → P ≡ got P line k t f h row
+  pub no_buffer_stored : (y && not (eqb h 0)) ≡ false → T ≡ with_pins T (got T.pins line k t f h row)
   unfolding got
   no_buffer_stored q = rw (not_null y (is_buffer_result k) h false e q) refl
 
@@ -81,8 +82,9 @@ status_idle : (b : List ℕ) (t f held n : ℕ) → (f ≡ PushLocalFrame → �
 status_idle b t f held n h1 h2 h3 h4 =
     rw (ne_eqb f PushLocalFrame h1, ne_eqb f EnsureLocalCapacity h2, ne_eqb f MonitorEnter h3, ne_eqb f MonitorExit h4) refl
 
-pub capacity_held : (T : Table) (b b' : List ℕ) (t k n : ℕ) → k ≡ held T b t → b' ≡ capacity_raised b t (k + n) → b' ≡ capacity_raised b t (held T b t + n)
-capacity_held T b b' t k n e q = q ∙ ap (λ (j : ℕ). capacity_raised b t (j + n)) e
+pub capacity_held : (T : Tables) (b : List ℕ) (t k n : ℕ) → k ≡ held T.references T.book t → b ≡ capacity_raised T.book t (k + n)
+    → with_book T b ≡ with_book T (capacity_raised T.book t (held T.references T.book t + n))
+capacity_held T b t k n e q = ap (with_book T) (q ∙ ap (λ (j : ℕ). capacity_raised T.book t (j + n)) e)
 
 -- the test of a status is one of its bits
 pub zero_status : (s : ℤ) → SFits w32 s → of_z w32 s ≡ 0 → is_zero s ≡ true
@@ -92,35 +94,40 @@ pub other_status : (s : ℤ) → (of_z w32 s ≡ 0 → ⊥) → is_zero s ≡ fa
 other_status (pos n) h = ne_eqb n 0 (λ e. h (ap (λ (k : ℕ). of_z w32 (pos k)) e))
 other_status (negsuc n) h = refl
 
-module _ (T : Table) (b : List ℕ) (t f n : ℕ) (s : ℤ) where
-  pub status_acts : (b' : List ℕ) → SFits w32 s → of_z w32 s ≡ 0 → b' ≡ status_acted b t f (held T b t) n → b' ≡ status_taken T b t f s n
-  unfolding status_taken
-  status_acts b' k h e = chosen (is_zero s) (status_acted b t f (held T b t) n) b (zero_status s k h) e
+module _ (T : Tables) (t f n : ℕ) (s : ℤ) where
+  abbrev acts : List ℕ
+  acts = status_acted T.book t f (held T.references T.book t) n
 
-  pub status_rests : (of_z w32 s ≡ 0 → ⊥) → b ≡ status_taken T b t f s n
+  pub status_acts : (S : Tables) → SFits w32 s → of_z w32 s ≡ 0 → S ≡ with_book T (status_acted T.book t f (held T.references T.book t) n)
+      → S ≡ with_book T (status_taken T.references T.book t f s n)
   unfolding status_taken
-  status_rests h = passed_over (is_zero s) (status_acted b t f (held T b t) n) b (other_status s h) refl
+  status_acts S k h e = e ∙ ap (with_book T) (chosen (is_zero s) acts T.book (zero_status s k h) refl)
+
+  pub status_rests : (of_z w32 s ≡ 0 → ⊥) → T ≡ with_book T (status_taken T.references T.book t f s n)
+  unfolding status_taken
+  status_rests h = ap (with_book T) (passed_over (is_zero s) acts T.book (other_status s h) refl)
 
   -- passed on, a status is read from its bits
-  pub book_returned : (b1 b2 b3 : List ℕ) (p : ℕ) (z : ℤ) → z ≡ s → b1 ≡ status_taken T b t f z n → b2 ≡ pending_set b1 t p → b3 ≡ line_counted b2 → b3 ≡ returned_book T b t f s p n
+  pub book_returned : (S : Tables) (b1 b2 : List ℕ) (p : ℕ) (z : ℤ) → z ≡ s → S ≡ with_book T (status_taken T.references T.book t f z n) → b1 ≡ pending_set S.book t p → b2 ≡ line_counted b1
+      → with_book S b2 ≡ with_book T (returned_book T.references T.book t f s p n)
   unfolding returned_book
-  book_returned b1 b2 b3 p z ez e1 e2 e3 =
-      e3
-      ∙ ap line_counted (e2 ∙ ap (λ (x : List ℕ). pending_set x t p) (e1 ∙ ap (λ (y : ℤ). status_taken T b t f y n) ez))
+  book_returned S b1 b2 p z ez e e1 e2 =
+      ap (with_book S) (e2 ∙ ap line_counted e1)
+      ∙ ap (λ (X : Tables). with_book X (line_counted (pending_set X.book t p))) (e ∙ ap (λ (y : ℤ). with_book T (status_taken T.references T.book t f y n)) ez)
 
 -- ---- the tables
 
-pub all_returned : (rs ms ps ns b cs rs' ms' ps' ns' b' : List ℕ) (line : ℕ) (k : Result) (row t f h p n d : ℕ) (s z : ℤ) → d ≡ length (thread_in b t).frames
-    → z ≡ s → b' ≡ returned_book (table rs ms) b t f z p n → table rs' ms' ≡ made (table rs ms) line k t d f h row → table ps' ns' ≡ got (table ps ns) line k t f h row
-    → tables rs' ms' ps' ns' b' cs ≡ returned (tables rs ms ps ns b cs) line k row t f h s p n
+-- one step after another
+pub all_returned : (T T1 T2 T3 : Tables) (line : ℕ) (k : Result) (row t f h p n d : ℕ) (s z : ℤ) → d ≡ length (thread_in T.book t).frames → z ≡ s
+    → T1 ≡ with_book T (returned_book T.references T.book t f z p n) → T2 ≡ with_references T1 (made T1.references line k t d f h row) → T3 ≡ with_pins T2 (got T2.pins line k t f h row)
+    → T3 ≡ returned T line k row t f h s p n
 unfolding returned
-all_returned rs ms ps ns b cs rs' ms' ps' ns' b' line k row t f h p n d s z ed ez eb er ep =
-    let rows : table rs' ms' ≡ made (table rs ms) line k t (length (thread_in b t).frames) f h row =
-    er ∙ ap (λ (j : ℕ). made (table rs ms) line k t j f h row) ed
-    in
-    let book : b' ≡ returned_book (table rs ms) b t f s p n = eb ∙ ap (λ (y : ℤ). returned_book (table rs ms) b t f y p n) ez
-    in
-    λ i. record { references = rows i; pins = ep i; book = book i; classes = cs }
+all_returned T T1 T2 T3 line k row t f h p n d s z ed ez e1 e2 e3 =
+    e3
+    ∙ ap (λ (X : Tables). with_pins X (got X.pins line k t f h row))
+    (e2
+    ∙ ap (λ (X : Tables). with_references X (made X.references line k t d f h row)) (e1 ∙ ap (λ (y : ℤ). with_book T (returned_book T.references T.book t f y p n)) ez)
+    ∙ ap (λ (j : ℕ). with_references (with_book T (returned_book T.references T.book t f s p n)) (made T.references line k t j f h row)) ed)
 
 -- ---- it is what an accepted R leaves
 

@@ -6,7 +6,7 @@ use mathlib.Core.List.{List, [], map}
 use native.Mathlib.Numerals.{add-one}
 use borrow.Author.Tests.{eq-eqb, ne_eqb}
 use lib.ListN.{length}
-use Rattle.rows.specs.Table.{table, ended_all}
+use Rattle.rows.specs.Table.{ended_all}
 use Rattle.rows.specs.References.{references, from_frame}
 use Rattle.facts.specs.Classes.{no_class}
 use Rattle.lines.specs.Line.{N, X, A, D, Z, K, states}
@@ -18,7 +18,8 @@ use Rattle.history.specs.Acceptance.{made_by}
 use Rattle.classes.specs.Supers.{with_super}
 use Rattle.book.specs.Threads.{thread_in}
 use Rattle.book.specs.Moves.{frame_pushed, native_left, frames_ended, env_set, pending_set, monitors_dropped, line_counted, closed_set}
-use Rattle.tables.specs.Tables.{Tables, tables, reference_of, seen_in}
+use Rattle.tables.specs.Tables.{Tables, reference_of, seen_in}
+use Rattle.tables.specs.Lent.{with_references, with_book}
 use Rattle.tables.specs.Acting.{all_taken, references_after, pins_after, book_after, classes_after, acted, env_kept}
 use Rattle.act.specs.Rows.{locals}
 use Rattle.act.specs.Books.{entered_book, left_book, detached_book}
@@ -50,43 +51,40 @@ book_detached b b1 b2 b3 t e1 e2 e3 = e3 ∙ ap line_counted (e2 ∙ ap (λ (x :
 
 -- ---- the tables
 
-module _ (rs ms ps ns b cs rs' ms' b' : List ℕ) (line n : ℕ) where
-  pub entered : (t env d : ℕ) (hs : List ℕ) → d ≡ length (thread_in b t).frames → table rs' ms' ≡ all_taken references (table rs ms) (locals line t (d + 1) hs)
-      → b' ≡ entered_book b t env hs → tables rs' ms' ps ns b' cs ≡ acted line (N t env hs) n (tables rs ms ps ns b cs)
+module _ (T S : Tables) (b : List ℕ) (line n : ℕ) where
+  pub entered : (t env d : ℕ) (hs : List ℕ) → d ≡ length (thread_in T.book t).frames → S ≡ with_references T (all_taken references T.references (locals line t (d + 1) hs))
+      → b ≡ entered_book S.book t env hs → with_book S b ≡ acted line (N t env hs) n T
   unfolding acted references_after pins_after book_after classes_after made_by makes gets all_taken seen_in entered_book
   entered t env d hs ed er eb =
-      let rows : table rs' ms' ≡ all_taken references (table rs ms) (map (reference_of line no_class) (map (local t (suc (length (thread_in b t).frames))) hs)) =
-      er
-      ∙ ap (λ (k : ℕ). all_taken references (table rs ms) (locals line t k hs)) (add-one d ∙ ap suc ed)
-      ∙ ap (all_taken references (table rs ms)) (rows_of_locals line t (suc (length (thread_in b t).frames)) hs)
+      let rows : all_taken references T.references (locals line t (d + 1) hs)
+      ≡ all_taken references T.references (map (reference_of line no_class) (map (local t (suc (length (thread_in T.book t).frames))) hs)) =
+      ap (λ (k : ℕ). all_taken references T.references (locals line t k hs)) (add-one d ∙ ap suc ed)
+      ∙ ap (all_taken references T.references) (rows_of_locals line t (suc (length (thread_in T.book t).frames)) hs)
       in
-      λ i. record { references = rows i; pins = table ps ns; book = eb i; classes = cs }
+      ap (with_book S) eb ∙ ap (λ (X : Tables). with_book X (entered_book X.book t env hs)) (er ∙ ap (with_references T) rows)
 
-  pub left : (t r d : ℕ) → d ≡ length (without_native (thread_in b t).frames) → table rs' ms' ≡ ended_all references (from_frame t (d + 1)) (table rs ms)
-      → b' ≡ left_book b t → tables rs' ms' ps ns b' cs ≡ acted line (X t r) n (tables rs ms ps ns b cs)
+  pub left : (t r d : ℕ) → d ≡ length (without_native (thread_in T.book t).frames) → S ≡ with_references T (ended_all references (from_frame t (d + 1)) T.references)
+      → b ≡ left_book S.book t → with_book S b ≡ acted line (X t r) n T
   unfolding acted references_after pins_after book_after classes_after gets all_taken left_book
   left t r d ed er eb =
-      let rows : table rs' ms' ≡ ended_all references (from_frame t (suc (length (without_native (thread_in b t).frames)))) (table rs ms) =
-      er ∙ ap (λ (k : ℕ). ended_all references (from_frame t k) (table rs ms)) (add-one d ∙ ap suc ed)
-      in
-      λ i. record { references = rows i; pins = table ps ns; book = eb i; classes = cs }
+      ap (with_book S) eb
+      ∙ ap (λ (Y : Tables). with_book Y (left_book Y.book t))
+      (er ∙ ap (λ (k : ℕ). with_references T (ended_all references (from_frame t k) T.references)) (add-one d ∙ ap suc ed))
 
-  pub detached : (t : ℕ) → table rs' ms' ≡ ended_all references (from_frame t 1) (table rs ms) → b' ≡ detached_book b t
-      → tables rs' ms' ps ns b' cs ≡ acted line (D t) n (tables rs ms ps ns b cs)
+  pub detached : (t : ℕ) → S ≡ with_references T (ended_all references (from_frame t 1) T.references) → b ≡ detached_book S.book t → with_book S b ≡ acted line (D t) n T
   unfolding acted references_after pins_after book_after classes_after gets all_taken detached_book
-  detached t er eb i = record { references = er i; pins = table ps ns; book = eb i; classes = cs }
+  detached t er eb = ap (with_book S) eb ∙ ap (λ (X : Tables). with_book X (detached_book X.book t)) er
 
 -- A does what N does with no handles
 pub attached : (line n t env : ℕ) (T : Tables) → acted line (N t env []) n T ≡ acted line (A t env) n T
 unfolding acted references_after pins_after book_after classes_after made_by makes gets
 attached line n t env T = refl
 
-pub closed : (rs ms ps ns b cs b1 b2 : List ℕ) (line n : ℕ) → b1 ≡ closed_set b → b2 ≡ line_counted b1 → tables rs ms ps ns b2 cs ≡ acted line Z n (tables rs ms ps ns b cs)
+pub closed : (T : Tables) (b1 b2 : List ℕ) (line n : ℕ) → b1 ≡ closed_set T.book → b2 ≡ line_counted b1 → with_book T b2 ≡ acted line Z n T
 unfolding acted references_after pins_after book_after classes_after made_by makes gets all_taken
-closed rs ms ps ns b cs b1 b2 line n e1 e2 i =
-    record { references = table rs ms; pins = table ps ns; book = (e2 ∙ ap line_counted e1) i; classes = cs }
+closed T b1 b2 line n e1 e2 = ap (with_book T) (e2 ∙ ap line_counted e1)
 
-pub declared : (rs ms ps ns b cs b' cs' : List ℕ) (line n c s : ℕ) → cs' ≡ with_super cs c s → b' ≡ line_counted b
-    → tables rs ms ps ns b' cs' ≡ acted line (states (K c s)) n (tables rs ms ps ns b cs)
+pub declared : (T : Tables) (b cs : List ℕ) (line n c s : ℕ) → cs ≡ with_super T.classes c s → b ≡ line_counted T.book
+    → record { references = T.references; pins = T.pins; book = b; classes = cs } ≡ acted line (states (K c s)) n T
 unfolding acted references_after pins_after book_after classes_after made_by makes gets all_taken
-declared rs ms ps ns b cs b' cs' line n c s ec eb i = record { references = table rs ms; pins = table ps ns; book = eb i; classes = ec i }
+declared T b cs line n c s ec eb i = record { references = T.references; pins = T.pins; book = eb i; classes = ec i }

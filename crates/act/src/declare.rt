@@ -1,14 +1,16 @@
 // K declares a class.
-ghost use Rattle.std.specs.Prelude.{◌≡◌, List, ℕ};
+ghost use Rattle.std.specs.Prelude.{◌≡◌, ℕ};
 ghost use Rattle.lines.specs.Line.{K, states};
-ghost use Rattle.tables.specs.Tables.{tables};
 ghost use Rattle.tables.specs.Acting.{acted};
+ghost use Rattle.tables.specs.Lent.{tables_of, Same, Led};
 
-use rows::Number;
+use tables::Lent;
 
-pub fn declare(book: &mut [u64], classes: &mut [Number], c: u32, superclass: u32)
-    ensures { (rs ms ps ns : List ℕ) (line n : ℕ) → tables rs ms ps ns book.new classes.new ≡ acted line (states (K c superclass)) n (tables rs ms ps ns book.old classes.old) }
+pub fn declare(lent: &mut Lent, c: u32, superclass: u32)
+    ensures left { (line n : ℕ) → tables_of lent.new ≡ acted line (states (K c superclass)) n (tables_of lent.old) }
+    ensures same { Same lent.new lent.old }
+    ensures led { Led lent.old → Led lent.new }
 {
-    classes::declare(classes, c, superclass);
-    book::count_line(book);
+    classes::declare(lent.classes, c, superclass);
+    book::count_line(lent.book);
 }

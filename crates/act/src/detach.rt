@@ -1,11 +1,12 @@
 // D ends all locals and frames of its thread, and drops its monitors.
-ghost use Rattle.std.specs.Prelude.{◌≡◌, List, ℕ};
+ghost use Rattle.std.specs.Prelude.{◌≡◌, ℕ};
 ghost use Rattle.lines.specs.Line.{D};
-ghost use Rattle.tables.specs.Tables.{tables};
 ghost use Rattle.tables.specs.Acting.{acted};
+ghost use Rattle.tables.specs.Lent.{tables_of, Same, Led};
 ghost use Rattle.act.specs.Books.{detached_book};
 
 use rows::Number;
+use tables::{Lent, kept};
 
 // What D does to the book, all but the open items.
 pub fn write_book(book: &mut [u64], t: u32)
@@ -16,9 +17,11 @@ pub fn write_book(book: &mut [u64], t: u32)
     book::count_line(book);
 }
 
-pub fn detach(rows: &mut [Number], marks: &mut [u64], book: &mut [u64], t: u32)
-    ensures { (ps ns cs : List ℕ) (line n : ℕ) → tables rows.new marks.new ps ns book.new cs ≡ acted line (D t) n (tables rows.old marks.old ps ns book.old cs) }
+pub fn detach(lent: &mut Lent, t: u32)
+    ensures left { Led lent.old → (line n : ℕ) → tables_of lent.new ≡ acted line (D t) n (tables_of lent.old) }
+    ensures same { Same lent.new lent.old }
+    ensures led { Led lent.old → Led lent.new }
 {
-    rows::references::end_frames(rows, marks, t as Number, 1);
-    write_book(book, t);
+    kept::end_frames(lent, t as Number, 1);
+    write_book(lent.book, t);
 }

@@ -1,29 +1,31 @@
 // N opens a frame, makes its handles as locals in it, and clears pending.
-ghost use Rattle.std.specs.Prelude.{◌≡◌, false, List, ℕ};
-ghost use Rattle.rows.specs.Table.{table};
+ghost use Rattle.std.specs.Prelude.{◌≡◌, false, ℕ};
 ghost use Rattle.rows.specs.References.{references};
 ghost use Rattle.lines.specs.Line.{N};
-ghost use Rattle.tables.specs.Tables.{tables};
 ghost use Rattle.tables.specs.Acting.{all_taken, env_kept, acted};
+ghost use Rattle.tables.specs.Lent.{tables_of, Same, Led, with_references};
 ghost use Rattle.act.specs.Rows.{locals};
 ghost use Rattle.act.specs.Books.{entered_book};
 
+use crate::frames::frames_of;
 use facts::classes::NO_CLASS;
 use rows::Number;
 use rows::references::Reference;
+use tables::{Lent, kept};
 use words::Handle;
 
 // The room for new locals in a native's frame; its handles come on top.
 const NEW_LOCALS: u64 = 16;
 
 // A row for each handle, in their order; no class is stated of them.
-fn take_all(rows: &mut [Number], marks: &mut [u64], line: u32, t: u32, d: u32, hs: &[Handle])
-    ensures { table rows.new marks.new ≡ all_taken references (table rows.old marks.old) (locals line t d hs.now) }
+fn take_all(lent: &mut Lent, line: u32, t: u32, d: u32, hs: &[Handle])
+    ensures left { Led lent.old → tables_of lent.new ≡ with_references (tables_of lent.old) (all_taken references (tables_of lent.old).references (locals line t d hs.now)) }
+    ensures same { Same lent.new lent.old }
+    ensures led { Led lent.old → Led lent.new }
 {
     for h in hs {
-        rows::references::take(
-            rows,
-            marks,
+        kept::take(
+            lent,
             Reference {
                 thread: t as Number,
                 handle: *h,
@@ -55,18 +57,12 @@ pub fn write_book(book: &mut [u64], t: u32, env: Handle, hs: &[Handle])
 }
 
 // Line number `line`.
-pub fn enter(
-    rows: &mut [Number],
-    marks: &mut [u64],
-    book: &mut [u64],
-    line: u32,
-    t: u32,
-    env: Handle,
-    hs: &[Handle],
-)
-    ensures { (ps ns cs : List ℕ) (n : ℕ) → tables rows.new marks.new ps ns book.new cs ≡ acted line (N t env hs.now) n (tables rows.old marks.old ps ns book.old cs) }
+pub fn enter(lent: &mut Lent, line: u32, t: u32, env: Handle, hs: &[Handle])
+    ensures left { Led lent.old → (n : ℕ) → tables_of lent.new ≡ acted line (N t env hs.now) n (tables_of lent.old) }
+    ensures same { Same lent.new lent.old }
+    ensures led { Led lent.old → Led lent.new }
 {
-    let d = book::frames_of(book, t);
-    take_all(rows, marks, line, t, d + 1, hs);
-    write_book(book, t, env, hs);
+    let d = frames_of(lent, t);
+    take_all(lent, line, t, d + 1, hs);
+    write_book(lent.book, t, env, hs);
 }

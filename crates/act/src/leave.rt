@@ -1,11 +1,15 @@
 // X ends all locals and frames of its native, pushed frames included.
-ghost use Rattle.std.specs.Prelude.{◌≡◌, List, ℕ};
+ghost use Rattle.std.specs.Prelude.{◌≡◌, ◌≤◌, ℕ, length};
 ghost use Rattle.lines.specs.Line.{X};
-ghost use Rattle.tables.specs.Tables.{tables};
+ghost use Rattle.history.specs.Frames.{without_native};
+ghost use Rattle.history.specs.Acceptance.{deepest};
+ghost use Rattle.book.specs.Threads.{thread_in};
 ghost use Rattle.tables.specs.Acting.{acted};
+ghost use Rattle.tables.specs.Lent.{tables_of, Same, Led};
 ghost use Rattle.act.specs.Books.{left_book};
 
 use rows::Number;
+use tables::{Lent, kept};
 
 // What X does to the book, all but the open items.
 pub fn write_book(book: &mut [u64], t: u32)
@@ -15,10 +19,18 @@ pub fn write_book(book: &mut [u64], t: u32)
     book::count_line(book);
 }
 
-pub fn leave(rows: &mut [Number], marks: &mut [u64], book: &mut [u64], t: u32)
-    ensures { (ps ns cs : List ℕ) (line n r : ℕ) → tables rows.new marks.new ps ns book.new cs ≡ acted line (X t r) n (tables rows.old marks.old ps ns book.old cs) }
+fn frames_left(lent: &Lent, t: u32) -> u32
+    ensures { (result ≡ length (without_native (thread_in lent.now.book.now t).frames)) × (result ≤ deepest) }
 {
-    let d = book::frames_left(book, t);
-    rows::references::end_frames(rows, marks, t as Number, (d + 1) as Number);
-    write_book(book, t);
+    book::frames_left(lent.book, t)
+}
+
+pub fn leave(lent: &mut Lent, t: u32)
+    ensures left { Led lent.old → (line n r : ℕ) → tables_of lent.new ≡ acted line (X t r) n (tables_of lent.old) }
+    ensures same { Same lent.new lent.old }
+    ensures led { Led lent.old → Led lent.new }
+{
+    let d = frames_left(lent, t);
+    kept::end_frames(lent, t as Number, (d + 1) as Number);
+    write_book(lent.book, t);
 }

@@ -6,6 +6,7 @@ pub mod declare;
 pub mod detach;
 pub mod end;
 pub mod enter;
+mod frames;
 pub mod identify;
 pub mod leave;
 pub mod owner;

@@ -1,14 +1,17 @@
 // O states the class of a handle, whose row is told.
-ghost use Rattle.std.specs.Prelude.{◌≡◌, List, ℕ};
-ghost use Rattle.tables.specs.Tables.{tables};
+ghost use Rattle.std.specs.Prelude.{◌≡◌};
+ghost use Rattle.tables.specs.Lent.{tables_of, Same, Led};
 ghost use Rattle.act.specs.Statements.{stated};
 
 use rows::Number;
+use tables::{Lent, kept};
 
 // The handle stands in row `row`: the caller looked it up.
-pub fn state(rows: &mut [Number], marks: &[u64], book: &mut [u64], row: usize, class: u32)
-    ensures { (ps ns cs : List ℕ) → tables rows.new marks.now ps ns book.new cs ≡ stated (tables rows.old marks.now ps ns book.old cs) row class }
+pub fn state(lent: &mut Lent, row: usize, class: u32)
+    ensures left { tables_of lent.new ≡ stated (tables_of lent.old) row class }
+    ensures same { Same lent.new lent.old }
+    ensures led { Led lent.old → Led lent.new }
 {
-    rows::references::state(rows, marks, row, class as Number);
-    book::count_line(book);
+    kept::state(lent, row, class as Number);
+    book::count_line(lent.book);
 }

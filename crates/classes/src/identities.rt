@@ -40,6 +40,7 @@ fn first(table: &[Number], x: Handle, from: usize, to: usize) -> Option<usize>
 }
 
 // Where identity x stands, or can be put: looked for from its own place to the last, then from the first; the room where it is nowhere and no place is free.
+// The room and no Option: specs/Identities.antt has it so.
 pub fn place_of(table: &[Number], x: Handle) -> usize
     ensures { result ≡ place_of table.now x }
 {

@@ -1,3 +1,4 @@
 pub mod Signs
 pub mod Outcomes
 pub mod Following
+pub mod Making

@@ -1,34 +1,28 @@
 // A: weighed; where it is accepted, what it does, which is what N does with no handles.
-ghost use Rattle.std.specs.Prelude.{◌≡◌, List, ℕ};
+ghost use Rattle.std.specs.Prelude.{◌≡◌};
 ghost use Rattle.lines.specs.Line.{A as line_A};
 ghost use Rattle.book.specs.Threads.{top_is};
-ghost use Rattle.tables.specs.Tables.{tables};
+ghost use Rattle.tables.specs.Lent.{tables_of, Same, Led};
 ghost use Rattle.events.specs.Outcome.{leaves, line_outcome};
 
+use crate::is_closed;
 use answers::{Answer, Findings};
 use book::Top;
 use lines::refusal::Refusal;
-use rows::Number;
+use tables::Lent;
 use words::Handle;
 
 // Line number `line`; `top` is on top of the thread's `many` open items.
-pub fn attach(
-    rows: &mut [Number],
-    marks: &mut [u64],
-    book: &mut [u64],
-    top: Top,
-    many: u32,
-    line: u32,
-    t: u32,
-    env: Handle,
-) -> Answer
-    ensures { (ps ns cs : List ℕ) → leaves result (tables rows.new marks.new ps ns book.new cs) ≡ line_outcome line (line_A t env) (top_is top) many (tables rows.old marks.old ps ns book.old cs) }
+pub fn attach(lent: &mut Lent, top: Top, many: u32, line: u32, t: u32, env: Handle) -> Answer
+    ensures outcome { Led lent.old → leaves result (tables_of lent.new) ≡ line_outcome line (line_A t env) (top_is top) many (tables_of lent.old) }
+    ensures same { Same lent.new lent.old }
+    ensures led { Led lent.old → Led lent.new }
 {
-    if !weigh::attach::in_turn(book::is_closed(book), top) {
+    if !weigh::attach::in_turn(is_closed(lent), top) {
         return Err(Refusal::OutOfStep);
     }
-    let seen = sight::enter::enter(rows, marks, &[], book, t, env, &[]);
+    let seen = sight::enter::enter(lent, t, env, &[]);
     weigh::enter::allows(seen, many, env, &[])?;
-    act::enter::enter(rows, marks, book, line, t, env, &[]);
+    act::enter::enter(lent, line, t, env, &[]);
     Ok(Findings::none())
 }

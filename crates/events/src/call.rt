@@ -2,22 +2,18 @@
 ghost use Rattle.std.specs.Prelude.{◌≡◌, ℤ};
 ghost use Rattle.lines.specs.Line.{C};
 ghost use Rattle.book.specs.Threads.{top_is};
-ghost use Rattle.tables.specs.Tables.{tables};
+ghost use Rattle.tables.specs.Lent.{tables_of, Same, Led};
 ghost use Rattle.events.specs.Outcome.{leaves, line_outcome};
 
+use crate::is_closed;
 use answers::Answer;
 use book::Top;
-use rows::Number;
+use tables::Lent;
 use words::Handle;
 
 // Line number `line`; `top` is on top of the thread's `many` open items.
 pub fn call(
-    rows: &mut [Number],
-    marks: &mut [u64],
-    pins: &mut [Number],
-    pinmarks: &mut [u64],
-    book: &mut [u64],
-    classes: &[Number],
+    lent: &mut Lent,
     top: Top,
     many: u32,
     line: u32,
@@ -28,27 +24,15 @@ pub fn call(
     b: Handle,
     c: Handle,
 ) -> Answer
-    ensures { (n : ℤ) → leaves result (tables rows.new marks.new pins.new pinmarks.new book.new classes.now) ≡ line_outcome line (C t env f a b c n) (top_is top) many (tables rows.old marks.old pins.old pinmarks.old book.old classes.now) }
+    ensures outcome { Led lent.old → (n : ℤ) → leaves result (tables_of lent.new) ≡ line_outcome line (C t env f a b c n) (top_is top) many (tables_of lent.old) }
+    ensures same { Same lent.new lent.old }
+    ensures led { Led lent.old → Led lent.new }
 {
-    weigh::call::allows(book::is_closed(book), top, many)?;
-    let seen = sight::call::call(
-        rows,
-        marks,
-        &[],
-        pins,
-        pinmarks,
-        &[],
-        book,
-        classes,
-        t,
-        f,
-        a,
-        b,
-        c,
-    );
+    weigh::call::allows(is_closed(lent), top, many)?;
+    let seen = sight::call::call(lent, t, f, a, b, c);
     let x = seen.a;
     let y = seen.b;
     let p = seen.pb;
-    act::call::call(rows, marks, pins, pinmarks, book, t, f, a, x.row, p, y.row);
+    act::call::call(lent, t, f, a, x.row, p, y.row);
     Ok(weigh::call::findings(seen, line, env, f, a, b, c))
 }

@@ -1,29 +1,23 @@
 // D: weighed; where it is accepted, what it does.
-ghost use Rattle.std.specs.Prelude.{◌≡◌, List, ℕ};
+ghost use Rattle.std.specs.Prelude.{◌≡◌, ℕ};
 ghost use Rattle.lines.specs.Line.{D};
 ghost use Rattle.book.specs.Threads.{top_is};
-ghost use Rattle.tables.specs.Tables.{tables};
+ghost use Rattle.tables.specs.Lent.{tables_of, Same, Led};
 ghost use Rattle.events.specs.Outcome.{leaves, line_outcome};
 
+use crate::is_closed;
 use answers::Answer;
 use book::Top;
-use rows::Number;
+use tables::Lent;
 
 // Line number `line`; `top` is on top of the thread's open items.
-pub fn detach(
-    rows: &mut [Number],
-    marks: &mut [u64],
-    pins: &[Number],
-    pinmarks: &[u64],
-    book: &mut [u64],
-    top: Top,
-    line: u32,
-    t: u32,
-) -> Answer
-    ensures { (cs : List ℕ) (many : ℕ) → leaves result (tables rows.new marks.new pins.now pinmarks.now book.new cs) ≡ line_outcome line (D t) (top_is top) many (tables rows.old marks.old pins.now pinmarks.now book.old cs) }
+pub fn detach(lent: &mut Lent, top: Top, line: u32, t: u32) -> Answer
+    ensures outcome { Led lent.old → (many : ℕ) → leaves result (tables_of lent.new) ≡ line_outcome line (D t) (top_is top) many (tables_of lent.old) }
+    ensures same { Same lent.new lent.old }
+    ensures led { Led lent.old → Led lent.new }
 {
-    weigh::detach::allows(book::is_closed(book), top)?;
-    let seen = sight::detach::detach(pins, pinmarks, &[], book, t);
-    act::detach::detach(rows, marks, book, t);
+    weigh::detach::allows(is_closed(lent), top)?;
+    let seen = sight::detach::detach(lent, t);
+    act::detach::detach(lent, t);
     Ok(weigh::detach::findings(seen, line))
 }

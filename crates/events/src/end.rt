@@ -1,29 +1,25 @@
 // Z: weighed; where it is accepted, the trace is closed.
-ghost use Rattle.std.specs.Prelude.{◌≡◌, List, ℕ, Option};
+ghost use Rattle.std.specs.Prelude.{◌≡◌, ℕ, Option};
 ghost use Rattle.lines.specs.Line.{Z};
 ghost use Rattle.history.specs.Items.{Item};
-ghost use Rattle.tables.specs.Tables.{tables};
+ghost use Rattle.tables.specs.Lent.{tables_of, Same, Led};
 ghost use Rattle.events.specs.Outcome.{leaves, line_outcome};
 
+use crate::is_closed;
 use answers::Answer;
 use lines::refusal::Refusal;
-use rows::Number;
+use tables::Lent;
 
 // Line number `line`.
-pub fn end(
-    rows: &[Number],
-    marks: &[u64],
-    pins: &[Number],
-    pinmarks: &[u64],
-    book: &mut [u64],
-    line: u32,
-) -> Answer
-    ensures { (cs : List ℕ) (top : Option Item) (many : ℕ) → leaves result (tables rows.now marks.now pins.now pinmarks.now book.new cs) ≡ line_outcome line Z top many (tables rows.now marks.now pins.now pinmarks.now book.old cs) }
+pub fn end(lent: &mut Lent, line: u32) -> Answer
+    ensures outcome { (top : Option Item) (many : ℕ) → leaves result (tables_of lent.new) ≡ line_outcome line Z top many (tables_of lent.old) }
+    ensures same { Same lent.new lent.old }
+    ensures led { Led lent.old → Led lent.new }
 {
-    if book::is_closed(book) {
+    if is_closed(lent) {
         return Err(Refusal::OutOfStep);
     }
-    let seen = sight::end::end(rows, marks, pins, pinmarks, book);
-    act::end::end(book);
+    let seen = sight::end::end(lent);
+    act::end::end(lent);
     Ok(weigh::end::findings(seen, line))
 }

@@ -1,21 +1,20 @@
 // N: weighed; where it is accepted, what it does.
-ghost use Rattle.std.specs.Prelude.{◌≡◌, List, ℕ};
+ghost use Rattle.std.specs.Prelude.{◌≡◌};
 ghost use Rattle.lines.specs.Line.{N};
 ghost use Rattle.book.specs.Threads.{top_is};
-ghost use Rattle.tables.specs.Tables.{tables};
+ghost use Rattle.tables.specs.Lent.{tables_of, Same, Led};
 ghost use Rattle.events.specs.Outcome.{leaves, line_outcome};
 
+use crate::is_closed;
 use answers::{Answer, Findings};
 use book::Top;
 use lines::refusal::Refusal;
-use rows::Number;
+use tables::Lent;
 use words::Handle;
 
 // Line number `line`; `top` is on top of the thread's `many` open items.
 pub fn enter(
-    rows: &mut [Number],
-    marks: &mut [u64],
-    book: &mut [u64],
+    lent: &mut Lent,
     top: Top,
     many: u32,
     line: u32,
@@ -23,13 +22,15 @@ pub fn enter(
     env: Handle,
     hs: &[Handle],
 ) -> Answer
-    ensures { (ps ns cs : List ℕ) → leaves result (tables rows.new marks.new ps ns book.new cs) ≡ line_outcome line (N t env hs.now) (top_is top) many (tables rows.old marks.old ps ns book.old cs) }
+    ensures outcome { Led lent.old → leaves result (tables_of lent.new) ≡ line_outcome line (N t env hs.now) (top_is top) many (tables_of lent.old) }
+    ensures same { Same lent.new lent.old }
+    ensures led { Led lent.old → Led lent.new }
 {
-    if !weigh::enter::in_turn(book::is_closed(book), top) {
+    if !weigh::enter::in_turn(is_closed(lent), top) {
         return Err(Refusal::OutOfStep);
     }
-    let seen = sight::enter::enter(rows, marks, &[], book, t, env, hs);
+    let seen = sight::enter::enter(lent, t, env, hs);
     weigh::enter::allows(seen, many, env, hs)?;
-    act::enter::enter(rows, marks, book, line, t, env, hs);
+    act::enter::enter(lent, line, t, env, hs);
     Ok(Findings::none())
 }

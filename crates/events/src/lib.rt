@@ -11,3 +11,15 @@ pub mod identify;
 pub mod leave;
 pub mod returns;
 pub mod state;
+
+ghost use Rattle.std.specs.Prelude.{◌≡◌};
+ghost use Rattle.book.specs.Threads.{closed_in};
+
+use tables::Lent;
+
+// Read through `&Lent`: after a read of a field through `&mut Lent` a proof knows no more what it holds.
+fn is_closed(lent: &Lent) -> bool
+    ensures { result ≡ closed_in lent.now.book.now }
+{
+    book::is_closed(lent.book)
+}

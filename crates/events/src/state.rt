@@ -1,27 +1,22 @@
 // O: weighed; where it is accepted, the class of its handle is stated.
-ghost use Rattle.std.specs.Prelude.{◌≡◌, List, ℕ, Option};
+ghost use Rattle.std.specs.Prelude.{◌≡◌, ℕ, Option};
 ghost use Rattle.lines.specs.Line.{O, states};
 ghost use Rattle.history.specs.Items.{Item};
-ghost use Rattle.tables.specs.Tables.{tables};
+ghost use Rattle.tables.specs.Lent.{tables_of, Same, Led};
 ghost use Rattle.events.specs.Outcome.{leaves, line_outcome};
 
+use crate::is_closed;
 use answers::{Answer, Findings};
-use rows::Number;
+use tables::Lent;
 use words::Handle;
 
-pub fn state(
-    rows: &mut [Number],
-    marks: &[u64],
-    book: &mut [u64],
-    classes: &[Number],
-    t: u32,
-    h: Handle,
-    c: u32,
-) -> Answer
-    ensures { (ps ns : List ℕ) (line : ℕ) (top : Option Item) (many : ℕ) → leaves result (tables rows.new marks.now ps ns book.new classes.now) ≡ line_outcome line (states (O t h c)) top many (tables rows.old marks.now ps ns book.old classes.now) }
+pub fn state(lent: &mut Lent, t: u32, h: Handle, c: u32) -> Answer
+    ensures outcome { Led lent.old → (line : ℕ) (top : Option Item) (many : ℕ) → leaves result (tables_of lent.new) ≡ line_outcome line (states (O t h c)) top many (tables_of lent.old) }
+    ensures same { Same lent.new lent.old }
+    ensures led { Led lent.old → Led lent.new }
 {
-    let seen = sight::state::state(rows, marks, &[], classes, t, h, c);
-    weigh::state::allows(book::is_closed(book), seen)?;
-    act::state::state(rows, marks, book, seen.row, c);
+    let seen = sight::state::state(lent, t, h, c);
+    weigh::state::allows(is_closed(lent), seen)?;
+    act::state::state(lent, seen.row, c);
     Ok(Findings::none())
 }

@@ -5,6 +5,7 @@ use mathlib.Core.List.{List}
 use native.Mathlib.Decide.{dec_lt}
 use native.Mathlib.Omega.{arith}
 use lib.IntN.{ℤ, pos, negsuc}
+use Rattle.std.specs.Prelude.{Some}
 use lib.ListN.{length}
 use borrow.Author.Tests.{le-ltb}
 use Rattle.lines.specs.declared.refusal.Refusal.TheVariants as Refusal
@@ -13,7 +14,7 @@ use Rattle.run.specs.declared.Stop.{Stop}
 use Rattle.run.specs.Running.{piece_outcome}
 use Rattle.exported.specs.Pieced.{stop_told, far_numbers, short_far, is_ended, pieced, piece_told, stop_of}
 
-stop_back : (s : Stop) → stop_of (stop_told s) ≡ s
+stop_back : (s : Stop) → stop_of (stop_told s) ≡ Some s
 unfolding stop_of
 stop_back (Stop.Refused Refusal.Length) = refl
 stop_back (Stop.Refused Refusal.Form) = refl
@@ -61,7 +62,7 @@ module _ (ended : ℕ) (T : Tables) (piece out ns : List ℕ) where
   unfolding piece_told pieced
   number_is room = rw (le-ltb (length ns) far_numbers room) refl
 
-  pub reason_told : far_numbers ≤ length ns → stop_of (piece_told ended T piece out ns).number ≡ its_stop
+  pub reason_told : far_numbers ≤ length ns → stop_of (piece_told ended T piece out ns).number ≡ Some its_stop
   reason_told room = ap stop_of (number_is room) ∙ stop_back its_stop
 
   pub short_alone : (piece_told ended T piece out ns).number ≡ short_far → length ns < far_numbers

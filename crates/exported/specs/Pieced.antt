@@ -1,5 +1,5 @@
 -- What C and Rust are told of a piece of a trace: a number, the tables left, the bytes left, and the numbers of how far it came. Assumes nothing.
-use Rattle.std.specs.Prelude.{ℕ, zero, suc, Bool, not, List, [], ◌∷◌, eqb, ltb, ℤ, pos, negsuc, neg_ℤ, length}
+use Rattle.std.specs.Prelude.{ℕ, zero, suc, Bool, not, List, [], ◌∷◌, eqb, leb, ltb, ℤ, pos, negsuc, neg_ℤ, length, Option, None, Some}
 use Rattle.words.specs.Choice.{if_true◌then◌else◌}
 use Rattle.lines.specs.Numbered.{number_of, refusal_of}
 use Rattle.tables.specs.Tables.{Tables}
@@ -50,9 +50,9 @@ pieced o ns = tells_piece (stop_told o.reply.stop) o.left o.out (far_put o.reply
 unfoldable pub piece_told : ℕ → Tables → List ℕ → List ℕ → List ℕ → ToldPiece
 piece_told ended T piece out ns = if_true ltb (length ns) far_numbers then tells_piece short_far T out ns else pieced (piece_outcome (is_ended ended) T piece out) ns
 
--- why it stopped, from the number told where there is room for them
-unfoldable pub stop_of : ℤ → Stop
-stop_of (pos zero) = Stop.More
-stop_of (pos (suc zero)) = Stop.Full
-stop_of (pos (suc (suc n))) = Stop.End
-stop_of (negsuc k) = Stop.Refused (refusal_of (suc k))
+-- why it stopped, from the number told where there is room for them; none where a number tells no reason
+unfoldable pub stop_of : ℤ → Option Stop
+stop_of (pos zero) = Some Stop.More
+stop_of (pos (suc zero)) = Some Stop.Full
+stop_of (pos (suc (suc n))) = Some Stop.End
+stop_of (negsuc k) = if_true leb k 9 then Some (Stop.Refused (refusal_of (suc k))) else None

@@ -20,16 +20,12 @@ const COUNTS: usize = 4096;
 
 const OTHERS: usize = 17;
 
-fn first_of(t: Number, f: Number, b: Number) -> usize
-    ensures { result ≡ first_of t f b }
+// The two places of buffer b of family f, of thread t.
+fn places_of(t: Number, f: Number, b: Number) -> (usize, usize)
+    ensures { (result.0 ≡ first_of t f b) × (result.1 ≡ second_of t f b) }
 {
-    (spread(b, t % 32 * 16 + f % 16) / 1048576 % PLACES) as usize
-}
-
-fn second_of(t: Number, f: Number, b: Number) -> usize
-    ensures { result ≡ second_of t f b }
-{
-    (spread(b, t % 32 * 16 + f % 16) / 4 % PLACES) as usize
+    let s = spread(b, t % 32 * 16 + f % 16);
+    ((s / 1048576 % PLACES) as usize, (s / 4 % PLACES) as usize)
 }
 
 impl Listed for Pin {
@@ -48,27 +44,22 @@ impl Listed for Pin {
     }
 
     fn first(self) -> usize {
-        first_of(self.thread, self.family, self.buffer)
+        places_of(self.thread, self.family, self.buffer).0
     }
 
     fn second(self) -> usize {
-        second_of(self.thread, self.family, self.buffer)
+        places_of(self.thread, self.family, self.buffer).1
     }
 }
 
 // The lowest used row of buffer b of family f, of thread t, of those that the guide lists for it, or the room.
+// The room where there is none: specs/Listing.antt has it so.
 pub fn find(rows: &[Number], marks: &[u64], guide: &[u64], t: Number, f: Number, b: Number) -> usize
     ensures { result ≡ found_in (table rows.now marks.now) guide.now t f b }
 {
     let is = |x: Pin| (x.buffer == b) & (x.family == f) & (x.thread == t);
-    let listed = listing::find(
-        rows,
-        marks,
-        guide,
-        first_of(t, f, b),
-        second_of(t, f, b),
-        &is,
-    );
+    let (first, second) = places_of(t, f, b);
+    let listed = listing::find(rows, marks, guide, first, second, &is);
     match listed {
         Some(r) => r,
         None => rows::pins::find(rows, marks, t, f, b),

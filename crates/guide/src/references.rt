@@ -37,16 +37,12 @@ const USED: usize = 36086;
 
 const LOW: usize = 36087;
 
-fn first_of(t: Number, h: Number) -> usize
-    ensures { result ≡ first_of t h }
+// The two places of handle h of thread t.
+fn places_of(t: Number, h: Number) -> (usize, usize)
+    ensures { (result.0 ≡ first_of t h) × (result.1 ≡ second_of t h) }
 {
-    (spread(h, t % 32) / 131072 % PLACES) as usize
-}
-
-fn second_of(t: Number, h: Number) -> usize
-    ensures { result ≡ second_of t h }
-{
-    (spread(h, t % 32) / 4 % PLACES) as usize
+    let s = spread(h, t % 32);
+    ((s / 131072 % PLACES) as usize, (s / 4 % PLACES) as usize)
 }
 
 impl Listed for Reference {
@@ -65,20 +61,22 @@ impl Listed for Reference {
     }
 
     fn first(self) -> usize {
-        first_of(self.thread, self.handle)
+        places_of(self.thread, self.handle).0
     }
 
     fn second(self) -> usize {
-        second_of(self.thread, self.handle)
+        places_of(self.thread, self.handle).1
     }
 }
 
 // The lowest used row of handle h in thread t, of those that the guide lists for it, or the room.
+// The room where there is none: specs/Listing.antt has it so.
 pub fn find(rows: &[Number], marks: &[u64], guide: &[u64], t: Number, h: Number) -> usize
     ensures { result ≡ found_in (table rows.now marks.now) guide.now t h }
 {
     let is = |x: Reference| (x.handle == h) & (x.thread == t);
-    let listed = listing::find(rows, marks, guide, first_of(t, h), second_of(t, h), &is);
+    let (first, second) = places_of(t, h);
+    let listed = listing::find(rows, marks, guide, first, second, &is);
     match listed {
         Some(r) => r,
         None => rows::references::find(rows, marks, t, h),
@@ -210,6 +208,7 @@ fn lower(guide: &mut [u64], r: usize)
 }
 
 // The lowest free row, of those that are not below the word which the guide names, or the room.
+// The room where there is none: `rows: Frees.free_from` has it so.
 pub fn lowest_free(rows: &[Number], marks: &[u64], guide: &[u64]) -> usize
     ensures { result ≡ free_from references (table rows.now marks.now) (get_or guide.now low_at 0) }
 {

@@ -20,13 +20,15 @@ use Rattle.book.specs.Threads.{items_in, lines_in, no_function, attached_functio
 use Rattle.book.specs.Moves.{item_pushed, item_popped}
 use Rattle.answers.specs.declared.Findings.{Findings}
 use Rattle.answers.specs.Answer.{Answer, refused_with}
-use Rattle.tables.specs.Tables.{Tables}
+use Rattle.tables.specs.Tables.{Tables, tables}
+use Rattle.tables.specs.declared.Lent.{Lent}
+use Rattle.tables.specs.Lent.{tables_of, with_book}
 use Rattle.tables.specs.Weighing.{weighed_in}
 use Rattle.tables.specs.Acting.{items_moved}
 use Rattle.tables.specs.Stepping.{follow, next_line, on_line, on_read, with_items, unfit_tables, step_of}
 use Rattle.events.specs.Outcome.{Outcome, leaves, outcome_of, line_outcome}
 use Rattle.judge.specs.Event.{read_as, thread_named, items_after}
-use Rattle.judge.specs.Outcome.{outcome, step_outcome, read_outcome, event_outcome, by_tables}
+use Rattle.judge.specs.Outcome.{outcome, step_outcome, read_outcome, event_outcome, said_outcome, by_tables}
 use Rattle.events.proofs.Outcomes.{passed}
 use Rattle.judge.proofs.Reading.{read_is}
 use Rattle.judge.proofs.ByTables.{neither_told}
@@ -85,9 +87,6 @@ abbrev is_found : Answer → Bool
 is_found (Ok f) = true
 is_found (Err k) = false
 
-abbrev with_book : Tables → List ℕ → Tables
-with_book T b = record { references = T.references; pins = T.pins; book = b; classes = T.classes }
-
 -- the step over what was read, where the answer and the tables but for the open items are known
 module _ (T : Tables) (y : Answer) (S : Tables) where
   abbrev top_in : Line → Option Item
@@ -137,6 +136,27 @@ thread_is (Event.State t v c) hs e h = let same : states (O t v c) ≡ e = cc in
 thread_is (Event.Identify x sort c static final) hs e h = let same : states (M x sort c static final) ≡ e = cc in ap thread_of same
 thread_is Event.End hs e h = let same : Z ≡ e = cc in ap thread_of same
 
+-- ---- a line that was read
+
+module _ (T : Tables) (ev : Event) (hs : List ℕ) (t many line : ℕ) (top : Option Item) (y : Answer) (S : Tables) (et : t ≡ thread_named ev) (el : line ≡ next_line T)
+    (ei : top ≡ top_of (items_in T.book t)) (em : many ≡ length (items_in T.book t)) (q : leaves y S ≡ event_outcome line ev hs top many T) where
+  at : (e : Line) → read_as ev hs ≡ says e → (top ≡ top_of (items_in T.book (thread_of e))) × (many ≡ length (items_in T.book (thread_of e)))
+  at e h =
+      let own : t ≡ thread_of e = et ∙ thread_is ev hs e h in
+      (ei ∙ ap (λ (i : ℕ). top_of (items_in T.book i)) own, em ∙ ap (λ (i : ℕ). length (items_in T.book i)) own)
+
+  told : leaves y S ≡ read_outcome (next_line T) (read_as ev hs) top many T
+  unfolding event_outcome
+  told = q ∙ ap (λ (n : ℕ). read_outcome n (read_as ev hs) top many T) el
+
+  pub said_accepted : (f : Findings) (b' : List ℕ) → y ≡ Ok f → ((gs : List ℕ) → b' ≡ items_after (read_as ev gs) S.book) → leaves (Ok f) (with_book S b') ≡ said_outcome ev hs T
+  unfolding said_outcome
+  said_accepted f b' n m = ap₂ (λ (a : Answer) (x : List ℕ). leaves a (with_book S x)) (sym n) (m hs) ∙ accepted_on T y S (read_as ev hs) top many at told f n
+
+  pub said_refused : (x : Answer) (k : Refusal) → y ≡ Err k → x ≡ Err k → leaves x S ≡ said_outcome ev hs T
+  unfolding said_outcome
+  said_refused x k n w = ap (λ (a : Answer). leaves a S) (w ∙ sym n) ∙ refused_on T y S (read_as ev hs) top many at told k n
+
 -- ---- the step
 
 module _ (T : Tables) (bs : List ℕ) (said : Result ⊤ Refusal) {u : ⊤} (ek : said ≡ passes (by_tables T)) (z : said ≡ Ok u) where
@@ -165,25 +185,12 @@ module _ (T : Tables) (bs : List ℕ) (said : Result ⊤ Refusal) {u : ⊤} (ek 
           is_event (Ok v) = true
           is_event (Err r) = false
 
-  module _ (ev : Event) (hs : List ℕ) (t many line : ℕ) (top : Option Item) (y : Answer) (S : Tables)
-      (el : line ≡ next_line T) (er : Ok ev ≡ event_of (read bs)) (es : hs ≡ slots_of (read bs)) (et : t ≡ thread_named ev)
-      (ei : top ≡ top_of (items_in T.book t)) (em : many ≡ length (items_in T.book t)) (q : leaves y S ≡ event_outcome line ev hs top many T) where
-    at : (e : Line) → read_as ev hs ≡ says e → (top ≡ top_of (items_in T.book (thread_of e))) × (many ≡ length (items_in T.book (thread_of e)))
-    at e h =
-        let own : t ≡ thread_of e = et ∙ thread_is ev hs e h in
-        (ei ∙ ap (λ (i : ℕ). top_of (items_in T.book i)) own, em ∙ ap (λ (i : ℕ). length (items_in T.book i)) own)
+  -- an event was
+  pub step_said : (ev : Event) (hs : List ℕ) → Ok ev ≡ event_of (read bs) → hs ≡ slots_of (read bs) → (o : Outcome) → o ≡ said_outcome ev hs T → o ≡ step_outcome T bs
+  unfolding said_outcome
+  step_said ev hs er es o p = by_what_was_read o (p ∙ sym (ap (λ (x : Read). outcome (on_read x T)) (read_is bs ev hs er es)))
 
-    told : leaves y S ≡ read_outcome (next_line T) (read_as ev hs) top many T
-    unfolding event_outcome
-    told = q ∙ ap (λ (n : ℕ). read_outcome n (read_as ev hs) top many T) el
-
-    by_reading : (o : Outcome) → o ≡ outcome (on_read (read_as ev hs) T) → o ≡ step_outcome T bs
-    by_reading o p = by_what_was_read o (p ∙ sym (ap (λ (x : Read). outcome (on_read x T)) (read_is bs ev hs er es)))
-
-    pub step_accepted : (f : Findings) (b' : List ℕ) → y ≡ Ok f → ((gs : List ℕ) → b' ≡ items_after (read_as ev gs) S.book) → leaves (Ok f) (with_book S b') ≡ step_outcome T bs
-    step_accepted f b' n m =
-        by_reading (leaves (Ok f) (with_book S b'))
-        (ap₂ (λ (a : Answer) (x : List ℕ). leaves a (with_book S x)) (sym n) (m hs) ∙ accepted_on T y S (read_as ev hs) top many at told f n)
-
-    pub step_refused : (x : Answer) (k : Refusal) → y ≡ Err k → x ≡ Err k → leaves x S ≡ step_outcome T bs
-    step_refused x k n w = by_reading (leaves x S) (ap (λ (a : Answer). leaves a S) (w ∙ sym n) ∙ refused_on T y S (read_as ev hs) top many at told k n)
+-- what the lent tables are left as is what is left in the slices that were lent
+pub left_in : {y : Answer} {rs ms ps ns b cs : List ℕ} {o : Outcome} (l : Lent) → rs ≡ l.rows.now → ms ≡ l.marks.now → ps ≡ l.pins.now → ns ≡ l.pinmarks.now → b ≡ l.book.now → cs ≡ l.classes.now
+    → leaves y (tables_of l) ≡ o → leaves y (tables rs ms ps ns b cs) ≡ o
+left_in {y} l r m p n b c q = (λ i. leaves y (tables (r i) (m i) (p i) (n i) (b i) (c i))) ∙ q

@@ -8,7 +8,7 @@ use Rattle.history.specs.Replies.{most_lines}
 use Rattle.book.specs.Threads.{lines_in}
 use Rattle.answers.specs.Answer.{refused_with, answered}
 use Rattle.tables.specs.Tables.{Tables}
-use Rattle.tables.specs.Stepping.{Stepped, unfit_tables, step_of}
+use Rattle.tables.specs.Stepping.{Stepped, on_read, unfit_tables, step_of}
 use Rattle.events.specs.Outcome.{Outcome, leaves, line_outcome}
 use Rattle.judge.specs.Event.{read_as}
 
@@ -26,6 +26,10 @@ read_outcome line (says e) top many T = line_outcome line e top many T
 
 unfoldable pub event_outcome : ℕ → Event → List ℕ → Option Item → ℕ → Tables → Outcome
 event_outcome line ev hs top many T = read_outcome line (read_as ev hs) top many T
+
+-- of a line that was read, its open items moved where it is accepted
+unfoldable pub said_outcome : Event → List ℕ → Tables → Outcome
+said_outcome ev hs T = outcome (on_read (read_as ev hs) T)
 
 -- 8 and line 1,000,001 are told from book and classes alone; 0 for neither
 unfoldable pub by_tables : Tables → ℕ

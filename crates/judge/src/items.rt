@@ -28,7 +28,7 @@ pub fn thread_of(event: Event) -> u32
 fn above_zero(n: i32) -> u32
     ensures { result ≡ above_zero n }
 {
-    if n < 0 { 0 } else { n as u32 }
+    u32::try_from(n).unwrap_or(0)
 }
 
 // N opens a native, C a call and A an attached item; X, R and D close what is on top.

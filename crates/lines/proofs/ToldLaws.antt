@@ -12,7 +12,7 @@ use lib.ListN.{length, get_or, set, take, drop, replicate, take-append-drop}
 use lib.Seq.{length-take-le}
 use borrow.Author.Tests.{eq-eqb, ne_eqb}
 use Rattle.numbers.specs.Signed.{signed}
-use Rattle.lines.specs.Line.{K, O, M, Line, N, X, C, R, A, D, Z, states, largest}
+use Rattle.lines.specs.Line.{K, O, M, Line, N, X, C, R, A, D, Z, states}
 use Rattle.lines.specs.Forms.{most_fields, no_place, form_of, numbers_of}
 use Rattle.lines.specs.Reading.{Read, says}
 use Rattle.lines.specs.Events.{event_in, event_of}
@@ -25,10 +25,6 @@ use Rattle.lines.specs.declared.refusal.Refusal.{Refusal}
 use Rattle.lines.proofs.Signs.{Away, away, away_next}
 use Rattle.lines.proofs.Answered.{event_said}
 use Rattle.lines.proofs.GatheredLaws.{line_in_numbered}
-
-pub below : (size : ℕ) → (size ≡ 0 → ⊥) → largest - (size - 1) ≡ as_told (signed true size)
-below zero h = absurd (h refl)
-below (suc n) h = let z : suc n - 1 ≡ n = omega arith in ap (λ (m : ℕ). largest - m) z
 
 -- ---- sizes, of which that at place k is below zero
 

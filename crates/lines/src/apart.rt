@@ -7,7 +7,7 @@ ghost use Rattle.lines.specs.Sizes.{sizes_told};
 
 use crate::refusal::Refusal;
 use crate::{MOST_FIELDS, forms, heads};
-use words::{Handle, LARGEST};
+use words::Handle;
 
 // A line's letter and how many numbers it has. The numbers stand in ten slots beside it.
 #[derive(Clone, Copy)]
@@ -20,10 +20,7 @@ pub struct Apart {
 fn below_zero(size: Handle) -> Handle
     ensures { result ≡ as_told (signed true size) }
 {
-    if size == 0 {
-        return 0;
-    }
-    LARGEST - (size - 1)
+    size.wrapping_neg()
 }
 
 // Sizes become the numbers that they are, as they are told. In place: a second array of ten would stand on the stack of C's reader.

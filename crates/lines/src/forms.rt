@@ -141,11 +141,11 @@ fn call(
     }
     Ok(Event::Call {
         thread: thread as u32,
-        env: env,
+        env,
         function: f,
-        a: a,
-        b: b,
-        c: c,
+        a,
+        b,
+        c,
         n: ranges::int_of(minus, n),
     })
 }
@@ -193,7 +193,7 @@ fn attach(thread: Handle, env: Handle) -> Result<Event, Refusal>
     }
     Ok(Event::Attach {
         thread: thread as u32,
-        env: env,
+        env,
     })
 }
 
@@ -228,7 +228,7 @@ fn state(thread: Handle, handle: Handle, class: Handle) -> Result<Event, Refusal
     }
     Ok(Event::State {
         thread: thread as u32,
-        handle: handle,
+        handle,
         class: class as u32,
     })
 }
@@ -246,7 +246,7 @@ fn identify(
         return Err(Refusal::Range);
     }
     Ok(Event::Identify {
-        identity: identity,
+        identity,
         sort: sort as u32,
         class: class as u32,
         isstatic: isstatic as u32,

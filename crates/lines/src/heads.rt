@@ -109,7 +109,7 @@ fn take_gathered(letter: u8, t: Tally) -> Result<Head, Refusal>
         return Err(Refusal::Range);
     }
     Ok(Head {
-        letter: letter,
+        letter,
         count: n,
         minus: t.minus,
     })

@@ -38,37 +38,37 @@ pub fn gives_status(f: u32) -> bool
 fn is_thread(t: Handle) -> bool
     ensures { result ≡ is_thread t }
 {
-    (1 <= t) & (t <= THREADS as Handle)
+    (1..=THREADS as Handle).contains(&t)
 }
 
 fn is_env(e: Handle) -> bool
     ensures { result ≡ is_env e }
 {
-    (1 <= e) & (e <= LARGEST)
+    (1..=LARGEST).contains(&e)
 }
 
 pub(crate) fn is_function(f: Handle) -> bool
     ensures { result ≡ is_function f }
 {
-    (FIRST_FUNCTION <= f) & (f <= LAST_FUNCTION)
+    (FIRST_FUNCTION..=LAST_FUNCTION).contains(&f)
 }
 
 fn is_class(c: Handle) -> bool
     ensures { result ≡ is_class c }
 {
-    (1 <= c) & (c <= CLASSES as Handle)
+    (1..=CLASSES as Handle).contains(&c)
 }
 
 fn is_identity(x: Handle) -> bool
     ensures { result ≡ is_identity x }
 {
-    (1 <= x) & (x <= LARGEST) & (x % KINDS == IDENTITY)
+    (1..=LARGEST).contains(&x) & (x % KINDS == IDENTITY)
 }
 
 fn is_sort(s: Handle) -> bool
     ensures { result ≡ is_sort s }
 {
-    (METHOD <= s) & (s <= FIELD)
+    (METHOD..=FIELD).contains(&s)
 }
 
 fn is_argument(h: Handle) -> bool

@@ -15,13 +15,13 @@ pub signed_size : (z : ℤ) → signed (is_negative z) (nat_abs z) ≡ z
 signed_size (pos n) = refl
 signed_size (negsuc n) = refl
 
--- ---- a sign and a size as a number of 32 bits, by the tests of `int_of`
+-- ---- a minus before a size
 
 -- a minus before a size that is not 0
 abbrev below_zero : Bool → ℕ → Bool
 below_zero minus size = minus && not (eqb size 0)
 
-pub not_below : (minus : Bool) (size : ℕ) → below_zero minus size ≡ false → signed minus size ≡ pos size
+not_below : (minus : Bool) (size : ℕ) → below_zero minus size ≡ false → signed minus size ≡ pos size
 not_below false size h = refl
 not_below true zero h = refl
 not_below true (suc n) h = absurd (false≢true (sym h ∙ ap not (ne_eqb (suc n) 0 (λ z. omega arith))))

@@ -14,8 +14,6 @@ const NINE: u8 = b'9';
 
 const MINUS: u8 = b'-';
 
-const LARGEST_I32: u64 = 2147483647;
-
 // What a field is: a size within the bound, with its sign; a number out of the bound; no number.
 #[derive(Clone, Copy)]
 pub enum Field {
@@ -190,19 +188,8 @@ pub fn read(s: &[u8], at: usize, stop: u8, max: u64) -> Found
 pub fn int_of(minus: bool, size: u64) -> Option<i32>
     ensures { result ≡ as_int (signed minus size) }
 {
-    if minus & (size != 0) {
-        let n = size - 1;
-        return if n <= LARGEST_I32 {
-            Some(-1 - (n as i32))
-        } else {
-            None
-        };
-    }
-    if size <= LARGEST_I32 {
-        Some(size as i32)
-    } else {
-        None
-    }
+    let n = i128::from(size);
+    i32::try_from(if minus { -n } else { n }).ok()
 }
 
 // The size of a signed number.

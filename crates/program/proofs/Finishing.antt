@@ -6,6 +6,7 @@ use mathlib.Core.List.{List, [], ◌++◌}
 use native.Mathlib.Omega.{arith}
 use lib.ListN.{length, take, drop, length-append, length-drop}
 use lib.Seq.{take_at, drop_at, drop-drop}
+use Rattle.std.specs.Prelude.{min}
 use Rattle.numbers.specs.Writing.{put}
 use Rattle.report.specs.Shown.{longest_leak}
 use Rattle.program.specs.declared.streams.Streams.{Streams}
@@ -80,6 +81,10 @@ listed_left {asked} {ns'} {n} s T ns e l size left good =
     let here = left ns size good in
     subst (λ (k : ℕ). RecordsLeft s ns' 0 k) (sym (l.count ∙ ap (λ (b : Bool). records_in (listing_of b T ns).reply) e))
     (subst (λ (m : List ℕ). RecordsLeft s m 0 (records_in (listing_of s.leaks T ns).reply)) (sym (l.left ∙ ap (λ (b : Bool). (listing_of b T ns).left) e)) here)
+
+-- as many are left where a piece begins
+pub left_from : (s : Streams) (ns : List ℕ) (from count : ℕ) → from < count → RecordsLeft s ns (min from count) (count - min from count) → RecordsLeft s ns from (count - from)
+left_from s ns from count h = let here : min from count ≡ from = omega arith in subst (λ (d : ℕ). RecordsLeft s ns d (count - d)) here
 
 pub good : {b : Bool} (s : Streams) → b ≡ s.unreadable || s.unwritable → b ≡ false → Good s
 good s e f = go s.unreadable s.unwritable refl refl (sym e ∙ f)

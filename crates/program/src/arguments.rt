@@ -10,7 +10,7 @@ pub(crate) enum Asked {
     Another,
 }
 
-// Whether two byte strings are the same.
+// Whether two byte strings are the same. A function of its own, since nothing is promised of `asked_for`: what is compared is promised here.
 fn same(a: &[u8], b: &[u8]) -> bool
     ensures { (result ≡ true → a.now ≡ b.now) × (result ≡ false → a.now ≡ b.now → ⊥) }
 {

@@ -6,7 +6,7 @@ mod arguments; // arguments.rt: what the program is asked for
 mod listing; // listing.rt: the leaks
 mod streams; // streams.rt: standard input and standard output
 
-ghost use Rattle.std.specs.Prelude.{◌≡◌, [], ◌*◌, ◌-◌, ◌≤◌, ◌<◌, length, take};
+ghost use Rattle.std.specs.Prelude.{◌≡◌, [], ◌+◌, ◌*◌, ◌-◌, ◌/◌, ◌≤◌, ◌<◌, length, min, take};
 ghost use Rattle.numbers.specs.Writing.{put};
 ghost use Rattle.history.specs.Replies.{most_lines};
 ghost use Rattle.book.specs.Threads.{lines_in, closed_in};
@@ -201,7 +201,8 @@ fn finish(
 // The records that fit the buffer go from `from` up to here.
 fn piece_end(from: usize, count: usize) -> usize
     requires { from < count }
-    ensures { (from < result) × (result ≤ count) × (longest_leak * (result - from) ≤ buffer_size) }
+    ensures fits { (from < result) × (result ≤ count) × (longest_leak * (result - from) ≤ buffer_size) }
+    ensures last { result ≡ min (from + buffer_size / longest_leak) count }
 {
     from + usize::min(count - from, PIECE)
 }
@@ -219,15 +220,13 @@ fn print_leaks(
     ensures { (result.leaks ≡ before.leaks) × Reported result }
 {
     let mut streams = before;
-    let mut done = 0;
-    while done < count {
+    for from in (0..count).step_by(PIECE) {
         if streams::has_failed(streams) {
             return streams;
         }
-        let to = piece_end(done, count);
-        let n = listing::put_records(out, records, done, to);
+        let to = piece_end(from, count);
+        let n = listing::put_records(out, records, from, to);
         streams = print(rt, streams, moved, out, n);
-        done = to;
     }
     streams
 }

@@ -25,15 +25,7 @@ pub fn weir_enter(d: &mut [u8], thread: u32, env: Handle, count: u32, handles: &
     ensures value { result ≡ told (wrote (meant (Ok (Enter thread env count)) handles.now) d.old) }
     ensures d_after { d.new ≡ left (meant (Ok (Enter thread env count)) handles.now) d.old }
 {
-    tell(
-        d,
-        Event::Enter {
-            thread: thread,
-            env: env,
-            count: count,
-        },
-        handles,
-    )
+    tell(d, Event::Enter { thread, env, count }, handles)
 }
 
 // X: native returns to Java. The result is 0 where no object is returned.
@@ -44,7 +36,7 @@ pub fn weir_leave(d: &mut [u8], thread: u32, res: Handle) -> i32
     tell(
         d,
         Event::Leave {
-            thread: thread,
+            thread,
             result: res,
         },
         &[0; 8],
@@ -68,13 +60,13 @@ pub fn weir_call(
     tell(
         d,
         Event::Call {
-            thread: thread,
-            env: env,
-            function: function,
-            a: a,
-            b: b,
-            c: c,
-            n: n,
+            thread,
+            env,
+            function,
+            a,
+            b,
+            c,
+            n,
         },
         &[0; 8],
     )
@@ -95,11 +87,11 @@ pub fn weir_return(
     tell(
         d,
         Event::Return {
-            thread: thread,
-            function: function,
+            thread,
+            function,
             result: res,
-            status: status,
-            pending: pending,
+            status,
+            pending,
         },
         &[0; 8],
     )
@@ -110,14 +102,7 @@ pub fn weir_attach(d: &mut [u8], thread: u32, env: Handle) -> i32
     ensures value { result ≡ told (wrote (meant (Ok (Attach thread env)) no_handles) d.old) }
     ensures d_after { d.new ≡ left (meant (Ok (Attach thread env)) no_handles) d.old }
 {
-    tell(
-        d,
-        Event::Attach {
-            thread: thread,
-            env: env,
-        },
-        &[0; 8],
-    )
+    tell(d, Event::Attach { thread, env }, &[0; 8])
 }
 
 // D: it detaches itself.
@@ -125,7 +110,7 @@ pub fn weir_detach(d: &mut [u8], thread: u32) -> i32
     ensures value { result ≡ told (wrote (meant (Ok (Detach thread)) no_handles) d.old) }
     ensures d_after { d.new ≡ left (meant (Ok (Detach thread)) no_handles) d.old }
 {
-    tell(d, Event::Detach { thread: thread }, &[0; 8])
+    tell(d, Event::Detach { thread }, &[0; 8])
 }
 
 // K: declares a class.
@@ -133,14 +118,7 @@ pub fn weir_declare(d: &mut [u8], class: u32, superclass: u32) -> i32
     ensures value { result ≡ told (wrote (meant (Ok (Declare class superclass)) no_handles) d.old) }
     ensures d_after { d.new ≡ left (meant (Ok (Declare class superclass)) no_handles) d.old }
 {
-    tell(
-        d,
-        Event::Declare {
-            class: class,
-            superclass: superclass,
-        },
-        &[0; 8],
-    )
+    tell(d, Event::Declare { class, superclass }, &[0; 8])
 }
 
 // O: states the class of a handle.
@@ -151,9 +129,9 @@ pub fn weir_state(d: &mut [u8], thread: u32, handle: Handle, class: u32) -> i32
     tell(
         d,
         Event::State {
-            thread: thread,
-            handle: handle,
-            class: class,
+            thread,
+            handle,
+            class,
         },
         &[0; 8],
     )
@@ -174,11 +152,11 @@ pub fn weir_identify(
     tell(
         d,
         Event::Identify {
-            identity: identity,
-            sort: sort,
-            class: class,
-            isstatic: isstatic,
-            isfinal: isfinal,
+            identity,
+            sort,
+            class,
+            isstatic,
+            isfinal,
         },
         &[0; 8],
     )

@@ -58,6 +58,7 @@ pub fn room(rows: &[Number], marks: &[u64]) -> usize
 }
 
 // The lowest free row, or the room.
+// The room where there is none: specs/Table.antt has it so.
 pub fn lowest_free(rows: &[Number], marks: &[u64]) -> usize
     ensures { result ≡ free_row pins (table rows.now marks.now) }
 {
@@ -107,6 +108,7 @@ fn is_buffer(row: Pin, t: Number, f: Number, b: Number) -> bool
 }
 
 // The lowest used row of buffer b of family f, of thread t, or the room.
+// The room where there is none: specs/Table.antt has it so.
 pub fn find(rows: &[Number], marks: &[u64], t: Number, f: Number, b: Number) -> usize
     ensures { result ≡ found pins (is_buffer t f b) (table rows.now marks.now) }
 {

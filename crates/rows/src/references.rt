@@ -65,6 +65,7 @@ pub fn room(rows: &[Number], marks: &[u64]) -> usize
 }
 
 // The lowest free row, or the room.
+// The room where there is none: specs/Table.antt has it so.
 pub fn lowest_free(rows: &[Number], marks: &[u64]) -> usize
     ensures { result ≡ free_row references (table rows.now marks.now) }
 {
@@ -72,6 +73,7 @@ pub fn lowest_free(rows: &[Number], marks: &[u64]) -> usize
 }
 
 // The lowest free row that does not stand below word w of the marks, or the room.
+// The room where there is none: specs/Frees.antt has it so.
 pub fn free_from(rows: &[Number], marks: &[u64], w: u64) -> usize
     ensures { result ≡ free_from references (table rows.now marks.now) w }
 {
@@ -132,6 +134,7 @@ pub fn state(rows: &mut [Number], marks: &[u64], r: usize, class: Number)
 }
 
 // Takes the lowest free row, and answers it, or the room where all are used.
+// The room and no Option: specs/Table.antt has it so.
 pub fn take(rows: &mut [Number], marks: &mut [u64], row: Reference) -> usize
     ensures answer { result ≡ free_row references (table rows.old marks.old) }
     ensures left { table rows.new marks.new ≡ taken references (table rows.old marks.old) row }
@@ -177,6 +180,7 @@ fn from_frame(row: Reference, t: Number, f: Number) -> bool
 }
 
 // The lowest used row of handle h in thread t, or the room.
+// The room where there is none: specs/Table.antt has it so.
 pub fn find(rows: &[Number], marks: &[u64], t: Number, h: Number) -> usize
     ensures { result ≡ found references (is_handle t h) (table rows.now marks.now) }
 {

@@ -1,17 +1,19 @@
 -- Refusal 8 and line 1,000,001 by one thread: after an accepted line only the line's own thread is to be looked at again. Assumes nothing.
-use Prim.Native.Nat.{ℕ, ◌≤◌, ◌<◌}
+use Prim.Native.Nat.{ℕ, zero, suc, ◌≤◌, ◌<◌}
 use mathlib.Core.Path.{◌≡◌, refl, sym, ap, subst, ◌∙◌}
-use mathlib.Core.Bool.{Bool, true, false, ◌&&◌, or-false, false≢true}
+use mathlib.Core.Bool.{Bool, true, false, ◌&&◌, or-false}
 use mathlib.Core.List.{List}
-use Rattle.std.specs.Prelude.{Ok}
+use Rattle.std.specs.Prelude.{Result, Ok, Err, ⊤}
 use native.Mathlib.Omega.{arith}
-use borrow.Author.Tests.{leb-false, le-leb, lt-leb, eq-eqb}
-use lib.Dec.{leb, ltb, eqb}
+use borrow.Author.Tests.{leb-false, le-leb, lt-leb}
+use lib.Dec.{leb, ltb}
 use lib.ListN.{length, take}
 use Rattle.words.specs.Choice.{if_true◌then◌else◌}
 use Rattle.lines.specs.Line.{Line, N, X, C, R, A, D, Z, K, O, M, states, is_thread}
 use Rattle.lines.specs.Reading.{Read, says, read}
 use Rattle.lines.specs.Events.{result_in_line, event_of, slots_of}
+use Rattle.lines.specs.Numbered.{refusal_of, passes}
+use Rattle.lines.specs.declared.refusal.Refusal.{Refusal}
 use Rattle.lines.specs.declared.Event.{Event}
 use Rattle.history.specs.Past.{thread_of}
 use Rattle.history.specs.Items.{top_of, asked}
@@ -23,7 +25,7 @@ use Rattle.book.proofs.AllThreads.{or_left, or_right}
 use Rattle.book.proofs.Fitness.{fit_long, fit_lines, fit_threads, unfit_but}
 use Rattle.book.proofs.Elsewhere.{as_fit_elsewhere}
 use Rattle.answers.specs.Answer.{Answer}
-use Rattle.tables.specs.Tables.{Tables, tables}
+use Rattle.tables.specs.Tables.{Tables}
 use Rattle.tables.specs.Weighing.{weighed_in}
 use Rattle.tables.specs.Acting.{acted}
 use Rattle.tables.specs.Stepping.{follow, next_line, on_read, unfit_tables, step_of}
@@ -31,6 +33,7 @@ use Rattle.demands.proofs.Next.{same_length}
 use Rattle.events.specs.Outcome.{Outcome, leaves}
 use Rattle.judge.specs.Event.{read_as, thread_named}
 use Rattle.judge.specs.Outcome.{step_outcome, by_tables}
+use Rattle.events.proofs.Outcomes.{passed}
 use Rattle.judge.proofs.Reading.{read_is}
 use Rattle.judge.proofs.ByTables.{neither_told}
 use Rattle.run.specs.Fit.{FitBut}
@@ -48,17 +51,9 @@ fit_so T t h =
       classes = or_right (unfit T.book) (is_short T.classes) h;
     }
 
--- line 1,000,001 may come next
-pub fit_unless_8 : (T : Tables) (t : ℕ) → (by_tables T ≡ 8 → ⊥) → FitBut T t
-unfolding by_tables
-fit_unless_8 T t h = fit_so T t (go (unfit_tables T) h)
-  where
-    go : (u : Bool) → (◌≡◌ {A = ℕ} (if_true u then 8 else if_true leb most_lines (lines_in T.book) then 1 else 0) 8 → ⊥) → u ≡ false
-    go true n = absurd (n refl)
-    go false n = refl
-
 pub fit_start : (T : Tables) (t : ℕ) → by_tables T ≡ 0 → FitBut T t
-fit_start T t z = fit_unless_8 T t (λ e. absurd (omega (arith, e, z)))
+unfolding by_tables
+fit_start T t z = fit_so T t (neither_told (unfit_tables T) (leb most_lines (lines_in T.book)) z).0
 
 -- ---- the test of one thread
 
@@ -129,9 +124,13 @@ module _ (T : Tables) (bs : List ℕ) (ev : Event) (hs : List ℕ) where
       subst (λ (s : ℕ). FitBut S s) (sym et)
       (subst (λ (X : Tables). FitBut X (thread_named ev)) (sym (ap (λ (o : Outcome). o.left) q)) (fit_step (sym (read_is bs ev hs er es)) z))
 
--- 8 and line 1,000,001 look at book and classes alone
-pub fit_alike : (rs ms ps ns rs' ms' ps' ns' b cs : List ℕ) (t : ℕ) → FitBut (tables rs ms ps ns b cs) t → FitBut (tables rs' ms' ps' ns' b cs) t
-fit_alike rs ms ps ns rs' ms' ps' ns' b cs t f = record { long = f.long; lines = f.lines; others = f.others; classes = f.classes }
+-- ---- where the tables do not refuse the next line
 
-pub not_eight : (k : ℕ) (T : Tables) → k ≡ by_tables T → eqb k 8 ≡ false → by_tables T ≡ 8 → ⊥
-not_eight k T e h q = false≢true (sym h ∙ eq-eqb k 8 (e ∙ q))
+pub few_lines : (T : Tables) (said : Result ⊤ Refusal) {u : ⊤} → said ≡ passes (by_tables T) → said ≡ Ok u → lines_in T.book < most_lines
+unfolding by_tables
+few_lines T said e z =
+    leb-false most_lines (lines_in T.book) (neither_told (unfit_tables T) (leb most_lines (lines_in T.book)) (passed (by_tables T) e z)).1
+
+pub not_refused : (k : ℕ) {said : Result ⊤ Refusal} → said ≡ passes k → ((x : Refusal) → said ≡ Err x → ⊥) → k ≡ 0
+not_refused zero e n = refl
+not_refused (suc k) e n = absurd (n (refusal_of (suc k)) e)

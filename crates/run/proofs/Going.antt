@@ -2,7 +2,7 @@
 use Prim.Native.Nat.{ℕ, zero, suc, ◌+◌, ◌-◌, ◌≤◌, ◌<◌}
 use mathlib.Core.Path.{◌≡◌, refl, sym, ap, ap₂, subst, ◌∙◌}
 use mathlib.Core.Bool.{Bool}
-use Rattle.std.specs.Prelude.{IfOk}
+use Rattle.std.specs.Prelude.{IfOk, Err}
 use mathlib.Core.List.{List, [], ◌∷◌, ◌++◌, append_assoc, append-nil}
 use native.Mathlib.Nat.{zero-add, add-zero, add_assoc}
 use native.Mathlib.Omega.{arith}
@@ -14,23 +14,24 @@ use Rattle.numbers.proofs.Put.{put_none, length_put, put_put}
 use Rattle.history.specs.Replies.{Reply}
 use Rattle.history.specs.Report.{shown_finding}
 use Rattle.history.specs.declared.Finding.{Finding}
-use Rattle.lines.specs.Numbered.{refusal_of}
+use Rattle.lines.specs.Numbered.{refusal_of, passes}
+use Rattle.lines.specs.declared.refusal.Refusal.{Refusal}
 use Rattle.answers.specs.declared.Findings.{Findings}
 use Rattle.answers.specs.Answer.{Answer, most_found, findings_of}
 use Rattle.report.specs.Shown.{most_shown, shown_findings}
 use Rattle.report.proofs.Answered.{shown_accepted}
 use Rattle.tables.specs.Tables.{Tables}
 use Rattle.tables.specs.Stepping.{step_of}
-use Rattle.demands.specs.Calls.{Alike}
 use Rattle.events.specs.Outcome.{leaves as answers_leaving}
-use Rattle.judge.specs.Outcome.{step_outcome}
+use Rattle.judge.specs.Outcome.{step_outcome, by_tables}
+use Rattle.judge.proofs.ByTables.{by_its_tables}
 use Rattle.pieces.specs.declared.Next.TheVariants as Next
 use Rattle.pieces.proofs.Nexts.{pieces_next}
 use Rattle.run.specs.declared.Passed.{Passed}
 use Rattle.run.specs.declared.Way.{Way}
 use Rattle.run.specs.declared.Stop.{Stop}
 use Rattle.run.specs.Running.{all_shown, Run, stands, stops, behind, go_on, run_lines, run_of, leaves, outcome, piece_outcome}
-use Rattle.run.specs.Way.{LineComes, Aims, Heard, line_refused, line_accepted}
+use Rattle.run.specs.Way.{AsFar, LineComes, Aims, Heard, line_refused, line_accepted}
 use Rattle.run.proofs.Answering.{takes, refuses, few_counted}
 
 -- ---- the bytes of findings
@@ -54,19 +55,6 @@ behind_stops fs n T stop i = stands T (append-nil fs i) (add-zero n i) stop
 
 behind_both : (fs gs : List Finding) (n m : ℕ) (r : Run) → behind fs n (behind gs m r) ≡ behind (fs ++ gs) (n + m) r
 behind_both fs gs n m r i = stands r.left (sym (append_assoc fs gs r.found) i) (sym (add_assoc n m r.taken) i) r.stop
-
--- ---- tables of the same lengths
-
-pub alike_still : {R S T : Tables} → Alike R S → Alike S T → Alike R T
-alike_still r s =
-    record {
-      reference_rows = r.reference_rows ∙ s.reference_rows;
-      reference_marks = r.reference_marks ∙ s.reference_marks;
-      pin_rows = r.pin_rows ∙ s.pin_rows;
-      pin_marks = r.pin_marks ∙ s.pin_marks;
-      books = r.books ∙ s.books;
-      class_tables = r.class_tables ∙ s.class_tables;
-    }
 
 -- ---- before the byte `at` of the piece
 
@@ -217,3 +205,14 @@ module _ {ended : Bool} {T S : Tables} {s out out1 : List ℕ} {w : Way} (g : Go
           same = λ _. same;
           done = λ h. same ∙ ap (behind (g.found ++ gs) q.at) (aims.none h S') ∙ behind_stops (g.found ++ gs) q.at S' q.stop;
         }
+
+-- ---- the tables refuse the first line
+
+pub started : {ended : Bool} {T : Tables} {s out : List ℕ} {w : Way} {size : ℕ} → length out ≡ size → (w.at ≡ 0) × (w.put ≡ 0) × (w.findings ≡ 0) × Aims ended size s w → Going ended T s out w T out
+started {ended} {s = s} {w = w} n e = going_start e.0 e.1 e.2 (subst (λ (m : ℕ). Aims ended m s w) (sym n) e.3)
+
+pub refused_at_once : {ended : Bool} {T : Tables} {s out : List ℕ} {w q : Way} {k : Refusal} {r : Passed} → passes (by_tables T) ≡ Err k → Going ended T s out w T out
+    → w.at < w.to → AsFar w q → q.to ≡ q.at → q.stop ≡ Stop.Refused k → r ≡ record { taken = q.at; put = q.put; findings = q.findings; stop = q.stop }
+    → leaves r T out ≡ piece_outcome ended T s out
+refused_at_once {T = T} {s = s} {w = w} {k = k} h g some far to stop e =
+    going_told e (going_on g some (by_its_tables T (take (w.to - w.at) (drop w.at s)) (passes (by_tables T)) (Err k) k refl h refl) (line_refused k refl far to stop refl)) (omega (arith, to))

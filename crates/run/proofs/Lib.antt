@@ -5,12 +5,6 @@ pub mod Ways
 pub mod Going
 pub mod Passing
 mod Filling
-mod Keeping
-mod Shown
-mod Ending
-mod Making
-mod Stating
 mod Touching
 mod Fitting
 mod Guided
-mod Parts

@@ -3,8 +3,6 @@ pub mod Running
 -- computed: run::run_lines
 pub mod Way
 pub mod Fit
-pub mod Unshown
-pub mod Parts
 -- words
 pub mod Following
 pub mod Passing

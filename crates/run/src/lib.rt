@@ -1,25 +1,21 @@
 // The loop that holds the lent tables: the lines of a piece of the input, handed to the step one after another.
 #![tactic(auto)]
 
-mod attach;
-mod bits;
-mod call;
-mod detach;
-mod dispatch;
-mod enter;
 mod fit;
-mod kept;
-mod kept_pins;
-mod leave;
-mod returns;
-mod state;
 mod step;
 
-ghost use Rattle.std.specs.Prelude.{◌≡◌, false, List, ℕ, ◌+◌, ◌≤◌, length, IfOk};
+ghost use Rattle.std.specs.Prelude.{◌≡◌, List, ℕ, ◌+◌, ◌≤◌, length, IfOk, Err};
 ghost use Rattle.numbers.specs.Writing.{put};
+ghost use Rattle.lines.specs.Numbered.{passes};
+ghost use Rattle.rows.specs.Table.{room};
+ghost use Rattle.rows.specs.References.{references};
+ghost use Rattle.rows.specs.Pins.{pins};
+ghost use Rattle.guide.specs.References.{filled};
+ghost use Rattle.guide.specs.Pins.{filled as pin_filled};
 ghost use Rattle.answers.specs.Answer.{most_found};
 ghost use Rattle.report.specs.Shown.{most_shown, shown_findings};
-ghost use Rattle.tables.specs.Tables.{tables};
+ghost use Rattle.tables.specs.Tables.{Tables, tables};
+ghost use Rattle.tables.specs.Lent.{tables_of, Same, Led};
 ghost use Rattle.judge.specs.Outcome.{by_tables};
 ghost use Rattle.run.specs.Running.{leaves, piece_outcome};
 ghost use Rattle.run.specs.Way.{AsFar, Aims, Heard};
@@ -29,6 +25,7 @@ use lines::refusal::Refusal;
 use pieces::Next;
 use report::MOST_SHOWN;
 use rows::Number;
+use tables::Lent;
 
 // Why a run stops: a line was refused, the slice has no room for the findings of one more, more must be read, or the input is at its end.
 #[derive(Clone, Copy)]
@@ -125,19 +122,6 @@ fn heard(way: Way, answer: Answer, input: &[u8], ended: bool, out: &mut [u8]) ->
     }
 }
 
-// A piece of fewer bytes than this is judged by scans: guides would take longer to fill than to serve.
-const SHORT: usize = 4096;
-
-// A piece of so many bytes is judged by scans; so is any where the book is not fit, since it stops at its first line.
-fn is_scanned(n: usize, book: &[u64], classes: &[Number]) -> bool
-    ensures { (rs ms ps ns : List ℕ) → result ≡ false → by_tables (tables rs ms ps ns book.now classes.now) ≡ 8 → ⊥ }
-{
-    if n < SHORT {
-        return true;
-    }
-    judge::allows(book, classes) == Err(Refusal::Unfit)
-}
-
 fn start(input: &[u8], ended: bool, size: usize) -> Way
     ensures { (result.at ≡ 0) × (result.put ≡ 0) × (result.findings ≡ 0) × Aims ended size input.now result }
 {
@@ -163,72 +147,68 @@ fn how_far(way: Way) -> Passed
     }
 }
 
-// Line by line, each by scans.
-fn run_by_scans(
-    input: &[u8],
-    ended: bool,
-    rows: &mut [Number],
-    marks: &mut [u64],
-    pins: &mut [Number],
-    pinmarks: &mut [u64],
-    book: &mut [u64],
-    classes: &mut [Number],
-    out: &mut [u8],
-) -> Passed
-    ensures { leaves result (tables rows.new marks.new pins.new pinmarks.new book.new classes.new) out.new ≡ piece_outcome ended (tables rows.old marks.old pins.old pinmarks.old book.old classes.old) input.now out.old }
+// Line by line, by the guides if there are any; the next line is not refused by the tables.
+fn run_on(lent: &mut Lent, input: &[u8], ended: bool, out: &mut [u8]) -> Passed
+    requires { Led lent.old × (by_tables (tables_of lent.old) ≡ 0) }
+    ensures outcome { leaves result (tables_of lent.new) out.new ≡ piece_outcome ended (tables_of lent.old) input.now out.old }
+    ensures same { Same lent.new lent.old }
 {
-    let mut way = start(input, ended, out.len());
-    // No range counts the lines: where the next one ends shows once this one is heard.
-    while way.at < way.to {
-        let at = way.at;
-        let to = way.to;
-        let answer = judge::step(&input[at..to], rows, marks, pins, pinmarks, book, classes);
-        way = heard(way, answer, input, ended, out);
-    }
-    how_far(way)
-}
-
-// Line by line, each by guides that are filled first and kept; the book was found fit.
-fn run_by_guides(
-    input: &[u8],
-    ended: bool,
-    rows: &mut [Number],
-    marks: &mut [u64],
-    pins: &mut [Number],
-    pinmarks: &mut [u64],
-    book: &mut [u64],
-    classes: &mut [Number],
-    out: &mut [u8],
-) -> Passed
-    requires { by_tables (tables rows.old marks.old pins.old pinmarks.old book.old classes.old) ≡ 8 → ⊥ }
-    ensures { leaves result (tables rows.new marks.new pins.new pinmarks.new book.new classes.new) out.new ≡ piece_outcome ended (tables rows.old marks.old pins.old pinmarks.old book.old classes.old) input.now out.old }
-{
-    let mut guide = [0; guide::references::SIZE];
-    let mut pinguide = [0; guide::pins::SIZE];
-    guide::references::fill(rows, marks, &mut guide);
-    guide::pins::fill(pins, pinmarks, &mut pinguide);
     let mut touched = 0;
     let mut way = start(input, ended, out.len());
     // No range counts the lines: where the next one ends shows once this one is heard.
     while way.at < way.to {
         let at = way.at;
         let to = way.to;
-        let answer = step::step(
-            &input[at..to],
-            rows,
-            marks,
-            &mut guide,
-            pins,
-            pinmarks,
-            &mut pinguide,
-            book,
-            classes,
-            &mut touched,
-        );
+        let answer = step::step(lent, &input[at..to], &mut touched);
         way = heard(way, answer, input, ended, out);
     }
     how_far(way)
 }
+
+// The tables refuse the next line, if there is one.
+fn run_refused(input: &[u8], ended: bool, size: usize, refusal: Refusal) -> Passed
+    ensures { (T : Tables) (out : List ℕ) → passes (by_tables T) ≡ Err refusal → length out ≡ size → leaves result T out ≡ piece_outcome ended T input.now out }
+{
+    let way = start(input, ended, size);
+    if way.to <= way.at {
+        return how_far(way);
+    }
+    how_far(stopped(way, Stop::Refused(refusal)))
+}
+
+// Guides of all rows, which are filled from nothing.
+fn fill(lent: &Lent, guide: &mut [u64], pinguide: &mut [u64])
+    ensures references { guide.new ≡ filled (tables_of lent.now).references guide.old (room references (tables_of lent.now).references) }
+    ensures pins { pinguide.new ≡ pin_filled (tables_of lent.now).pins pinguide.old (room pins (tables_of lent.now).pins) }
+{
+    guide::references::fill(lent.rows, lent.marks, guide);
+    guide::pins::fill(lent.pins, lent.pinmarks, pinguide);
+}
+
+// By guides that are filled first.
+fn run_by_guides(lent: &mut Lent, input: &[u8], ended: bool, out: &mut [u8]) -> Passed
+    requires { by_tables (tables_of lent.old) ≡ 0 }
+    ensures outcome { leaves result (tables_of lent.new) out.new ≡ piece_outcome ended (tables_of lent.old) input.now out.old }
+    ensures same { Same lent.new lent.old }
+{
+    let mut guide = [0; guide::references::SIZE];
+    let mut pinguide = [0; guide::pins::SIZE];
+    fill(lent, &mut guide, &mut pinguide);
+    let mut guided = Lent {
+        rows: lent.rows,
+        marks: lent.marks,
+        guide: &mut guide,
+        pins: lent.pins,
+        pinmarks: lent.pinmarks,
+        pinguide: &mut pinguide,
+        book: lent.book,
+        classes: lent.classes,
+    };
+    run_on(&mut guided, input, ended, out)
+}
+
+// A piece of fewer bytes than this is judged by scans: guides would take longer to fill than to serve.
+const SHORT: usize = 4096;
 
 // Judges the lines of a piece of the input, behind which it may have ended, and puts their findings at the front of `out`.
 // It stops before a line that is refused, and before one whose findings may have no room.
@@ -245,12 +225,21 @@ pub fn run_lines(
 ) -> Passed
     ensures { leaves result (tables rows.new marks.new pins.new pinmarks.new book.new classes.new) out.new ≡ piece_outcome ended (tables rows.old marks.old pins.old pinmarks.old book.old classes.old) input.now out.old }
 {
-    if is_scanned(input.len(), book, classes) {
-        return run_by_scans(
-            input, ended, rows, marks, pins, pinmarks, book, classes, out,
-        );
+    if let Err(refusal) = judge::allows(book, classes) {
+        return run_refused(input, ended, out.len(), refusal);
     }
-    run_by_guides(
-        input, ended, rows, marks, pins, pinmarks, book, classes, out,
-    )
+    let mut lent = Lent {
+        rows,
+        marks,
+        guide: &mut [],
+        pins,
+        pinmarks,
+        pinguide: &mut [],
+        book,
+        classes,
+    };
+    if input.len() < SHORT {
+        return run_on(&mut lent, input, ended, out);
+    }
+    run_by_guides(&mut lent, input, ended, out)
 }

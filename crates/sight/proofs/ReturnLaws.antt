@@ -11,28 +11,21 @@ use Rattle.facts.specs.Table.{fact_of}
 use Rattle.facts.specs.Results.{is_local_result, is_handle_result, is_buffer_result}
 use Rattle.facts.specs.declared.Result.{Result}
 use Rattle.lines.proofs.Tests.{and_true, and_false}
-use Rattle.rows.specs.Table.{Table, table, room, free_row}
+use Rattle.rows.specs.Table.{Table, room, free_row}
 use Rattle.rows.specs.References.{references}
 use Rattle.rows.specs.Pins.{pins}
-use Rattle.history.specs.Handles.{in_frame, is_local, is_shared}
+use Rattle.history.specs.Handles.{in_frame}
 use Rattle.book.specs.Threads.{thread_in, top_capacity}
-use Rattle.tables.specs.Tables.{Tables, tables, handles_in}
+use Rattle.tables.specs.Tables.{Tables, handles_in}
 use Rattle.sight.specs.declared.returns.Made.{Made}
 use Rattle.sight.specs.Returns.{is_alive_as, nothing_made, handle_made, buffer_made, made_sight, over_capacity, overflows_in, return_sight}
 
 -- ---- what is made
 
-module _ (R : Table) (l : Bool) (t h : ℕ) (b : Bool) where
-  pub local_as : l ≡ true → b ≡ ltb 0 (handles_in R (is_local t h)) → b ≡ is_alive_as l R t h
-  local_as e q = rw e q
-
-  pub shared_as : l ≡ false → b ≡ ltb 0 (handles_in R (is_shared h)) → b ≡ is_alive_as l R t h
-  shared_as e q = rw e q
-
-  pub handle_seen : (r n : ℕ) → b ≡ is_alive_as l R t h → r ≡ free_row references R → n ≡ room references R
-      → record { alive = b; row = r; fits = ltb r n } ≡ handle_made l R t h
-  unfolding handle_made
-  handle_seen r n eb er en i = record { alive = eb i; row = er i; fits = ap₂ ltb er en i }
+pub handle_seen : (R : Table) (l : Bool) (t h : ℕ) (b : Bool) (r n : ℕ) → b ≡ is_alive_as l R t h → r ≡ free_row references R → n ≡ room references R
+    → record { alive = b; row = r; fits = ltb r n } ≡ handle_made l R t h
+unfolding handle_made
+handle_seen R l t h b r n eb er en i = record { alive = eb i; row = er i; fits = ap₂ ltb er en i }
 
 pub buffer_seen : (P : Table) (r n : ℕ) → r ≡ free_row pins P → n ≡ room pins P → record { alive = false; row = r; fits = ltb r n } ≡ buffer_made P
 unfolding buffer_made
@@ -75,16 +68,16 @@ module _ (R : Table) (b : List ℕ) (k : Result) (t h : ℕ) (l : Bool) (e : l �
 
 -- ---- all of it
 
-pub return_seen : (rs ms ps ns d cs : List ℕ) (t f h : ℕ) (k : Result) (m : Made) (n : ℕ) (o : Bool) → k ≡ (fact_of f).result
-    → m ≡ made_sight (table rs ms) (table ps ns) k t h → n ≡ length (thread_in d t).frames → o ≡ overflows_in (table rs ms) d k t h
-    → record { kind = k; made = m; frames = n; over = o } ≡ return_sight (tables rs ms ps ns d cs) t f h
+pub return_seen : (T : Tables) (t f h : ℕ) (k : Result) (m : Made) (n : ℕ) (o : Bool) → k ≡ (fact_of f).result
+    → m ≡ made_sight T.references T.pins k t h → n ≡ length (thread_in T.book t).frames → o ≡ overflows_in T.references T.book k t h
+    → record { kind = k; made = m; frames = n; over = o } ≡ return_sight T t f h
 unfolding return_sight
-return_seen rs ms ps ns d cs t f h k m n o ek em en eo i =
+return_seen T t f h k m n o ek em en eo i =
     record {
       kind = ek i;
-      made = (em ∙ ap (λ (x : Result). made_sight (table rs ms) (table ps ns) x t h) ek) i;
+      made = (em ∙ ap (λ (x : Result). made_sight T.references T.pins x t h) ek) i;
       frames = en i;
-      over = (eo ∙ ap (λ (x : Result). overflows_in (table rs ms) d x t h) ek) i;
+      over = (eo ∙ ap (λ (x : Result). overflows_in T.references T.book x t h) ek) i;
     }
 
 -- the row of the result is the lowest free one of its table

@@ -10,7 +10,7 @@ use Rattle.words.specs.Lists.{sum}
 use Rattle.facts.specs.Classes.{no_class}
 use Rattle.facts.specs.Places.{places_of}
 use Rattle.facts.specs.declared.places.Places.{Places}
-use Rattle.rows.specs.Table.{Table, table, room, alive, most}
+use Rattle.rows.specs.Table.{Table, room, alive, most}
 use Rattle.rows.specs.References.{references}
 use Rattle.rows.specs.Pins.{pins}
 use Rattle.history.specs.Frames.{top_pushed}
@@ -24,21 +24,20 @@ use Rattle.history.specs.Breaches.{in_critical}
 use Rattle.classes.specs.Supers.{super_in}
 use Rattle.classes.specs.Identities.{identity_room, place_of}
 use Rattle.book.specs.Threads.{thread_in, env_elsewhere, all_monitors}
-use Rattle.tables.specs.Tables.{tables, alive_of, handles_in, buffers_in, seen_in}
-use Rattle.tables.proofs.RowCounts.{alive_most, counted_all, counted_most}
+use Rattle.tables.specs.Tables.{Tables, alive_of, handles_in, buffers_in, seen_in}
+use Rattle.tables.proofs.RowCounts.{counted_all, counted_most}
 use Rattle.sight.specs.declared.spot.Spot.{Spot}
 use Rattle.sight.specs.Spots.{handle_spot, place_spot}
 use Rattle.sight.specs.Sights.{call_sight, leave_sight, some_alive, enter_sight, detach_sight, end_sight, declare_sight, state_sight, identify_sight}
 
 -- ---- C and X
 
-module _ (rs ms ps ns d cs : List ℕ) (t : ℕ) where
+module _ (T : Tables) (t : ℕ) where
   pub call_seen : (f a b c own thrown held : ℕ) (pushed region : Bool) (at : Places) (x y z : Spot)
-      → own ≡ (thread_in d t).env → thrown ≡ (thread_in d t).pending → held ≡ (thread_in d t).monitors → pushed ≡ top_pushed (thread_in d t).frames
-      → region ≡ ltb 0 (buffers_in (table ps ns) (critical_of t)) → at ≡ places_of f
-      → ((e : List ℕ) → x ≡ place_spot at.first at.a (tables rs ms ps ns e cs) t f a) → ((e : List ℕ) → y ≡ place_spot at.second at.b (tables rs ms ps ns e cs) t f b)
-      → ((e : List ℕ) → z ≡ place_spot no_class at.c (tables rs ms ps ns e cs) t f c)
-      → record { env = own; pending = thrown; monitors = held; pushed = pushed; critical = region; pa = at.a; pb = at.b; pc = at.c; a = x; b = y; c = z } ≡ call_sight (tables rs ms ps ns d cs) t f a b c
+      → own ≡ (thread_in T.book t).env → thrown ≡ (thread_in T.book t).pending → held ≡ (thread_in T.book t).monitors → pushed ≡ top_pushed (thread_in T.book t).frames
+      → region ≡ ltb 0 (buffers_in T.pins (critical_of t)) → at ≡ places_of f
+      → x ≡ place_spot at.first at.a T t f a → y ≡ place_spot at.second at.b T t f b → z ≡ place_spot no_class at.c T t f c
+      → record { env = own; pending = thrown; monitors = held; pushed = pushed; critical = region; pa = at.a; pb = at.b; pc = at.c; a = x; b = y; c = z } ≡ call_sight T t f a b c
   unfolding call_sight seen_in in_critical
   call_seen f a b c own thrown held pushed region at x y z eo et eh ed er ep ex ey ez i =
       record {
@@ -50,33 +49,29 @@ module _ (rs ms ps ns d cs : List ℕ) (t : ℕ) where
         pa = (ep i).a;
         pb = (ep i).b;
         pc = (ep i).c;
-        a = (ex d ∙ ap (λ (p : Places). place_spot p.first p.a (tables rs ms ps ns d cs) t f a) ep) i;
-        b = (ey d ∙ ap (λ (p : Places). place_spot p.second p.b (tables rs ms ps ns d cs) t f b) ep) i;
-        c = (ez d ∙ ap (λ (p : Places). place_spot no_class p.c (tables rs ms ps ns d cs) t f c) ep) i;
+        a = (ex ∙ ap (λ (p : Places). place_spot p.first p.a T t f a) ep) i;
+        b = (ey ∙ ap (λ (p : Places). place_spot p.second p.b T t f b) ep) i;
+        c = (ez ∙ ap (λ (p : Places). place_spot no_class p.c T t f c) ep) i;
       }
 
-  pub leave_seen : (r : ℕ) (region : Bool) (x : Spot) → region ≡ ltb 0 (buffers_in (table ps ns) (critical_of t)) → ((qs os e ks : List ℕ) → x ≡ handle_spot no_class (tables rs ms qs os e ks) t r)
-      → record { critical = region; result = x } ≡ leave_sight (tables rs ms ps ns d cs) t r
+  pub leave_seen : (r : ℕ) (region : Bool) (x : Spot) → region ≡ ltb 0 (buffers_in T.pins (critical_of t)) → x ≡ handle_spot no_class T t r
+      → record { critical = region; result = x } ≡ leave_sight T t r
   unfolding leave_sight seen_in in_critical
-  leave_seen r region x er ex i = record { critical = er i; result = ex ps ns d cs i }
+  leave_seen r region x er ex i = record { critical = er i; result = ex i }
 
-  pub detach_seen : (region : Bool) (held : ℕ) → region ≡ ltb 0 (buffers_in (table ps ns) (critical_of t)) → held ≡ (thread_in d t).monitors
-      → record { critical = region; monitors = held } ≡ detach_sight (tables rs ms ps ns d cs) t
+  pub detach_seen : (region : Bool) (held : ℕ) → region ≡ ltb 0 (buffers_in T.pins (critical_of t)) → held ≡ (thread_in T.book t).monitors
+      → record { critical = region; monitors = held } ≡ detach_sight T t
   unfolding detach_sight seen_in in_critical
   detach_seen region held er eh i = record { critical = er i; monitors = eh i }
 
   -- ---- N
 
-  pub enter_seen : (env : ℕ) (hs : List ℕ) (own : ℕ) (other live : Bool) (n k f : ℕ) → own ≡ (thread_in d t).env → other ≡ env_elsewhere d t env
-      → live ≡ some_alive (table rs ms) t hs → n ≡ room references (table rs ms) → k ≡ alive references (table rs ms) → f ≡ length (thread_in d t).frames
-      → record { env = own; elsewhere = other; alive = live; free = n - k; frames = f } ≡ enter_sight (tables rs ms ps ns d cs) t env hs
+  pub enter_seen : (env : ℕ) (hs : List ℕ) (own : ℕ) (other live : Bool) (n k r f : ℕ) → own ≡ (thread_in T.book t).env → other ≡ env_elsewhere T.book t env
+      → live ≡ some_alive T.references t hs → n ≡ room references T.references → k ≡ alive references T.references → r ≡ n - k → f ≡ length (thread_in T.book t).frames
+      → record { env = own; elsewhere = other; alive = live; free = r; frames = f } ≡ enter_sight T t env hs
   unfolding enter_sight seen_in
-  enter_seen env hs own other live n k f eo ee el en ek ef i =
-      record { env = eo i; elsewhere = ee i; alive = el i; free = ap₂ ◌-◌ en ek i; frames = ef i }
-
--- the rows used are within the room
-pub rows_within : (R : Table) (n k : ℕ) → n ≡ room references R → k ≡ alive references R → k ≤ n
-rows_within R n k en ek = omega (arith, en, ek, alive_most references R)
+  enter_seen env hs own other live n k r f eo ee el en ek er ef i =
+      record { env = eo i; elsewhere = ee i; alive = el i; free = (er ∙ ap₂ ◌-◌ en ek) i; frames = ef i }
 
 -- ---- Z
 
@@ -99,25 +94,25 @@ pub monitors_le : (b : List ℕ) (k : ℕ) → k ≡ all_monitors b → k ≤ mo
 unfolding all_monitors
 monitors_le b k e = omega (arith, e, sum_most (λ (t : ℕ). min (thread_in b t).monitors most_lines) all_threads (λ t. omega arith))
 
-pub end_seen : (rs ms ps ns d cs : List ℕ) (x y z : ℕ) → x ≡ buffers_in (table ps ns) everything → y ≡ all_monitors d → z ≡ handles_in (table rs ms) global_or_weak
-    → record { buffers = x; monitors = y; handles = z } ≡ end_sight (tables rs ms ps ns d cs)
+pub end_seen : (T : Tables) (x y z : ℕ) → x ≡ buffers_in T.pins everything → y ≡ all_monitors T.book → z ≡ handles_in T.references global_or_weak
+    → record { buffers = x; monitors = y; handles = z } ≡ end_sight T
 unfolding end_sight seen_in
-end_seen rs ms ps ns d cs x y z ex ey ez i = record { buffers = ex i; monitors = ey i; handles = ez i }
+end_seen T x y z ex ey ez i = record { buffers = ex i; monitors = ey i; handles = ez i }
 
 -- ---- K and O
 
-module _ (rs ms ps ns d cs : List ℕ) where
-  pub declare_seen : (c s : ℕ) (x y : Bool) → x ≡ is_known (super_in cs) c → y ≡ is_known (super_in cs) s
-      → record { known = x; under = y } ≡ declare_sight (tables rs ms ps ns d cs) c s
+module _ (T : Tables) where
+  pub declare_seen : (c s : ℕ) (x y : Bool) → x ≡ is_known (super_in T.classes) c → y ≡ is_known (super_in T.classes) s
+      → record { known = x; under = y } ≡ declare_sight T c s
   unfolding declare_sight seen_in
   declare_seen c s x y ex ey i = record { known = ex i; under = ey i }
 
-  pub state_seen : (t h c : ℕ) (x : Bool) (y : Spot) → x ≡ is_known (super_in cs) c → ((qs os e ks : List ℕ) → y ≡ handle_spot no_class (tables rs ms qs os e ks) t h)
-      → record { known = x; alive = y.there; row = y.row } ≡ state_sight (tables rs ms ps ns d cs) t h c
+  pub state_seen : (t h c : ℕ) (x : Bool) (y : Spot) → x ≡ is_known (super_in T.classes) c → y ≡ handle_spot no_class T t h
+      → record { known = x; alive = y.there; row = y.row } ≡ state_sight T t h c
   unfolding state_sight handle_spot seen_in
-  state_seen t h c x y ex ey i = record { known = ex i; alive = (ey ps ns d cs i).there; row = (ey ps ns d cs i).row }
+  state_seen t h c x y ex ey i = record { known = ex i; alive = (ey i).there; row = (ey i).row }
 
-  pub identify_seen : (x c k n : ℕ) (q : Bool) → q ≡ is_known (super_in cs) c → k ≡ place_of cs x → n ≡ identity_room cs
-      → record { known = q; place = k; fits = ltb k n } ≡ identify_sight (tables rs ms ps ns d cs) x c
+  pub identify_seen : (x c k n : ℕ) (q : Bool) → q ≡ is_known (super_in T.classes) c → k ≡ place_of T.classes x → n ≡ identity_room T.classes
+      → record { known = q; place = k; fits = ltb k n } ≡ identify_sight T x c
   unfolding identify_sight seen_in
   identify_seen x c k n q eq ek en i = record { known = eq i; place = ek i; fits = ltb (ek i) (en i) }

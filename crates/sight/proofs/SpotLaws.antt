@@ -2,7 +2,6 @@
 use Prim.Native.Nat.{ℕ, ◌%◌}
 use mathlib.Core.Path.{◌≡◌, refl, sym, ap, ap₂, ◌∙◌}
 use mathlib.Core.Bool.{Bool, true, false, not, ◌&&◌, ◌||◌, false≢true}
-use mathlib.Core.List.{List}
 use native.Mathlib.Decide.{ℕ_discrete}
 use borrow.Author.Tests.{eq-eqb, ne_eqb, not-true, not-false}
 use lib.Dec.{eqb, ltb}
@@ -15,7 +14,7 @@ use Rattle.facts.specs.declared.identities.Wanted.{Wanted}
 use Rattle.facts.specs.declared.Place.{Place}
 use Rattle.lines.specs.Line.{kind}
 use Rattle.lines.proofs.Tests.{neither, or_true}
-use Rattle.rows.specs.Table.{Table, table, room, found}
+use Rattle.rows.specs.Table.{Table, room, found}
 use Rattle.rows.specs.References.{references, is_handle, class_at}
 use Rattle.rows.specs.Pins.{pins, is_buffer}
 use Rattle.history.specs.Handles.{is_local, is_shared}
@@ -26,9 +25,10 @@ use Rattle.history.specs.Breaches.{is_there}
 use Rattle.history.specs.declared.Identity.{Identity}
 use Rattle.classes.specs.Supers.{super_in}
 use Rattle.classes.specs.Identities.{identity_in}
-use Rattle.tables.specs.Tables.{Tables, tables, handles_in, buffers_in, class_in, seen_in}
+use Rattle.tables.specs.Tables.{Tables, handles_in, buffers_in, class_in, seen_in}
 use Rattle.tables.proofs.Sights.{local_found, no_local_found, shared_found, no_handle_class, local_class, no_local_class, shared_class, own_found, no_own_found, ordinary_found}
 use Rattle.sight.specs.declared.spot.Spot.{Spot}
+use Rattle.sight.specs.Returns.{is_alive_as}
 use Rattle.sight.specs.Spots.{spot, nowhere, local_spot, shared_spot, handle_row, class_here, handle_spot, buffer_spot, identity_spot, place_row, place_fits, place_spot}
 
 -- thread 0 has nothing of its own
@@ -41,31 +41,60 @@ of_own t b d some none = go (ℕ_discrete t 0)
 
 -- ---- a handle
 
-module _ (rs ms : List ℕ) (t h r n : ℕ) (en : n ≡ room references (table rs ms)) (ps ns b cs : List ℕ) where
-  pub local_at : r ≡ found references (is_handle t h) (table rs ms) → spot (not (eqb t 0) && ltb r n) r true ≡ local_spot (tables rs ms ps ns b cs) t h
-  unfolding local_spot seen_in
-  local_at er i =
-      spot
-      (of_own t (ltb r n) (ltb 0 (handles_in (table rs ms) (is_local t h))) (λ z. local_found (table rs ms) t h r n z er en) (no_local_found (table rs ms) t h) i)
-      (er i)
-      true
+module _ (T : Tables) (t h : ℕ) where
+  -- a local of the thread, or a global or weak
+  abbrev looked_up : Bool → Spot
+  looked_up l = if_true l then local_spot T t h else shared_spot T h
 
-  pub shared_at : r ≡ found references (is_handle 0 h) (table rs ms) → spot (ltb r n) r true ≡ shared_spot (tables rs ms ps ns b cs) h
-  unfolding shared_spot seen_in
-  shared_at er i = spot (shared_found (table rs ms) h r n er en i) (er i) true
+  module _ (r n : ℕ) (en : n ≡ room references T.references) where
+    local_at : r ≡ found references (is_handle t h) T.references → spot (not (eqb t 0) && ltb r n) r true ≡ local_spot T t h
+    unfolding local_spot seen_in
+    local_at er i =
+        spot
+        (of_own t (ltb r n) (ltb 0 (handles_in T.references (is_local t h))) (λ z. local_found T.references t h r n z er en) (no_local_found T.references t h) i)
+        (er i)
+        true
+
+    shared_at : r ≡ found references (is_handle 0 h) T.references → spot (ltb r n) r true ≡ shared_spot T h
+    unfolding shared_spot seen_in
+    shared_at er i = spot (shared_found T.references h r n er en i) (er i) true
+
+    -- the row was looked up in thread u
+    module _ (l : Bool) (u : ℕ) (er : r ≡ found references (is_handle u h) T.references) where
+      owned : (v : ℕ) → u ≡ v → r ≡ found references (is_handle v h) T.references
+      owned v q = er ∙ ap (λ (w : ℕ). found references (is_handle w h) T.references) q
+
+      pub local_looked_up : l ≡ true → u ≡ t → spot ((not l || not (eqb t 0)) && ltb r n) r true ≡ looked_up l
+      local_looked_up y q = rw y (local_at (owned t q))
+
+      pub shared_looked_up : l ≡ false → u ≡ 0 → spot ((not l || not (eqb t 0)) && ltb r n) r true ≡ looked_up l
+      shared_looked_up y q = rw y (shared_at (owned 0 q))
+
+  -- what was looked up is there where it is alive
+  pub there_as : (l : Bool) (x : Spot) → x ≡ looked_up l → x.there ≡ is_alive_as l T.references t h
+  unfolding local_spot shared_spot seen_in
+  there_as true x e i = (e i).there
+  there_as false x e i = (e i).there
 
 module _ (T : Tables) (t h : ℕ) (x : Spot) where
   pub no_handle_at : h % 4 ≡ 0 → x ≡ nowhere → x ≡ handle_spot no_class T t h
   unfolding handle_spot handle_alive handle_row class_fits
   no_handle_at e p = rw (eq-eqb (h % 4) 0 e) p
 
-  pub local_handle_at : (h % 4 ≡ 0 → ⊥) → h % 4 ≡ 1 → x ≡ local_spot T t h → x ≡ handle_spot no_class T t h
+  local_handle_at : (h % 4 ≡ 0 → ⊥) → h % 4 ≡ 1 → x ≡ local_spot T t h → x ≡ handle_spot no_class T t h
   unfolding handle_spot handle_alive handle_row class_fits local_spot
   local_handle_at z e p = rw (ne_eqb (h % 4) 0 z, eq-eqb (h % 4) 1 e) p
 
-  pub shared_handle_at : (h % 4 ≡ 0 → ⊥) → (h % 4 ≡ 1 → ⊥) → x ≡ shared_spot T h → x ≡ handle_spot no_class T t h
+  shared_handle_at : (h % 4 ≡ 0 → ⊥) → (h % 4 ≡ 1 → ⊥) → x ≡ shared_spot T h → x ≡ handle_spot no_class T t h
   unfolding handle_spot handle_alive handle_row class_fits shared_spot
   shared_handle_at z e p = rw (ne_eqb (h % 4) 0 z, ne_eqb (h % 4) 1 e) p
+
+  pub other_handle_at : (h % 4 ≡ 0 → ⊥) → x ≡ looked_up T t h (eqb (h % 4) 1) → x ≡ handle_spot no_class T t h
+  other_handle_at z = go (ℕ_discrete (h % 4) 1)
+    where
+      go : Dec (h % 4 ≡ 1) → x ≡ looked_up T t h (eqb (h % 4) 1) → x ≡ handle_spot no_class T t h
+      go (yes e) = rw (eq-eqb (h % 4) 1 e) (local_handle_at z e)
+      go (no n) = rw (ne_eqb (h % 4) 1 n) (shared_handle_at z n)
 
 -- ---- the class stated of it
 
@@ -134,32 +163,32 @@ module _ (T : Tables) (fixed t h : ℕ) (x : Spot) (e : x ≡ handle_spot no_cla
 
 -- ---- a buffer
 
-module _ (ps ns : List ℕ) (t f b k r n : ℕ) (e : k ≡ family f) (o : Bool) (i : o ≡ is_critical k) (en : n ≡ room pins (table ps ns)) (rs ms d cs : List ℕ) where
-  owner : (u : ℕ) → u ≡ (if_true is_critical k then t else 0) → r ≡ found pins (is_buffer u k b) (table ps ns)
-      → r ≡ found pins (is_buffer (if_true is_critical (family f) then t else 0) (family f) b) (table ps ns)
+module _ (T : Tables) (t f b k r n : ℕ) (e : k ≡ family f) (o : Bool) (i : o ≡ is_critical k) (en : n ≡ room pins T.pins) where
+  owner : (u : ℕ) → u ≡ (if_true is_critical k then t else 0) → r ≡ found pins (is_buffer u k b) T.pins
+      → r ≡ found pins (is_buffer (if_true is_critical (family f) then t else 0) (family f) b) T.pins
   owner u q er =
-      er ∙ ap (λ (v : ℕ). found pins (is_buffer v k b) (table ps ns)) q
-      ∙ ap (λ (j : ℕ). found pins (is_buffer (if_true is_critical j then t else 0) j b) (table ps ns)) e
+      er ∙ ap (λ (v : ℕ). found pins (is_buffer v k b) T.pins) q
+      ∙ ap (λ (j : ℕ). found pins (is_buffer (if_true is_critical j then t else 0) j b) T.pins) e
 
-  pub own_at : o ≡ true → r ≡ found pins (is_buffer t k b) (table ps ns) → spot (not (eqb t 0) && ltb r n) r true ≡ buffer_spot (tables rs ms ps ns d cs) t f b
+  pub own_at : o ≡ true → r ≡ found pins (is_buffer t k b) T.pins → spot (not (eqb t 0) && ltb r n) r true ≡ buffer_spot T t f b
   unfolding buffer_spot seen_in
   own_at c er j =
       spot
-      (of_own t (ltb r n) (ltb 0 (buffers_in (table ps ns) (same_pin (pin t f b)))) (λ z. own_found (table ps ns) t f b k r n e o i c z er en) (no_own_found (table ps ns) t f b k r n e o i c) j)
+      (of_own t (ltb r n) (ltb 0 (buffers_in T.pins (same_pin (pin t f b)))) (λ z. own_found T.pins t f b k r n e o i c z er en) (no_own_found T.pins t f b k r n e o i c) j)
       (owner t (rw (sym i ∙ c) refl) er j)
       true
 
-  pub ordinary_at : o ≡ false → r ≡ found pins (is_buffer 0 k b) (table ps ns) → spot (ltb r n) r true ≡ buffer_spot (tables rs ms ps ns d cs) t f b
+  pub ordinary_at : o ≡ false → r ≡ found pins (is_buffer 0 k b) T.pins → spot (ltb r n) r true ≡ buffer_spot T t f b
   unfolding buffer_spot seen_in
-  ordinary_at c er j = spot (ordinary_found (table ps ns) t f b k r n e o i c er en j) (owner 0 (rw (sym i ∙ c) refl) er j) true
+  ordinary_at c er j = spot (ordinary_found T.pins t f b k r n e o i c er en j) (owner 0 (rw (sym i ∙ c) refl) er j) true
 
 -- ---- an identity
 
-pub identity_at : (rs ms ps ns b cs : List ℕ) (f x : ℕ) (i : Identity) (w : Wanted) (there writes : Bool) → i ≡ identity_in cs x → w ≡ wanted_of f
+pub identity_at : (T : Tables) (f x : ℕ) (i : Identity) (w : Wanted) (there writes : Bool) → i ≡ identity_in T.classes x → w ≡ wanted_of f
     → there ≡ suits w i.sort i.isstatic → writes ≡ writes_field f
-    → spot there 0 (not (writes && eqb i.isfinal 1)) ≡ identity_spot (tables rs ms ps ns b cs) f x
+    → spot there 0 (not (writes && eqb i.isfinal 1)) ≡ identity_spot T f x
 unfolding identity_spot seen_in
-identity_at rs ms ps ns b cs f x i w there writes ei ew et er j =
+identity_at T f x i w there writes ei ew et er j =
     spot ((et ∙ ap₂ (λ (v : Wanted) (y : Identity). suits v y.sort y.isstatic) ew ei) j) 0 (not (er j && eqb (ei j).isfinal 1))
 
 -- ---- by the place

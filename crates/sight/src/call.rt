@@ -1,16 +1,13 @@
 // C: what its findings look at, and the rows that it may end.
 ghost use Rattle.std.specs.Prelude.{◌≡◌};
-ghost use Rattle.rows.specs.Table.{table};
-ghost use Rattle.guide.specs.References.{Leads};
-ghost use Rattle.guide.specs.Pins.{Leads as PinLeads};
-ghost use Rattle.tables.specs.Tables.{tables};
+ghost use Rattle.tables.specs.Lent.{tables_of, Led};
 ghost use Rattle.sight.specs.Sights.{call_sight};
 
 use crate::seen::in_critical;
 use crate::spot::{Spot, place};
 use facts::Place;
 use facts::classes::NO_CLASS;
-use rows::Number;
+use tables::Lent;
 use words::Handle;
 
 #[derive(Clone, Copy)]
@@ -28,42 +25,21 @@ pub struct CallSight {
     pub c: Spot,
 }
 
-pub fn call(
-    rows: &[Number],
-    marks: &[u64],
-    guide: &[u64],
-    pins: &[Number],
-    pinmarks: &[u64],
-    pinguide: &[u64],
-    book: &[u64],
-    classes: &[Number],
-    t: u32,
-    f: u32,
-    a: Handle,
-    b: Handle,
-    c: Handle,
-) -> CallSight
-    requires { Leads (table rows.now marks.now) guide.now × PinLeads (table pins.now pinmarks.now) pinguide.now }
-    ensures { result ≡ call_sight (tables rows.now marks.now pins.now pinmarks.now book.now classes.now) t f a b c }
+pub fn call(lent: &Lent, t: u32, f: u32, a: Handle, b: Handle, c: Handle) -> CallSight
+    ensures { Led lent.now → result ≡ call_sight (tables_of lent.now) t f a b c }
 {
-    let env = book::env_of(book, t);
-    let pending = book::pending_of(book, t);
-    let monitors = book::monitors_of(book, t);
-    let pushed = book::top_pushed(book, t);
-    let critical = in_critical(pins, pinmarks, pinguide, t);
+    let env = book::env_of(lent.book, t);
+    let pending = book::pending_of(lent.book, t);
+    let monitors = book::monitors_of(lent.book, t);
+    let pushed = book::top_pushed(lent.book, t);
+    let critical = in_critical(lent, t);
     let at = facts::places::places_of(f);
     let pa = at.a;
     let pb = at.b;
     let pc = at.c;
-    let at_a = place(
-        rows, marks, guide, pins, pinmarks, pinguide, classes, pa, at.first, t, f, a,
-    );
-    let at_b = place(
-        rows, marks, guide, pins, pinmarks, pinguide, classes, pb, at.second, t, f, b,
-    );
-    let at_c = place(
-        rows, marks, guide, pins, pinmarks, pinguide, classes, pc, NO_CLASS, t, f, c,
-    );
+    let at_a = place(lent, pa, at.first, t, f, a);
+    let at_b = place(lent, pb, at.second, t, f, b);
+    let at_c = place(lent, pc, NO_CLASS, t, f, c);
     CallSight {
         env,
         pending,

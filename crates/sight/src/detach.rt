@@ -1,12 +1,10 @@
 // D: what its findings look at.
-ghost use Rattle.std.specs.Prelude.{◌≡◌, List, ℕ};
-ghost use Rattle.rows.specs.Table.{table};
-ghost use Rattle.guide.specs.Pins.{Leads as PinLeads};
-ghost use Rattle.tables.specs.Tables.{tables};
+ghost use Rattle.std.specs.Prelude.{◌≡◌};
+ghost use Rattle.tables.specs.Lent.{tables_of, Led};
 ghost use Rattle.sight.specs.Sights.{detach_sight};
 
 use crate::seen::in_critical;
-use rows::Number;
+use tables::Lent;
 
 // The thread has a critical buffer outstanding; how many monitors it has.
 #[derive(Clone, Copy)]
@@ -15,17 +13,10 @@ pub struct DetachSight {
     pub monitors: u64,
 }
 
-pub fn detach(
-    pins: &[Number],
-    pinmarks: &[u64],
-    pinguide: &[u64],
-    book: &[u64],
-    t: u32,
-) -> DetachSight
-    requires { PinLeads (table pins.now pinmarks.now) pinguide.now }
-    ensures { (rs ms cs : List ℕ) → result ≡ detach_sight (tables rs ms pins.now pinmarks.now book.now cs) t }
+pub fn detach(lent: &Lent, t: u32) -> DetachSight
+    ensures { Led lent.now → result ≡ detach_sight (tables_of lent.now) t }
 {
-    let critical = in_critical(pins, pinmarks, pinguide, t);
-    let monitors = book::monitors_of(book, t);
+    let critical = in_critical(lent, t);
+    let monitors = book::monitors_of(lent.book, t);
     DetachSight { critical, monitors }
 }

@@ -1,13 +1,13 @@
 // Z: the counts that its findings give.
-ghost use Rattle.std.specs.Prelude.{◌≡◌, List, ℕ};
-ghost use Rattle.rows.specs.Table.{table};
+ghost use Rattle.std.specs.Prelude.{◌≡◌};
 ghost use Rattle.history.specs.Handles.{global_or_weak};
 ghost use Rattle.history.specs.Acceptance.{everything};
 ghost use Rattle.book.specs.Threads.{all_monitors};
-ghost use Rattle.tables.specs.Tables.{tables, handles_in, buffers_in};
+ghost use Rattle.tables.specs.Tables.{handles_in, buffers_in};
+ghost use Rattle.tables.specs.Lent.{tables_of};
 ghost use Rattle.sight.specs.Sights.{end_sight};
 
-use rows::Number;
+use tables::Lent;
 
 #[derive(Clone, Copy)]
 pub struct EndSight {
@@ -17,38 +17,32 @@ pub struct EndSight {
 }
 
 // How many buffers are outstanding.
-fn buffers(pins: &[Number], pinmarks: &[u64]) -> u32
-    ensures { result ≡ buffers_in (table pins.now pinmarks.now) everything }
+fn buffers(lent: &Lent) -> u32
+    ensures { result ≡ buffers_in (tables_of lent.now).pins everything }
 {
-    rows::pins::alive(pins, pinmarks) as u32
+    rows::pins::alive(lent.pins, lent.pinmarks) as u32
 }
 
 // How many monitors all threads have.
-fn monitors(book: &[u64]) -> u32
-    ensures { result ≡ all_monitors book.now }
+fn monitors(lent: &Lent) -> u32
+    ensures { result ≡ all_monitors lent.now.book.now }
 {
-    book::all_monitors(book) as u32
+    book::all_monitors(lent.book) as u32
 }
 
 // How many globals and weaks are alive.
-fn handles(rows: &[Number], marks: &[u64]) -> u32
-    ensures { result ≡ handles_in (table rows.now marks.now) global_or_weak }
+fn handles(lent: &Lent) -> u32
+    ensures { result ≡ handles_in (tables_of lent.now).references global_or_weak }
 {
-    rows::references::globals(rows, marks) as u32
+    rows::references::globals(lent.rows, lent.marks) as u32
 }
 
-pub fn end(
-    rows: &[Number],
-    marks: &[u64],
-    pins: &[Number],
-    pinmarks: &[u64],
-    book: &[u64],
-) -> EndSight
-    ensures { (cs : List ℕ) → result ≡ end_sight (tables rows.now marks.now pins.now pinmarks.now book.now cs) }
+pub fn end(lent: &Lent) -> EndSight
+    ensures { result ≡ end_sight (tables_of lent.now) }
 {
-    let out = buffers(pins, pinmarks);
-    let held = monitors(book);
-    let alive = handles(rows, marks);
+    let out = buffers(lent);
+    let held = monitors(lent);
+    let alive = handles(lent);
     EndSight {
         buffers: out,
         monitors: held,

@@ -1,12 +1,11 @@
 // N: what its refusals look at.
-ghost use Rattle.std.specs.Prelude.{◌≡◌, List, ℕ};
-ghost use Rattle.rows.specs.Table.{table};
-ghost use Rattle.guide.specs.References.{Leads};
-ghost use Rattle.tables.specs.Tables.{tables};
+ghost use Rattle.std.specs.Prelude.{◌≡◌};
+ghost use Rattle.tables.specs.Lent.{tables_of, Led};
 ghost use Rattle.sight.specs.Sights.{some_alive, enter_sight};
 
-use crate::seen::{local_alive, used_rows};
-use rows::Number;
+use crate::seen::used_rows;
+use crate::spot::looked_up;
+use tables::Lent;
 use words::Handle;
 
 // The thread's env, whether another thread has this one, whether a handle named is alive, how many rows are free, and the thread's frames.
@@ -19,36 +18,26 @@ pub struct EnterSight {
     pub frames: u32,
 }
 
-fn some_alive(rows: &[Number], marks: &[u64], guide: &[u64], t: u32, hs: &[Handle]) -> bool
-    requires { Leads (table rows.now marks.now) guide.now }
-    ensures { result ≡ some_alive (table rows.now marks.now) t hs.now }
+fn some_alive(lent: &Lent, t: u32, hs: &[Handle]) -> bool
+    ensures { Led lent.now → result ≡ some_alive (tables_of lent.now).references t hs.now }
 {
-    hs.iter().any(|h| local_alive(rows, marks, guide, t, *h))
+    hs.iter().any(|h| looked_up(lent, true, t, *h).there)
 }
 
-pub fn enter(
-    rows: &[Number],
-    marks: &[u64],
-    guide: &[u64],
-    book: &[u64],
-    t: u32,
-    env: Handle,
-    hs: &[Handle],
-) -> EnterSight
-    requires { Leads (table rows.now marks.now) guide.now }
-    ensures { (ps ns cs : List ℕ) → result ≡ enter_sight (tables rows.now marks.now ps ns book.now cs) t env hs.now }
+pub fn enter(lent: &Lent, t: u32, env: Handle, hs: &[Handle]) -> EnterSight
+    ensures { Led lent.now → result ≡ enter_sight (tables_of lent.now) t env hs.now }
 {
-    let own = book::env_of(book, t);
-    let elsewhere = book::env_elsewhere(book, t, env);
-    let alive = some_alive(rows, marks, guide, t, hs);
-    let room = rows::references::room(rows, marks);
-    let used = used_rows(rows, marks, guide);
-    let frames = book::frames_of(book, t);
+    let own = book::env_of(lent.book, t);
+    let elsewhere = book::env_elsewhere(lent.book, t, env);
+    let alive = some_alive(lent, t, hs);
+    let room = rows::references::room(lent.rows, lent.marks);
+    let used = used_rows(lent);
+    let frames = book::frames_of(lent.book, t);
     EnterSight {
         env: own,
         elsewhere,
         alive,
-        free: room - used,
+        free: room.saturating_sub(used),
         frames,
     }
 }

@@ -1,9 +1,9 @@
 // M: what its refusals look at, and the place of the identity.
-ghost use Rattle.std.specs.Prelude.{◌≡◌, List, ℕ};
-ghost use Rattle.tables.specs.Tables.{tables};
+ghost use Rattle.std.specs.Prelude.{◌≡◌};
+ghost use Rattle.tables.specs.Lent.{tables_of};
 ghost use Rattle.sight.specs.Sights.{identify_sight};
 
-use rows::Number;
+use tables::Lent;
 use words::Handle;
 
 // The class is declared or reserved, the place where the identity stands or can be put, and whether that is one of the room.
@@ -15,12 +15,12 @@ pub struct IdentifySight {
     pub fits: bool,
 }
 
-pub fn identify(classes: &[Number], x: Handle, c: u32) -> IdentifySight
-    ensures { (rs ms ps ns b : List ℕ) → result ≡ identify_sight (tables rs ms ps ns b classes.now) x c }
+pub fn identify(lent: &Lent, x: Handle, c: u32) -> IdentifySight
+    ensures { result ≡ identify_sight (tables_of lent.now) x c }
 {
-    let known = classes::is_known(classes, c);
-    let place = classes::identities::place_of(classes, x);
-    let room = classes::identities::room(classes);
+    let known = classes::is_known(lent.classes, c);
+    let place = classes::identities::place_of(lent.classes, x);
+    let room = classes::identities::room(lent.classes);
     IdentifySight {
         known,
         place,

@@ -1,14 +1,13 @@
 // R: what its refusals and its finding look at, and the row that its result will take.
-ghost use Rattle.std.specs.Prelude.{◌≡◌, List, ℕ};
-ghost use Rattle.rows.specs.Table.{table};
-ghost use Rattle.guide.specs.References.{Leads};
-ghost use Rattle.tables.specs.Tables.{tables};
-ghost use Rattle.sight.specs.Returns.{is_alive_as, nothing_made, handle_made, buffer_made, made_sight, over_capacity, overflows_in, return_sight};
+ghost use Rattle.std.specs.Prelude.{◌≡◌};
+ghost use Rattle.tables.specs.Lent.{tables_of, Led};
+ghost use Rattle.sight.specs.Returns.{nothing_made, handle_made, buffer_made, made_sight, over_capacity, overflows_in, return_sight};
 
-use crate::seen::{alive_in, local_alive, lowest_free, shared_alive};
+use crate::seen::{alive_in, lowest_free};
+use crate::spot::looked_up;
 use facts::Result;
 use facts::results::{is_buffer_result, is_handle_result, is_local_result};
-use rows::Number;
+use tables::Lent;
 use words::Handle;
 
 // What is made: whether it is alive already, the lowest free row of its table, and whether that is one of the room.
@@ -38,49 +37,24 @@ fn nothing_made() -> Made
     }
 }
 
-fn is_alive_as(
-    rows: &[Number],
-    marks: &[u64],
-    guide: &[u64],
-    local: bool,
-    t: u32,
-    h: Handle,
-) -> bool
-    requires { Leads (table rows.now marks.now) guide.now }
-    ensures { result ≡ is_alive_as local (table rows.now marks.now) t h }
+fn handle_made(lent: &Lent, local: bool, t: u32, h: Handle) -> Made
+    ensures { Led lent.now → result ≡ handle_made local (tables_of lent.now).references t h }
 {
-    if local {
-        return local_alive(rows, marks, guide, t, h);
-    }
-    shared_alive(rows, marks, guide, h)
-}
-
-fn handle_made(
-    rows: &[Number],
-    marks: &[u64],
-    guide: &[u64],
-    local: bool,
-    t: u32,
-    h: Handle,
-) -> Made
-    requires { Leads (table rows.now marks.now) guide.now }
-    ensures { result ≡ handle_made local (table rows.now marks.now) t h }
-{
-    let alive = is_alive_as(rows, marks, guide, local, t, h);
-    let row = lowest_free(rows, marks, guide);
-    let room = rows::references::room(rows, marks);
+    let at = looked_up(lent, local, t, h);
+    let row = lowest_free(lent);
+    let room = rows::references::room(lent.rows, lent.marks);
     Made {
-        alive,
+        alive: at.there,
         row,
         fits: row < room,
     }
 }
 
-fn buffer_made(pins: &[Number], pinmarks: &[u64]) -> Made
-    ensures { result ≡ buffer_made (table pins.now pinmarks.now) }
+fn buffer_made(lent: &Lent) -> Made
+    ensures { result ≡ buffer_made (tables_of lent.now).pins }
 {
-    let row = rows::pins::lowest_free(pins, pinmarks);
-    let room = rows::pins::room(pins, pinmarks);
+    let row = rows::pins::lowest_free(lent.pins, lent.pinmarks);
+    let room = rows::pins::room(lent.pins, lent.pinmarks);
     Made {
         alive: false,
         row,
@@ -88,78 +62,47 @@ fn buffer_made(pins: &[Number], pinmarks: &[u64]) -> Made
     }
 }
 
-fn what_is_made(
-    rows: &[Number],
-    marks: &[u64],
-    guide: &[u64],
-    pins: &[Number],
-    pinmarks: &[u64],
-    kind: Result,
-    t: u32,
-    h: Handle,
-) -> Made
-    requires { Leads (table rows.now marks.now) guide.now }
-    ensures { result ≡ made_sight (table rows.now marks.now) (table pins.now pinmarks.now) kind t h }
+fn what_is_made(lent: &Lent, kind: Result, t: u32, h: Handle) -> Made
+    ensures { Led lent.now → result ≡ made_sight (tables_of lent.now).references (tables_of lent.now).pins kind t h }
 {
     if h == 0 {
         return nothing_made();
     }
     if is_handle_result(kind) {
-        return handle_made(rows, marks, guide, is_local_result(kind), t, h);
+        return handle_made(lent, is_local_result(kind), t, h);
     }
     if is_buffer_result(kind) {
-        return buffer_made(pins, pinmarks);
+        return buffer_made(lent);
     }
     nothing_made()
 }
 
 // One local more is more than the top frame's capacity.
-fn over_capacity(rows: &[Number], marks: &[u64], guide: &[u64], book: &[u64], t: u32) -> bool
-    requires { Leads (table rows.now marks.now) guide.now }
-    ensures { result ≡ over_capacity (table rows.now marks.now) book.now t }
+fn over_capacity(lent: &Lent, t: u32) -> bool
+    ensures { Led lent.now → result ≡ over_capacity (tables_of lent.now).references lent.now.book.now t }
 {
-    let d = book::frames_of(book, t);
-    let held = alive_in(rows, marks, guide, t, d) as u64;
-    (0 < d) & (book::top_capacity(book, t) <= held)
+    let d = book::frames_of(lent.book, t);
+    let held = alive_in(lent, t, d) as u64;
+    (0 < d) & (book::top_capacity(lent.book, t) <= held)
 }
 
 // A local that is made is more than the top frame's capacity.
-fn overflows(
-    rows: &[Number],
-    marks: &[u64],
-    guide: &[u64],
-    book: &[u64],
-    kind: Result,
-    t: u32,
-    h: Handle,
-) -> bool
-    requires { Leads (table rows.now marks.now) guide.now }
-    ensures { result ≡ overflows_in (table rows.now marks.now) book.now kind t h }
+fn overflows(lent: &Lent, kind: Result, t: u32, h: Handle) -> bool
+    ensures { Led lent.now → result ≡ overflows_in (tables_of lent.now).references lent.now.book.now kind t h }
 {
     if is_local_result(kind) & (h != 0) {
-        return over_capacity(rows, marks, guide, book, t);
+        return over_capacity(lent, t);
     }
     false
 }
 
-pub fn returns(
-    rows: &[Number],
-    marks: &[u64],
-    guide: &[u64],
-    pins: &[Number],
-    pinmarks: &[u64],
-    book: &[u64],
-    t: u32,
-    f: u32,
-    h: Handle,
-) -> ReturnSight
-    requires { Leads (table rows.now marks.now) guide.now }
-    ensures { (cs : List ℕ) → result ≡ return_sight (tables rows.now marks.now pins.now pinmarks.now book.now cs) t f h }
+pub fn returns(lent: &Lent, t: u32, f: u32, h: Handle) -> ReturnSight
+    ensures { Led lent.now → result ≡ return_sight (tables_of lent.now) t f h }
 {
     let kind = facts::result_of(f);
-    let new = what_is_made(rows, marks, guide, pins, pinmarks, kind, t, h);
-    let frames = book::frames_of(book, t);
-    let over = overflows(rows, marks, guide, book, kind, t, h);
+    let new = what_is_made(lent, kind, t, h);
+    let frames = book::frames_of(lent.book, t);
+    let over = overflows(lent, kind, t, h);
     ReturnSight {
         kind,
         made: new,

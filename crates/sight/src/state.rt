@@ -1,12 +1,10 @@
 // O: what its refusals look at, and the row of the handle.
-ghost use Rattle.std.specs.Prelude.{◌≡◌, List, ℕ};
-ghost use Rattle.rows.specs.Table.{table};
-ghost use Rattle.guide.specs.References.{Leads};
-ghost use Rattle.tables.specs.Tables.{tables};
+ghost use Rattle.std.specs.Prelude.{◌≡◌};
+ghost use Rattle.tables.specs.Lent.{tables_of, Led};
 ghost use Rattle.sight.specs.Sights.{state_sight};
 
 use crate::spot::handle;
-use rows::Number;
+use tables::Lent;
 use words::Handle;
 
 // The class is declared or reserved, the handle is alive for the thread, and its row.
@@ -18,20 +16,11 @@ pub struct StateSight {
     pub row: usize,
 }
 
-pub fn state(
-    rows: &[Number],
-    marks: &[u64],
-    guide: &[u64],
-    classes: &[Number],
-    t: u32,
-    h: Handle,
-    c: u32,
-) -> StateSight
-    requires { Leads (table rows.now marks.now) guide.now }
-    ensures { (ps ns b : List ℕ) → result ≡ state_sight (tables rows.now marks.now ps ns b classes.now) t h c }
+pub fn state(lent: &Lent, t: u32, h: Handle, c: u32) -> StateSight
+    ensures { Led lent.now → result ≡ state_sight (tables_of lent.now) t h c }
 {
-    let known = classes::is_known(classes, c);
-    let at = handle(rows, marks, guide, t, h);
+    let known = classes::is_known(lent.classes, c);
+    let at = handle(lent, t, h);
     StateSight {
         known,
         alive: at.there,

@@ -5,3 +5,7 @@ pub mod Listing
 pub mod Weighing
 pub mod Acting
 pub mod Stepping
+-- computed: events::enter::enter
+pub mod Lent
+-- computed: tables::kept::end_frames
+pub mod Unshown

@@ -1,2 +1,21 @@
-// What the judge does to the lent tables, as definitions. There is no code here.
+// The lent tables, what the judge does to them, as definitions, and their rows kept with their guides.
 #![tactic(auto)]
+
+mod bits;
+pub mod kept;
+pub mod kept_pins;
+
+use rows::Number;
+
+// The lent tables, with the guides of their rows, which are empty where rows are found by scans.
+#[derive(Drop)]
+pub struct Lent<'a> {
+    pub rows: &'a mut [Number],
+    pub marks: &'a mut [u64],
+    pub guide: &'a mut [u64],
+    pub pins: &'a mut [Number],
+    pub pinmarks: &'a mut [u64],
+    pub pinguide: &'a mut [u64],
+    pub book: &'a mut [u64],
+    pub classes: &'a mut [Number],
+}

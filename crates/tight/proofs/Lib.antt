@@ -11,6 +11,7 @@ pub mod Classes
 pub mod Book
 pub mod Answers
 pub mod Report
+pub mod Tables
 pub mod Sight
 pub mod Weigh
 pub mod Act

@@ -1,13 +1,19 @@
 -- From what a promise says of two outcomes of a call, to that they are one: a law for each shape of promise. Assumes nothing.
 -- Where a parameter is not lent to be written it leaves nothing, here x's: so the right-hand side of a law is y itself at each function that cites the law.
 use Prim.Native.Nat.{ℕ}
-use mathlib.Core.Path.{◌≡◌, sym, ap, ap₂, ◌∙◌}
-use mathlib.Core.List.{List}
+use mathlib.Core.Path.{◌≡◌, refl, sym, ap, ap₂, ◌∙◌}
+use mathlib.Core.List.{List, [], ◌∷◌}
+use native.Mathlib.Omega.{arith}
+use lib.ListN.{length}
 use Rattle.std.specs.Prelude.{Option}
 use Rattle.numbers.specs.Writing.{Puts}
 use Rattle.rows.specs.Table.{Table, table}
 use Rattle.tables.specs.Tables.{Tables, tables}
-use Rattle.tight.specs.Tight.{Given, given}
+use Rattle.tables.specs.declared.Lent.{Lent}
+use Rattle.tables.specs.Lent.{tables_of, Same, Unguided}
+use Rattle.answers.specs.Answer.{Answer}
+use Rattle.events.specs.Outcome.{Outcome, leaves}
+use Rattle.tight.specs.Tight.{Given, given, held_of}
 
 -- a whole that is made of one part
 pub by : {Part Whole : Type 0} (make : Part → Whole) {v a b : Part} → a ≡ v → b ≡ v → make a ≡ make b
@@ -69,17 +75,25 @@ pub by_tables : {Reply Rest : Type 0} {T : Tables} (x y : Given Reply (List ℕ 
     → x ≡ given x.reply (y.left.0, (y.left.1.0, (y.left.1.1.0, (y.left.1.1.1.0, (y.left.1.1.1.1.0, (y.left.1.1.1.1.1.0, x.left.1.1.1.1.1.1))))))
 by_tables x y = by (λ (T : Tables). given x.reply (with_tables T x.left.1.1.1.1.1.1))
 
--- ---- the classes stay out of it
+-- ---- what the lent tables hold is said, where they travel as one
 
-pub by_rows_and_book : {Reply Rest : Type 0} {T : Tables} {cs : List ℕ} (x y : Given Reply (List ℕ × (List ℕ × (List ℕ × (List ℕ × (List ℕ × Rest))))))
-    → tables x.left.0 x.left.1.0 x.left.1.1.0 x.left.1.1.1.0 x.left.1.1.1.1.0 cs ≡ T
-    → tables y.left.0 y.left.1.0 y.left.1.1.0 y.left.1.1.1.0 y.left.1.1.1.1.0 cs ≡ T
-    → x ≡ given x.reply (y.left.0, (y.left.1.0, (y.left.1.1.0, (y.left.1.1.1.0, (y.left.1.1.1.1.0, x.left.1.1.1.1.1)))))
-by_rows_and_book x y = by (λ (T : Tables). given x.reply (with_rows_and_book T x.left.1.1.1.1.1))
+pub by_lent : {Reply Rest : Type 0} {T : Tables} (x y : Given Reply (Lent × Rest)) → tables_of x.left.0 ≡ T → tables_of y.left.0 ≡ T
+    → given x.reply (tables_of x.left.0) ≡ given x.reply (tables_of y.left.0)
+by_lent x y = by (given x.reply)
 
--- ---- and the pins
+-- where there are no guides, all that they hold is said
+no_words : (g h : List ℕ) → length g ≡ length h → length h ≡ 0 → g ≡ []
+no_words [] h e z = refl
+no_words (w ∷ g) h e z = absurd (omega (arith, e, z))
 
-pub by_references_and_book : {Reply Rest : Type 0} {T : Tables} {ps ns cs : List ℕ} (x y : Given Reply (List ℕ × (List ℕ × (List ℕ × Rest))))
-    → tables x.left.0 x.left.1.0 ps ns x.left.1.1.0 cs ≡ T → tables y.left.0 y.left.1.0 ps ns y.left.1.1.0 cs ≡ T
-    → x ≡ given x.reply (y.left.0, (y.left.1.0, (y.left.1.1.0, x.left.1.1.1)))
-by_references_and_book x y = by (λ (T : Tables). given x.reply (with_table T.references (T.book, x.left.1.1.1)))
+pub by_held : {Reply Rest : Type 0} {l : Lent} (x y : Given Reply (Lent × Rest)) → Same x.left.0 l → Same y.left.0 l → Unguided l
+    → given x.reply (tables_of x.left.0) ≡ given y.reply (tables_of y.left.0)
+    → given x.reply (held_of x.left.0) ≡ given y.reply (held_of y.left.0)
+by_held {Reply} {Rest} {l} x y s t u e =
+    ap₂ (λ (g h : List ℕ). given x.reply (record { tables = tables_of x.left.0; guide = g; pinguide = h })) (no_words _ _ s.guide_length u.references) (no_words _ _ s.pinguide_length u.pins)
+    ∙ ap (λ (z : Given Reply Tables). given z.reply (record { tables = z.left; guide = []; pinguide = [] })) e
+    ∙ sym (ap₂ (λ (g h : List ℕ). given y.reply (record { tables = tables_of y.left.0; guide = g; pinguide = h })) (no_words _ _ t.guide_length u.references) (no_words _ _ t.pinguide_length u.pins))
+
+pub by_outcome : {Rest : Type 0} {o : Outcome} (x y : Given Answer (Lent × Rest)) → leaves x.reply (tables_of x.left.0) ≡ o → leaves y.reply (tables_of y.left.0) ≡ o
+    → given x.reply (tables_of x.left.0) ≡ given y.reply (tables_of y.left.0)
+by_outcome x y = by (λ (o : Outcome). given o.answer o.left)

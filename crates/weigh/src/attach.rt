@@ -9,5 +9,5 @@ use book::Top;
 pub fn in_turn(closed: bool, top: Top) -> bool
     ensures { result ≡ attach_turn closed (top_is top) }
 {
-    !closed & crate::steps::is_empty(top)
+    !closed & top.is_none()
 }

@@ -15,10 +15,7 @@ use words::Handle;
 pub fn allows(closed: bool, top: Top) -> Result<(), Refusal>
     ensures { result ≡ passes (detach_refusal closed (top_is top)) }
 {
-    if closed | !crate::steps::is_attached(top) {
-        return Err(Refusal::OutOfStep);
-    }
-    Ok(())
+    crate::steps::in_step(closed, crate::steps::is_attached(top))
 }
 
 // Line number `line`, accepted.

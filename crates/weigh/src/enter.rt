@@ -1,6 +1,5 @@
 // N: whether it is refused. It has no findings.
-ghost use Rattle.std.specs.Prelude.{◌≡◌, ℕ, eqb};
-ghost use Rattle.words.specs.Lists.{any};
+ghost use Rattle.std.specs.Prelude.{◌≡◌};
 ghost use Rattle.lines.specs.Numbered.{passes};
 ghost use Rattle.book.specs.Threads.{top_is};
 ghost use Rattle.weigh.specs.Enter.{enter_turn, named_twice, env_fits, enter_room, enter_refusal};
@@ -23,19 +22,13 @@ fn env_fits(seen: EnterSight, env: Handle) -> bool
     ((seen.env == 0) | (seen.env == env)) & !seen.elsewhere
 }
 
-fn is_named(hs: &[Handle], h: Handle) -> bool
-    ensures { result ≡ any (λ (g : ℕ). eqb g h) hs.now }
-{
-    hs.contains(&h)
-}
-
 fn named_twice(hs: &[Handle]) -> bool
     ensures { result ≡ named_twice hs.now }
 {
     let mut left = hs;
     // Each handle is looked for in the rest behind it, which no chain hands out.
-    while let Some((&h, rest)) = left.split_first() {
-        if is_named(rest, h) {
+    while let Some((h, rest)) = left.split_first() {
+        if rest.contains(h) {
             return true;
         }
         left = rest;

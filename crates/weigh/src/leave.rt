@@ -16,10 +16,7 @@ use words::Handle;
 pub fn allows(closed: bool, top: Top) -> Result<(), Refusal>
     ensures { result ≡ passes (leave_refusal closed (top_is top)) }
 {
-    if closed | !crate::steps::is_native(top) {
-        return Err(Refusal::OutOfStep);
-    }
-    Ok(())
+    crate::steps::in_step(closed, crate::steps::is_native(top))
 }
 
 // Line number `line`, accepted.

@@ -1,9 +1,12 @@
 // The open item that a line wants on top of its thread's.
-ghost use Rattle.std.specs.Prelude.{◌≡◌, ◌||◌};
+ghost use Rattle.std.specs.Prelude.{◌≡◌, ◌&&◌, ◌||◌, not};
+ghost use Rattle.words.specs.Choice.{if_true◌then◌else◌};
 ghost use Rattle.history.specs.Items.{is_empty, is_native, is_attached, native_or_attached, is_call, is_call_of};
 ghost use Rattle.book.specs.Threads.{top_is};
+ghost use Rattle.lines.specs.Numbered.{passes};
 
 use book::{Item, Top};
+use lines::refusal::Refusal;
 
 // The most open items, and frames, of a thread.
 pub(crate) const DEEPEST: u32 = book::DEEPEST as u32;
@@ -43,17 +46,20 @@ pub(crate) fn may_enter(top: Top) -> bool
     matches!(item, Item::Call(_, _))
 }
 
-// A wants none.
-pub(crate) fn is_empty(top: Top) -> bool
-    ensures { result ≡ is_empty (top_is top) }
-{
-    top.is_none()
-}
-
 // D wants an attached item.
 pub(crate) fn is_attached(top: Top) -> bool
     ensures { result ≡ is_attached (top_is top) }
 {
     let Some(item) = top else { return false };
     matches!(item, Item::Attached)
+}
+
+// X and D are refused where the item that they want is not on top, and after Z.
+pub(crate) fn in_step(closed: bool, wanted: bool) -> Result<(), Refusal>
+    ensures { result ≡ passes (if_true not closed && wanted then 0 else 4) }
+{
+    if closed | !wanted {
+        return Err(Refusal::OutOfStep);
+    }
+    Ok(())
 }

@@ -2,5 +2,5 @@
 use Rattle.act.proofs.Calling.{tables_called}
 use Rattle.act.proofs.call.call.Goals as goal
 
-pub returns : goal.returns
-returns c = λ cs. tables_called _ _ _ _ _ cs _ _ _ _ _ _ _ _ _ _ _ c.end_references.ensures c.release.ensures c.write_book.ensures
+pub returns-clause-left : goal.returns-clause-left
+returns-clause-left c = λ led. tables_called _ _ _ _ _ _ _ _ _ _ _ c.delete.ensures.left (c.end_top.ensures.left (c.delete.ensures.led led)) c.release.ensures.left c.write_book.ensures

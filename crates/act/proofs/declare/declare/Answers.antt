@@ -2,5 +2,5 @@
 use Rattle.act.proofs.Whole.{declared}
 use Rattle.act.proofs.declare.declare.Goals as goal
 
-pub returns : goal.returns
-returns c = λ rs ms ps ns line n. declared rs ms ps ns _ _ _ _ line n _ _ c.declare.ensures c.count_line.ensures
+pub returns-clause-left : goal.returns-clause-left
+returns-clause-left c = λ line n. declared _ _ _ line n _ _ c.declare.ensures c.count_line.ensures

@@ -2,5 +2,5 @@
 use Rattle.act.proofs.Whole.{detached}
 use Rattle.act.proofs.detach.detach.Goals as goal
 
-pub returns : goal.returns
-returns c = λ ps ns cs line n. detached _ _ ps ns _ cs _ _ _ line n _ c.end_frames.ensures c.write_book.ensures
+pub returns-clause-left : goal.returns-clause-left
+returns-clause-left c = λ led line n. detached _ _ _ line n _ (c.end_frames.ensures.left led) c.write_book.ensures

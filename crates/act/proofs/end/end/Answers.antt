@@ -2,5 +2,5 @@
 use Rattle.act.proofs.Whole.{closed}
 use Rattle.act.proofs.end.end.Goals as goal
 
-pub returns : goal.returns
-returns c = λ rs ms ps ns cs line n. closed rs ms ps ns _ cs _ _ line n c.set_closed.ensures c.count_line.ensures
+pub returns-clause-left : goal.returns-clause-left
+returns-clause-left c = λ line n. closed _ _ _ line n c.set_closed.ensures c.count_line.ensures

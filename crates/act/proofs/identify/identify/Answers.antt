@@ -2,5 +2,5 @@
 use Rattle.act.proofs.Stating.{tables_identified}
 use Rattle.act.proofs.identify.identify.Goals as goal
 
-pub returns : goal.returns
-returns c = λ rs ms ps ns. tables_identified rs ms ps ns _ _ _ _ _ _ _ _ _ c.put.ensures c.count_line.ensures
+pub returns-clause-left : goal.returns-clause-left
+returns-clause-left c = tables_identified _ _ _ _ _ _ _ _ c.put.ensures c.count_line.ensures

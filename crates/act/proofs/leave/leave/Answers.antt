@@ -2,5 +2,5 @@
 use Rattle.act.proofs.Whole.{left}
 use Rattle.act.proofs.leave.leave.Goals as goal
 
-pub returns : goal.returns
-returns c = λ ps ns cs line n r. left _ _ ps ns _ cs _ _ _ line n _ r _ c.frames_left-d.ensures.0 c.end_frames.ensures c.write_book.ensures
+pub returns-clause-left : goal.returns-clause-left
+returns-clause-left c = λ led line n r. left _ _ _ line n _ r _ c.frames_left-d.ensures.0 (c.end_frames.ensures.left led) c.write_book.ensures

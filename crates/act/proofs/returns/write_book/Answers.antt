@@ -3,5 +3,5 @@ use mir.Facts.{to_z-of_z}
 use Rattle.act.proofs.Returning.{book_returned}
 use Rattle.act.proofs.returns.write_book.Goals as goal
 
-pub returns : goal.returns
-returns c = book_returned _ _ _ _ _ _ _ _ _ _ _ (to_z-of_z c.ranges.status) c.take_status.ensures c.set_pending.ensures c.count_line.ensures
+pub returns-clause-left : goal.returns-clause-left
+returns-clause-left c = book_returned _ _ _ _ _ _ _ _ _ _ (to_z-of_z c.ranges.status) c.take_status.ensures.left c.set_pending.ensures c.count_line.ensures

@@ -2,5 +2,5 @@
 use Rattle.act.proofs.Stating.{tables_stated}
 use Rattle.act.proofs.state.state.Goals as goal
 
-pub returns : goal.returns
-returns c = λ ps ns cs. tables_stated _ _ ps ns _ cs _ _ _ _ c.state.ensures c.count_line.ensures
+pub returns-clause-left : goal.returns-clause-left
+returns-clause-left c = tables_stated _ _ _ _ _ c.state.ensures.left c.count_line.ensures

@@ -1,15 +1,15 @@
 -- `events::attach::attach` meets its contract. Assumes nothing.
-use Rattle.events.proofs.Following.{attach_out, attach_stays, attach_goes}
-use Rattle.events.proofs.Outcomes.{given_back}
 use mathlib.Core.Path.{ap}
 use mathlib.Core.Bool.{not}
+use Rattle.events.proofs.Following.{attach_out, attach_stays, attach_goes}
+use Rattle.events.proofs.Outcomes.{given_back}
 use Rattle.events.proofs.attach.attach.Goals as goal
 
-pub returns-then-not-in_turn : goal.returns-then-not-in_turn
-returns-then-not-in_turn c = λ ps ns cs. attach_out _ _ _ _ _ _ _ _ c.is_closed.ensures c.in_turn.ensures (ap not c.if-not-in_turn.true)
+pub returns-then-not-in_turn-clause-outcome : goal.returns-then-not-in_turn-clause-outcome
+returns-then-not-in_turn-clause-outcome c = λ led. attach_out _ _ _ _ _ _ _ _ c.is_closed.ensures c.in_turn.ensures (ap not c.if-not-in_turn.true)
 
-pub returns-in_err-allows : goal.returns-in_err-allows
-returns-in_err-allows c = λ ps ns cs. attach_stays _ _ _ _ _ _ _ _ c.is_closed.ensures c.in_turn.ensures _ _ (ap not c.if-not-in_turn.false) (c.enter-seen.ensures ps ns cs) c.allows.ensures _ _ c.in_err-allows.was (given_back _ c.from_residual.ensures.1)
+pub returns-in_err-allows-clause-outcome : goal.returns-in_err-allows-clause-outcome
+returns-in_err-allows-clause-outcome c = λ led. attach_stays _ _ _ _ _ _ _ _ c.is_closed.ensures c.in_turn.ensures _ _ (ap not c.if-not-in_turn.false) (c.enter-seen.ensures led) c.allows.ensures _ _ c.in_err-allows.was (given_back _ c.from_residual.ensures.1)
 
-pub returns : goal.returns
-returns c = λ ps ns cs. attach_goes _ _ _ _ _ _ _ _ c.is_closed.ensures c.in_turn.ensures _ _ (ap not c.if-not-in_turn.false) (c.enter-seen.ensures ps ns cs) c.allows.ensures _ _ c.in_ok-allows.was c.none.ensures (c.enter.ensures ps ns cs)
+pub returns-clause-outcome : goal.returns-clause-outcome
+returns-clause-outcome c = λ led. attach_goes _ _ _ _ _ _ _ _ c.is_closed.ensures c.in_turn.ensures _ _ (ap not c.if-not-in_turn.false) (c.enter-seen.ensures led) c.allows.ensures _ _ c.in_ok-allows.was c.none.ensures (c.enter.ensures.left led)

@@ -6,38 +6,20 @@ use mir.Facts.{to_z-of_z}
 use Rattle.judge.proofs.Moving.{native_opened, native_closed, call_opened, call_closed, attached_opened, attached_closed, none_declared, none_stated, none_identified, none_at_end}
 use Rattle.judge.proofs.items.move_item.Goals as goal
 
-pub shape_of-book-in-Enter : goal.shape_of-book-in-Enter
-shape_of-book-in-Enter c = c.push_item.auto.book
-
 pub returns-in-Enter : goal.returns-in-Enter
 returns-in-Enter c = native_opened _ _ _ c.in-Enter.is c.push_item.ensures
-
-pub shape_of-book-in-Leave : goal.shape_of-book-in-Leave
-shape_of-book-in-Leave c = c.pop_item.auto.book
 
 pub returns-in-Leave : goal.returns-in-Leave
 returns-in-Leave c = native_closed _ _ _ c.in-Leave.is c.pop_item.ensures
 
-pub shape_of-book-in-Call : goal.shape_of-book-in-Call
-shape_of-book-in-Call c = c.push_item-in-Call.auto.book
-
 pub returns-in-Call : goal.returns-in-Call
 returns-in-Call c = call_opened _ _ _ _ (to_z-of_z {w = w32} {z = c.in-Call.n} (search rules)) c.in-Call.is c.above_zero.ensures c.push_item-in-Call.ensures
-
-pub shape_of-book-in-Return : goal.shape_of-book-in-Return
-shape_of-book-in-Return c = c.pop_item-in-Return.auto.book
 
 pub returns-in-Return : goal.returns-in-Return
 returns-in-Return c = call_closed _ _ _ c.in-Return.is c.pop_item-in-Return.ensures
 
-pub shape_of-book-in-Attach : goal.shape_of-book-in-Attach
-shape_of-book-in-Attach c = c.push_item-in-Attach.auto.book
-
 pub returns-in-Attach : goal.returns-in-Attach
 returns-in-Attach c = attached_opened _ _ _ c.in-Attach.is c.push_item-in-Attach.ensures
-
-pub shape_of-book-in-Detach : goal.shape_of-book-in-Detach
-shape_of-book-in-Detach c = c.pop_item-in-Detach.auto.book
 
 pub returns-in-Detach : goal.returns-in-Detach
 returns-in-Detach c = attached_closed _ _ _ c.in-Detach.is c.pop_item-in-Detach.ensures

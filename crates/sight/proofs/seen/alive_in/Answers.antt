@@ -4,10 +4,10 @@ use Rattle.sight.proofs.LeadLaws.{frame_held}
 use Rattle.sight.proofs.seen.alive_in.Goals as goal
 
 pub returns-then-t-eq0 : goal.returns-then-t-eq0
-returns-then-t-eq0 c = no_frame_counted _ _ _ c.if-t-eq0.true
+returns-then-t-eq0 c = λ led. no_frame_counted _ _ _ c.if-t-eq0.true
 
-pub returns-then-guide-t : goal.returns-then-guide-t
-returns-then-guide-t c = frame_counted _ _ _ _ c.if-t-eq0.false c.count.ensures
+pub returns-then-is_empty-t : goal.returns-then-is_empty-t
+returns-then-is_empty-t c = λ led. frame_counted _ _ _ _ c.if-t-eq0.false c.count.ensures
 
 pub returns : goal.returns
-returns c = frame_counted _ _ _ _ c.if-t-eq0.false (frame_held _ _ _ _ _ c.requires c.if-guide-t.false c.held.ensures)
+returns c = λ led. frame_counted _ _ _ _ c.if-t-eq0.false (frame_held _ _ _ _ _ _ c.is_empty.ensures led.references c.if-is_empty-t.false c.held.ensures)

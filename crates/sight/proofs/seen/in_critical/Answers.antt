@@ -4,10 +4,10 @@ use Rattle.sight.proofs.LeadLaws.{thread_held}
 use Rattle.sight.proofs.seen.in_critical.Goals as goal
 
 pub returns-then-t-eq0 : goal.returns-then-t-eq0
-returns-then-t-eq0 c = no_critical_found _ _ c.if-t-eq0.true
+returns-then-t-eq0 c = λ led. no_critical_found _ _ c.if-t-eq0.true
 
-pub returns-then-pinguide-t : goal.returns-then-pinguide-t
-returns-then-pinguide-t c = critical_found _ _ _ c.if-t-eq0.false c.outstanding.ensures
+pub returns-then-is_empty-t : goal.returns-then-is_empty-t
+returns-then-is_empty-t c = λ led. critical_found _ _ _ c.if-t-eq0.false c.outstanding.ensures
 
 pub returns : goal.returns
-returns c = critical_found _ _ _ c.if-t-eq0.false (thread_held _ _ _ _ c.requires c.if-pinguide-t.false c.held.ensures)
+returns c = λ led. critical_found _ _ _ c.if-t-eq0.false (thread_held _ _ _ _ _ c.is_empty.ensures led.pins c.if-is_empty-t.false c.held.ensures)

@@ -1,11 +1,11 @@
 -- `weigh::detach::allows` meets its contract. Assumes nothing.
-use mathlib.Core.Path.{ap}
+use mathlib.Core.Path.{ap, ◌∙◌}
+use mathlib.Core.Bool.{Bool, not, ◌&&◌}
+use Rattle.words.specs.Choice.{if_true◌then◌else◌}
 use Rattle.lines.specs.Numbered.{passes}
-use Rattle.weigh.proofs.LeaveLaws.{detach_4, detach_0}
+use Rattle.weigh.specs.Detach.{detach_refusal}
 use Rattle.weigh.proofs.detach.allows.Goals as goal
 
-pub returns-then-closed-is_attached : goal.returns-then-closed-is_attached
-returns-then-closed-is_attached c = ap passes (detach_4 _ _ _ c.is_attached.ensures c.if-closed-is_attached.true)
-
 pub returns : goal.returns
-returns c = ap passes (detach_0 _ _ _ c.is_attached.ensures c.if-closed-is_attached.false)
+unfolding detach_refusal
+returns c = c.in_step.ensures ∙ ap (λ (b : Bool). passes (if_true not c.args.closed && b then 0 else 4)) c.is_attached.ensures

@@ -1,11 +1,11 @@
 -- `weigh::leave::allows` meets its contract. Assumes nothing.
-use mathlib.Core.Path.{ap}
+use mathlib.Core.Path.{ap, ◌∙◌}
+use mathlib.Core.Bool.{Bool, not, ◌&&◌}
+use Rattle.words.specs.Choice.{if_true◌then◌else◌}
 use Rattle.lines.specs.Numbered.{passes}
-use Rattle.weigh.proofs.LeaveLaws.{leave_4, leave_0}
+use Rattle.weigh.specs.Leave.{leave_refusal}
 use Rattle.weigh.proofs.leave.allows.Goals as goal
 
-pub returns-then-closed-is_native : goal.returns-then-closed-is_native
-returns-then-closed-is_native c = ap passes (leave_4 _ _ _ c.is_native.ensures c.if-closed-is_native.true)
-
 pub returns : goal.returns
-returns c = ap passes (leave_0 _ _ _ c.is_native.ensures c.if-closed-is_native.false)
+unfolding leave_refusal
+returns c = c.in_step.ensures ∙ ap (λ (b : Bool). passes (if_true not c.args.closed && b then 0 else 4)) c.is_native.ensures

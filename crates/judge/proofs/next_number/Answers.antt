@@ -1,9 +1,0 @@
--- `judge::next_number` meets its contract. Assumes nothing.
-use native.Mathlib.Omega.{arith}
-use Rattle.judge.proofs.next_number.Goals as goal
-
-pub overflow_cast-result : goal.overflow_cast-result
-overflow_cast-result c = omega (arith, c.requires, c.lines_of.ensures)
-
-pub overflow_add-result : goal.overflow_add-result
-overflow_add-result c = omega (arith, c.requires, c.lines_of.ensures)
