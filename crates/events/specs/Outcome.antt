@@ -1,12 +1,13 @@
--- What a line is answered and what it leaves, all but the open items. Assumes nothing.
+-- What a line is answered and what it leaves; of a line's event all but the open items. Assumes nothing.
 use Rattle.std.specs.Prelude.{ℕ, Option}
 use Rattle.lines.specs.Line.{Line}
 use Rattle.history.specs.Items.{Item, asked}
 use Rattle.history.specs.Replies.{Reply, accepted, not_accepted}
-use Rattle.answers.specs.Answer.{Answer, refused_with, answer_of}
+use Rattle.answers.specs.Answer.{Answer, refused_with, answer_of, answered}
 use Rattle.tables.specs.Tables.{Tables}
 use Rattle.tables.specs.Weighing.{weighed_in}
 use Rattle.tables.specs.Acting.{acted}
+use Rattle.tables.specs.Stepping.{Stepped}
 
 -- an answer, and the tables that are left with it
 pub record Outcome : Type 0 where
@@ -15,6 +16,9 @@ pub record Outcome : Type 0 where
 
 abbrev pub leaves : Answer → Tables → Outcome
 leaves a T = record { answer = a; left = T }
+
+abbrev pub outcome : Stepped → Outcome
+outcome s = leaves (answered s.reply) s.left
 
 -- a refusal leaves all untouched; line number `line`, `n` was asked of the open call on top
 abbrev pub outcome_of : Reply → ℕ → Line → ℕ → Tables → Outcome

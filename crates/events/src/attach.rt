@@ -5,7 +5,7 @@ ghost use Rattle.book.specs.Threads.{top_is};
 ghost use Rattle.tables.specs.Lent.{tables_of, Same, Led};
 ghost use Rattle.events.specs.Outcome.{leaves, line_outcome};
 
-use crate::is_closed;
+use crate::{is_closed, told};
 use answers::{Answer, Findings};
 use book::Top;
 use lines::refusal::Refusal;
@@ -21,7 +21,7 @@ pub fn attach(lent: &mut Lent, top: Top, many: u32, line: u32, t: u32, env: Hand
     if !weigh::attach::in_turn(is_closed(lent), top) {
         return Err(Refusal::OutOfStep);
     }
-    let seen = sight::enter::enter(lent, t, env, &[]);
+    let seen = told::enter(lent, t, env, &[]);
     weigh::enter::allows(seen, many, env, &[])?;
     act::enter::enter(lent, line, t, env, &[]);
     Ok(Findings::none())

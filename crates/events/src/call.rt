@@ -5,7 +5,7 @@ ghost use Rattle.book.specs.Threads.{top_is};
 ghost use Rattle.tables.specs.Lent.{tables_of, Same, Led};
 ghost use Rattle.events.specs.Outcome.{leaves, line_outcome};
 
-use crate::is_closed;
+use crate::{is_closed, told};
 use answers::Answer;
 use book::Top;
 use tables::Lent;
@@ -29,7 +29,7 @@ pub fn call(
     ensures led { Led lent.old → Led lent.new }
 {
     weigh::call::allows(is_closed(lent), top, many)?;
-    let seen = sight::call::call(lent, t, f, a, b, c);
+    let seen = told::call(lent, t, f, a, b, c);
     let x = seen.a;
     let y = seen.b;
     let p = seen.pb;

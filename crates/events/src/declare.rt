@@ -5,7 +5,7 @@ ghost use Rattle.history.specs.Items.{Item};
 ghost use Rattle.tables.specs.Lent.{tables_of, Same, Led};
 ghost use Rattle.events.specs.Outcome.{leaves, line_outcome};
 
-use crate::is_closed;
+use crate::{is_closed, told};
 use answers::{Answer, Findings};
 use tables::Lent;
 
@@ -14,7 +14,7 @@ pub fn declare(lent: &mut Lent, c: u32, superclass: u32) -> Answer
     ensures same { Same lent.new lent.old }
     ensures led { Led lent.old → Led lent.new }
 {
-    let seen = sight::declare::declare(lent, c, superclass);
+    let seen = told::declare(lent, c, superclass);
     weigh::declare::allows(is_closed(lent), seen)?;
     act::declare::declare(lent, c, superclass);
     Ok(Findings::none())

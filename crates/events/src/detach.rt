@@ -5,7 +5,7 @@ ghost use Rattle.book.specs.Threads.{top_is};
 ghost use Rattle.tables.specs.Lent.{tables_of, Same, Led};
 ghost use Rattle.events.specs.Outcome.{leaves, line_outcome};
 
-use crate::is_closed;
+use crate::{is_closed, told};
 use answers::Answer;
 use book::Top;
 use tables::Lent;
@@ -17,7 +17,7 @@ pub fn detach(lent: &mut Lent, top: Top, line: u32, t: u32) -> Answer
     ensures led { Led lent.old → Led lent.new }
 {
     weigh::detach::allows(is_closed(lent), top)?;
-    let seen = sight::detach::detach(lent, t);
+    let seen = told::detach(lent, t);
     act::detach::detach(lent, t);
     Ok(weigh::detach::findings(seen, line))
 }

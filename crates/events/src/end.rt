@@ -5,7 +5,7 @@ ghost use Rattle.history.specs.Items.{Item};
 ghost use Rattle.tables.specs.Lent.{tables_of, Same, Led};
 ghost use Rattle.events.specs.Outcome.{leaves, line_outcome};
 
-use crate::is_closed;
+use crate::{is_closed, told};
 use answers::Answer;
 use lines::refusal::Refusal;
 use tables::Lent;
@@ -19,7 +19,7 @@ pub fn end(lent: &mut Lent, line: u32) -> Answer
     if is_closed(lent) {
         return Err(Refusal::OutOfStep);
     }
-    let seen = sight::end::end(lent);
+    let seen = told::end(lent);
     act::end::end(lent);
     Ok(weigh::end::findings(seen, line))
 }

@@ -5,7 +5,7 @@ ghost use Rattle.book.specs.Threads.{top_is};
 ghost use Rattle.tables.specs.Lent.{tables_of, Same, Led};
 ghost use Rattle.events.specs.Outcome.{leaves, line_outcome};
 
-use crate::is_closed;
+use crate::{is_closed, told};
 use answers::{Answer, Findings};
 use book::Top;
 use lines::refusal::Refusal;
@@ -29,7 +29,7 @@ pub fn enter(
     if !weigh::enter::in_turn(is_closed(lent), top) {
         return Err(Refusal::OutOfStep);
     }
-    let seen = sight::enter::enter(lent, t, env, hs);
+    let seen = told::enter(lent, t, env, hs);
     weigh::enter::allows(seen, many, env, hs)?;
     act::enter::enter(lent, line, t, env, hs);
     Ok(Findings::none())

@@ -5,7 +5,7 @@ ghost use Rattle.history.specs.Items.{Item};
 ghost use Rattle.tables.specs.Lent.{tables_of, Same, Led};
 ghost use Rattle.events.specs.Outcome.{leaves, line_outcome};
 
-use crate::is_closed;
+use crate::{is_closed, told};
 use answers::{Answer, Findings};
 use tables::Lent;
 use words::Handle;
@@ -22,7 +22,7 @@ pub fn identify(
     ensures same { Same lent.new lent.old }
     ensures led { Led lent.old → Led lent.new }
 {
-    let seen = sight::identify::identify(lent, x, c);
+    let seen = told::identify(lent, x, c);
     weigh::identify::allows(is_closed(lent), seen)?;
     act::identify::identify(lent, seen.place, x, sort, isstatic, isfinal);
     Ok(Findings::none())

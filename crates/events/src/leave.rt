@@ -5,7 +5,7 @@ ghost use Rattle.book.specs.Threads.{top_is};
 ghost use Rattle.tables.specs.Lent.{tables_of, Same, Led};
 ghost use Rattle.events.specs.Outcome.{leaves, line_outcome};
 
-use crate::is_closed;
+use crate::{is_closed, told};
 use answers::Answer;
 use book::Top;
 use tables::Lent;
@@ -18,7 +18,7 @@ pub fn leave(lent: &mut Lent, top: Top, line: u32, t: u32, res: Handle) -> Answe
     ensures led { Led lent.old → Led lent.new }
 {
     weigh::leave::allows(is_closed(lent), top)?;
-    let seen = sight::leave::leave(lent, t, res);
+    let seen = told::leave(lent, t, res);
     act::leave::leave(lent, t);
     Ok(weigh::leave::findings(seen, line, res))
 }

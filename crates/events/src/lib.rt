@@ -7,10 +7,13 @@ pub mod declare;
 pub mod detach;
 pub mod end;
 pub mod enter;
+pub mod heard;
 pub mod identify;
+pub mod items;
 pub mod leave;
 pub mod returns;
 pub mod state;
+mod told;
 
 ghost use Rattle.std.specs.Prelude.{◌≡◌};
 ghost use Rattle.book.specs.Threads.{closed_in};

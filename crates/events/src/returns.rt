@@ -7,7 +7,7 @@ ghost use Rattle.book.specs.Threads.{top_is};
 ghost use Rattle.tables.specs.Lent.{tables_of, Same, Led};
 ghost use Rattle.events.specs.Outcome.{leaves, line_outcome};
 
-use crate::is_closed;
+use crate::{is_closed, told};
 use answers::Answer;
 use book::{Item, Top};
 use lines::refusal::Refusal;
@@ -43,7 +43,7 @@ pub fn returns(
     if !weigh::returns::in_turn(is_closed(lent), f, top) {
         return Err(Refusal::OutOfStep);
     }
-    let seen = sight::returns::returns(lent, t, f, res);
+    let seen = told::returns(lent, t, f, res);
     weigh::returns::allows(seen, f, status == 0)?;
     let kind = seen.kind;
     let new = seen.made;

@@ -5,7 +5,7 @@ ghost use Rattle.history.specs.Items.{Item};
 ghost use Rattle.tables.specs.Lent.{tables_of, Same, Led};
 ghost use Rattle.events.specs.Outcome.{leaves, line_outcome};
 
-use crate::is_closed;
+use crate::{is_closed, told};
 use answers::{Answer, Findings};
 use tables::Lent;
 use words::Handle;
@@ -15,7 +15,7 @@ pub fn state(lent: &mut Lent, t: u32, h: Handle, c: u32) -> Answer
     ensures same { Same lent.new lent.old }
     ensures led { Led lent.old → Led lent.new }
 {
-    let seen = sight::state::state(lent, t, h, c);
+    let seen = told::state(lent, t, h, c);
     weigh::state::allows(is_closed(lent), seen)?;
     act::state::state(lent, seen.row, c);
     Ok(Findings::none())

@@ -20,9 +20,9 @@ use Rattle.rows.specs.Table.{table, cleared as rows_cleared}
 use Rattle.answers.specs.Answer.{Answer, refused_with}
 use Rattle.tables.specs.Tables.{Tables, tables}
 use Rattle.tables.specs.Stepping.{on_read, untouched, unfit_tables, step_of, start_of}
-use Rattle.events.specs.Outcome.{leaves}
+use Rattle.events.specs.Outcome.{leaves, outcome}
 use Rattle.events.proofs.Outcomes.{stopped, passed}
-use Rattle.judge.specs.Outcome.{outcome, step_outcome, by_tables}
+use Rattle.judge.specs.Outcome.{step_outcome, by_tables}
 
 module _ (T : Tables) (k : ℕ) (u s : Bool) (fit : u ≡ unfit T.book) (whole : s ≡ is_short T.classes) where
   told : (b : Bool) → (u || s) ≡ b → unfit_tables T ≡ b

@@ -1,4 +1,3 @@
 pub mod Reading
 pub mod ByTables
-pub mod Dispatch
 pub mod Moving

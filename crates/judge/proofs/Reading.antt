@@ -20,7 +20,7 @@ use Rattle.lines.proofs.Tests.{all4}
 use Rattle.lines.proofs.Numbered.{never}
 use Rattle.lines.proofs.RoundTrip.{read_exactly}
 use Rattle.lines.proofs.Meant.{meant_read}
-use Rattle.judge.specs.Event.{read_as, slots_named}
+use Rattle.events.specs.Event.{read_as, slots_named}
 
 only_said : (ok : Bool) (x e : Line) → (if_true ok then says x else refused 3) ≡ says e → says x ≡ says e
 only_said true x e h = h
@@ -97,6 +97,3 @@ pub few_slots : (bs : List ℕ) (ev : Event) → Ok ev ≡ event_of (read bs) �
 few_slots bs ev r =
     let l = line_of ev (read bs) r in
     subst (λ (v : Event). slots_named v ≤ most_handles) (sym l.2) (few_read bs l.0 l.1)
-
-pub few_named : (ev : Event) {t env n : ℕ} → slots_named ev ≤ most_handles → ev ≡ Event.Enter t env n → n ≤ most_handles
-few_named ev h p = subst (λ (v : Event). slots_named v ≤ most_handles) p h

@@ -1,3 +1,2 @@
 -- believed of any tables
 pub mod Outcome
-pub mod Event

@@ -1,27 +1,66 @@
 -- The event that the code makes of a line's numbers. Assumes nothing.
 use mathlib.Core.Path.{◌≡◌, refl, ap, sym, subst, ◌∙◌}
-use mathlib.Core.Bool.{Bool, true, false, true≢false}
+use mathlib.Core.Bool.{Bool, true, false, not, true≢false}
 use mathlib.Core.Logic.{◌≢◌}
 use mathlib.Core.List.{List, [], ◌∷◌, map}
 use Prim.Native.Nat.{ℕ, zero, suc, ◌+◌, ◌≤◌}
 use Prim.Native.Char.{code}
 use native.Mathlib.Omega.{arith}
-use lib.Dec.{eqb}
+use lib.Dec.{eqb, leb}
 use lib.IntN.{ℤ, pos}
 use lib.ListN.{length, get_or, take, length-take}
-use borrow.Author.Tests.{ne_eqb, eqb-true}
+use borrow.Author.Tests.{ne_eqb, eqb-true, leb-true}
 use Rattle.words.specs.Choice.{within}
-use Rattle.facts.specs.Table.{fact_of, is_function}
+use Rattle.facts.specs.Identities.{method, field}
+use Rattle.words.specs.Lists.{any}
+use Rattle.facts.specs.Table.{fact_of, is_function, first_function, last_function}
 use Rattle.numbers.specs.Signed.{signed, is_i32}
-use Rattle.lines.specs.Line.{K, O, M, Line, N, X, C, R, A, D, Z, states, is_allowed, is_thread, is_env, place_allows, capacity_allows, most_handles}
+use Rattle.lines.specs.Line.{K, O, M, Line, N, X, C, R, A, D, Z, states, is_allowed, is_thread, is_env, is_value, is_class, is_identity, is_sort, is_argument, place_allows, capacity_allows, result_allows, threads, classes, most_handles}
 use Rattle.lines.specs.Forms.{most_fields, no_place, of_letter}
 use Rattle.lines.specs.Reading.{says, refused, if_allowed, line_of}
 use Rattle.lines.specs.Sizes.{signed_at, numbers_in, right_count, line_in, named}
-use Rattle.lines.proofs.Tests.{all7}
+use Rattle.lines.proofs.Tests.{both, all3, all4, all5, all7}
 use Rattle.lines.proofs.Listed.{of_length}
-use Rattle.lines.proofs.Formed.{within_low, within_one, no_count}
+use Rattle.lines.proofs.Formed.{within_low, within_high, within_one, no_count}
 use Rattle.lines.proofs.Numbered.{enter_numbers}
 use Rattle.lines.proofs.RangeLaws.{capacity_i32}
+
+-- ---- the numbers that keep to 32 bits, all but the function
+
+abbrev pub Narrow : Line → Type 0
+Narrow (N t env hs) = t ≤ threads
+Narrow (X t r) = t ≤ threads
+Narrow (C t env f a b c n) = t ≤ threads
+Narrow (R t f r p) = (t ≤ threads) × (p ≤ 1)
+Narrow (A t env) = t ≤ threads
+Narrow (D t) = t ≤ threads
+Narrow Z = Unit
+Narrow (states (K c s)) = (c ≤ classes) × (s ≤ classes)
+Narrow (states (O t h c)) = (t ≤ threads) × (c ≤ classes)
+Narrow (states (M x sort c static final)) = (sort ≤ field) × (c ≤ classes) × (static ≤ 1) × (final ≤ 1)
+
+pub narrow : (e : Line) → is_allowed e ≡ true → Narrow e
+narrow (N t env hs) h = within_high 1 threads t (all4 (is_thread t) (is_env env) (leb (length hs) most_handles) (not (any (λ (x : ℕ). not (is_argument x)) hs)) h).0
+narrow (X t r) h = within_high 1 threads t (both (is_thread t) (is_value r) h).0
+narrow (C t env f a b c n) h =
+    within_high 1 threads t
+    (all7 (is_thread t) (is_env env) (is_function f) (place_allows (fact_of f).a a) (place_allows (fact_of f).b b) (place_allows (fact_of f).c c) (capacity_allows f n) h).0
+narrow (R t f r p) h =
+    let k = all4 (is_thread t) (is_function f) (result_allows (fact_of f).result r) (leb p 1) h in
+    (within_high 1 threads t k.0, leb-true p 1 k.3)
+narrow (A t env) h = within_high 1 threads t (both (is_thread t) (is_env env) h).0
+narrow (D t) h = within_high 1 threads t h
+narrow Z h = tt
+narrow (states (K c s)) h = let k = both (is_class c) (is_class s) h in (within_high 1 classes c k.0, within_high 1 classes s k.1)
+narrow (states (O t v c)) h =
+    let k = all3 (is_thread t) (is_value v) (is_class c) h in
+    (within_high 1 threads t k.0, within_high 1 classes c k.2)
+narrow (states (M x sort c static final)) h =
+    let k = all5 (is_identity x) (is_sort sort) (is_class c) (leb static 1) (leb final 1) h in
+    (within_high method field sort k.1, within_high 1 classes c k.2, leb-true static 1 k.3, leb-true final 1 k.4)
+
+pub narrow_function : (f : ℕ) → is_function f ≡ true → f ≤ last_function
+narrow_function f h = within_high first_function last_function f h
 
 -- ---- capacity and status are signed 32-bit numbers
 

@@ -1,5 +1,5 @@
 -- The findings of a line as they are printed, and a leak; the parts that the code prints one by one, and what it leaves of each. Assumes nothing.
-use Rattle.std.specs.Prelude.{ℕ, ◌+◌, ◌≤◌, ◌≡◌, Bool, List, [], ◌∷◌, ◌++◌, length, take}
+use Rattle.std.specs.Prelude.{ℕ, ◌+◌, ◌≤◌, ◌≡◌, Bool, List, [], ◌∷◌, ◌++◌, length, take, Ok, Err}
 use Rattle.words.specs.Lists.{joined}
 use Rattle.words.specs.Text.{bytes, tab, line_feed}
 use Rattle.numbers.specs.Decimal.{digits}
@@ -7,6 +7,7 @@ use Rattle.numbers.specs.Writing.{put}
 use Rattle.history.specs.Report.{shown_finding, word_for}
 use Rattle.history.specs.Leaks.{Leak}
 use Rattle.answers.specs.declared.Findings.{Findings}
+use Rattle.answers.specs.Answer.{Answer}
 
 -- at most six findings of four fields, of twenty digits and the byte after them at most
 abbrev pub most_shown : ℕ
@@ -14,6 +15,11 @@ most_shown = 504
 
 unfoldable pub shown_findings : Findings → List ℕ
 shown_findings a = joined (take a.count a.found) shown_finding
+
+-- a refusal has none
+abbrev pub shown_answer : Answer → List ℕ
+shown_answer (Ok f) = shown_findings f
+shown_answer (Err k) = []
 
 -- `leak`, and four fields
 abbrev pub longest_leak : ℕ

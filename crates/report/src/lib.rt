@@ -6,9 +6,9 @@ ghost use Rattle.numbers.specs.Decimal.{digits};
 ghost use Rattle.numbers.specs.Writing.{Puts};
 ghost use Rattle.history.specs.Report.{shown_finding, end_line};
 ghost use Rattle.history.specs.Leaks.{shown_leak};
-ghost use Rattle.report.specs.Shown.{most_shown, longest_leak, leak, shown_findings, field_with, three_fields, end_head, Fills};
+ghost use Rattle.report.specs.Shown.{most_shown, longest_leak, leak, shown_findings, shown_answer, field_with, three_fields, end_head, Fills};
 
-use answers::Findings;
+use answers::{Answer, Findings};
 use history::Finding;
 use lines::{LINE_FEED, TAB};
 use words::Handle;
@@ -84,8 +84,7 @@ fn listed(found: &[Finding; 6], count: usize) -> &[Finding]
     &found[..count.min(found.len())]
 }
 
-// How long the findings of a line are.
-pub fn findings_width(found: Findings) -> usize
+fn width_of(found: Findings) -> usize
     ensures { (result ≡ length (shown_findings found)) × (result ≤ most_shown) }
 {
     let mut w = 0;
@@ -93,6 +92,16 @@ pub fn findings_width(found: Findings) -> usize
         w += finding_width(*f);
     }
     w
+}
+
+// How long the findings of an answer are.
+pub fn findings_width(answer: Answer) -> usize
+    ensures { (result ≡ length (shown_answer answer)) × (result ≤ most_shown) }
+{
+    match answer {
+        Ok(found) => width_of(found),
+        Err(_) => 0,
+    }
 }
 
 // The findings of a line, where there is room; what is past them.
@@ -107,12 +116,23 @@ fn put_each(d: &mut [u8], from: usize, found: Findings) -> usize
     at
 }
 
-// Writes the findings of a line at a place; what is past them, or none where there is no room and nothing is written.
-pub fn put_findings(out: &mut [u8], at: usize, found: Findings) -> Option<usize>
-    ensures { Puts out.old at (shown_findings found) result out.new }
+// The findings of an answer, where there is room; what is past them.
+fn put_answer(d: &mut [u8], from: usize, answer: Answer) -> usize
+    requires { from + length (shown_answer answer) ≤ length d.old }
+    ensures { Fills d.old from (shown_answer answer) result d.new }
 {
-    if has_room(out.len(), at, findings_width(found)) {
-        Some(put_each(out, at, found))
+    match answer {
+        Ok(found) => put_each(d, from, found),
+        Err(_) => from,
+    }
+}
+
+// Writes the findings of an answer at a place; what is past them, or none where there is no room and nothing is written.
+pub fn put_findings(out: &mut [u8], at: usize, answer: Answer) -> Option<usize>
+    ensures { Puts out.old at (shown_answer answer) result out.new }
+{
+    if has_room(out.len(), at, findings_width(answer)) {
+        Some(put_answer(out, at, answer))
     } else {
         None
     }

@@ -20,7 +20,7 @@ use Rattle.rows.specs.Table.{Layout, Table, table, each, put_row, room, row_at, 
 use Rattle.rows.specs.View.{slot, view}
 use Rattle.rows.proofs.ScanLaws.{how_many_ext, lowest_at, lowest_ext, one_fails, not_all_pass}
 use Rattle.rows.proofs.BitLaws.{bit_of_zero}
-use Rattle.rows.proofs.SlotLaws.{length_each, getD_each, each_ext, each_set, each_same, count_each, place_each, put_is_set, wipe_first_is_set, change_first_is_set, said, of_first_is_said, freed, wipe_each, count_held, length_held, any_held}
+use Rattle.rows.proofs.SlotLaws.{length_each, getD_each, each_ext, each_set, each_same, count_each, place_each, put_is_set, wipe_first_is_set, change_first_is_set, said, of_first_is_said, freed, wipe_each, count_held, length_held, any_held, held_put}
 use Rattle.rows.proofs.RowLaws.{stored_out, changed_out, ended_out, slot_stored_same, slot_stored_other, slot_changed_same, slot_changed_other, slot_ended_same, slot_ended_other}
 
 -- ---- no function changes a length
@@ -47,6 +47,10 @@ module _ {A : Type 0} (L : Layout A) where
       go : (b : Bool) → SameLengths (if_true b then table (put_row L.stride T.rows r (L.numbers x)) (marked T.marks r) else T) T
       go true = unfold put_row marked in record { rows = length-sets T.rows _ (L.numbers x); marks = length-set T.marks _ _ }
       go false = record { rows = refl; marks = refl }
+
+  pub taken_lengths : (T : Table) (x : A) → SameLengths (taken L T x) T
+  unfolding taken
+  taken_lengths T x = stored_lengths T (free_row L T) x
 
   pub changed_lengths : (T : Table) (r : ℕ) (g : A → A) → SameLengths (changed L T r g) T
   unfolding changed
@@ -76,6 +80,10 @@ module _ {A : Type 0} (L : Layout A) where
   unfolding ended_from
   ended_from_lengths q T a zero = record { rows = refl; marks = refl }
   ended_from_lengths q T a (suc n) = lengths_trans (ended_if_lengths q (ended_from L q T a n) (a + n)) (ended_from_lengths q T a n)
+
+  pub ended_all_lengths : (q : A → Bool) (T : Table) → SameLengths (ended_all L q T) T
+  unfolding ended_all
+  ended_all_lengths q T = ended_from_lengths q T 0 (room L T)
 
   -- ---- a test of a row is a test of its slot
   pub length_view : (T : Table) → length (view L T) ≡ room L T
@@ -191,6 +199,11 @@ module _ {A : Type 0} (L : Layout A) where
   unfolding taken
   view_taken T x =
       view_stored T (free_row L T) x ∙ ap (λ (r : ℕ). set (view L T) r (Some x)) (free_row_view T) ∙ sym (put_is_set x (view L T))
+
+  pub alive_taken : (T : Table) (x : A) → free_row L T < room L T → alive L (taken L T x) ≡ suc (alive L T)
+  alive_taken T x h =
+      alive_view (taken L T x) ∙ ap (λ (s : List (Option A)). length (held s)) (view_taken T x)
+      ∙ held_put x (view L T) (omega (arith, free_row_view T, length_view T)) ∙ ap suc (sym (alive_view T))
 
   pub view_changed : (T : Table) (r : ℕ) (g : A → A) → view L (changed L T r g) ≡ set (view L T) r (option_map g (get_or (view L T) r None))
   view_changed T r g = go (dec_lt r (room L T))

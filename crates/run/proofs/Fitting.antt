@@ -31,7 +31,7 @@ use Rattle.tables.specs.Acting.{acted}
 use Rattle.tables.specs.Stepping.{follow, next_line, on_read, unfit_tables, step_of}
 use Rattle.demands.proofs.Next.{same_length}
 use Rattle.events.specs.Outcome.{Outcome, leaves}
-use Rattle.judge.specs.Event.{read_as, thread_named}
+use Rattle.events.specs.Event.{read_as, thread_named}
 use Rattle.judge.specs.Outcome.{step_outcome, by_tables}
 use Rattle.events.proofs.Outcomes.{passed}
 use Rattle.judge.proofs.Reading.{read_is}

@@ -96,8 +96,8 @@ fn put_found(out: &mut [u8], at: usize, found: Findings) -> usize
     if found.count == 0 {
         return 0;
     }
-    report::put_findings(out, at, found);
-    report::findings_width(found)
+    report::put_findings(out, at, Ok(found));
+    report::findings_width(Ok(found))
 }
 
 // After the answer to the line that came next: its findings stand behind those before them.

@@ -7,6 +7,7 @@ ghost use Rattle.run.specs.Fit.{FitBut};
 
 use crate::fit;
 use answers::Answer;
+use events::heard;
 use judge::items;
 use tables::Lent;
 
@@ -21,6 +22,6 @@ pub(crate) fn step(lent: &mut Lent, line: &[u8], touched: &mut u32) -> Answer
     fit::allows(lent, *touched)?;
     let mut handles = [0; 8];
     let event = lines::read_line(line, &mut handles)?;
-    *touched = items::thread_of(event);
-    judge::on_event(lent, event, handles)
+    *touched = items::thread_of(Ok(event));
+    heard::on_event(lent, event, handles)
 }

@@ -1,13 +1,14 @@
 // C: what its findings look at, and the rows that it may end.
 ghost use Rattle.std.specs.Prelude.{◌≡◌};
-ghost use Rattle.tables.specs.Lent.{tables_of, Led};
+ghost use Rattle.tables.specs.Looked.{table_of, with_all, RowsLed, PinsLed};
 ghost use Rattle.sight.specs.Sights.{call_sight};
 
 use crate::seen::in_critical;
 use crate::spot::{Spot, place};
 use facts::Place;
 use facts::classes::NO_CLASS;
-use tables::Lent;
+use rows::Number;
+use tables::Looked;
 use words::Handle;
 
 #[derive(Clone, Copy)]
@@ -25,21 +26,31 @@ pub struct CallSight {
     pub c: Spot,
 }
 
-pub fn call(lent: &Lent, t: u32, f: u32, a: Handle, b: Handle, c: Handle) -> CallSight
-    ensures { Led lent.now → result ≡ call_sight (tables_of lent.now) t f a b c }
+pub fn call(
+    references: Looked,
+    pins: Looked,
+    book: &[u64],
+    classes: &[Number],
+    t: u32,
+    f: u32,
+    a: Handle,
+    b: Handle,
+    c: Handle,
+) -> CallSight
+    ensures { RowsLed references.entry × PinsLed pins.entry → result ≡ call_sight (with_all (table_of references.entry) (table_of pins.entry) book.now classes.now) t f a b c }
 {
-    let env = book::env_of(lent.book, t);
-    let pending = book::pending_of(lent.book, t);
-    let monitors = book::monitors_of(lent.book, t);
-    let pushed = book::top_pushed(lent.book, t);
-    let critical = in_critical(lent, t);
+    let env = book::env_of(book, t);
+    let pending = book::pending_of(book, t);
+    let monitors = book::monitors_of(book, t);
+    let pushed = book::top_pushed(book, t);
+    let critical = in_critical(pins, t);
     let at = facts::places::places_of(f);
     let pa = at.a;
     let pb = at.b;
     let pc = at.c;
-    let at_a = place(lent, pa, at.first, t, f, a);
-    let at_b = place(lent, pb, at.second, t, f, b);
-    let at_c = place(lent, pc, NO_CLASS, t, f, c);
+    let at_a = place(references, pins, classes, pa, at.first, t, f, a);
+    let at_b = place(references, pins, classes, pb, at.second, t, f, b);
+    let at_c = place(references, pins, classes, pc, NO_CLASS, t, f, c);
     CallSight {
         env,
         pending,

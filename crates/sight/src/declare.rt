@@ -1,9 +1,10 @@
 // K: what its refusals look at.
-ghost use Rattle.std.specs.Prelude.{◌≡◌};
-ghost use Rattle.tables.specs.Lent.{tables_of};
+ghost use Rattle.std.specs.Prelude.{◌≡◌, List, ℕ};
+ghost use Rattle.rows.specs.Table.{Table};
+ghost use Rattle.tables.specs.Looked.{with_all};
 ghost use Rattle.sight.specs.Sights.{declare_sight};
 
-use tables::Lent;
+use rows::Number;
 
 // The class is declared or reserved already, and so is its super.
 #[derive(Clone, Copy)]
@@ -12,10 +13,10 @@ pub struct DeclareSight {
     pub under: bool,
 }
 
-pub fn declare(lent: &Lent, c: u32, superclass: u32) -> DeclareSight
-    ensures { result ≡ declare_sight (tables_of lent.now) c superclass }
+pub fn declare(classes: &[Number], c: u32, superclass: u32) -> DeclareSight
+    ensures { (R P : Table) (b : List ℕ) → result ≡ declare_sight (with_all R P b classes.now) c superclass }
 {
-    let known = classes::is_known(lent.classes, c);
-    let under = classes::is_known(lent.classes, superclass);
+    let known = classes::is_known(classes, c);
+    let under = classes::is_known(classes, superclass);
     DeclareSight { known, under }
 }

@@ -1,10 +1,11 @@
 // D: what its findings look at.
-ghost use Rattle.std.specs.Prelude.{◌≡◌};
-ghost use Rattle.tables.specs.Lent.{tables_of, Led};
+ghost use Rattle.std.specs.Prelude.{◌≡◌, List, ℕ};
+ghost use Rattle.rows.specs.Table.{Table};
+ghost use Rattle.tables.specs.Looked.{table_of, with_all, PinsLed};
 ghost use Rattle.sight.specs.Sights.{detach_sight};
 
 use crate::seen::in_critical;
-use tables::Lent;
+use tables::Looked;
 
 // The thread has a critical buffer outstanding; how many monitors it has.
 #[derive(Clone, Copy)]
@@ -13,10 +14,10 @@ pub struct DetachSight {
     pub monitors: u64,
 }
 
-pub fn detach(lent: &Lent, t: u32) -> DetachSight
-    ensures { Led lent.now → result ≡ detach_sight (tables_of lent.now) t }
+pub fn detach(pins: Looked, book: &[u64], t: u32) -> DetachSight
+    ensures { PinsLed pins.entry → (R : Table) (cs : List ℕ) → result ≡ detach_sight (with_all R (table_of pins.entry) book.now cs) t }
 {
-    let critical = in_critical(lent, t);
-    let monitors = book::monitors_of(lent.book, t);
+    let critical = in_critical(pins, t);
+    let monitors = book::monitors_of(book, t);
     DetachSight { critical, monitors }
 }

@@ -1,11 +1,12 @@
 // N: what its refusals look at.
-ghost use Rattle.std.specs.Prelude.{◌≡◌};
-ghost use Rattle.tables.specs.Lent.{tables_of, Led};
+ghost use Rattle.std.specs.Prelude.{◌≡◌, List, ℕ};
+ghost use Rattle.rows.specs.Table.{Table};
+ghost use Rattle.tables.specs.Looked.{table_of, with_all, RowsLed};
 ghost use Rattle.sight.specs.Sights.{some_alive, enter_sight};
 
 use crate::seen::used_rows;
 use crate::spot::looked_up;
-use tables::Lent;
+use tables::Looked;
 use words::Handle;
 
 // The thread's env, whether another thread has this one, whether a handle named is alive, how many rows are free, and the thread's frames.
@@ -18,21 +19,21 @@ pub struct EnterSight {
     pub frames: u32,
 }
 
-fn some_alive(lent: &Lent, t: u32, hs: &[Handle]) -> bool
-    ensures { Led lent.now → result ≡ some_alive (tables_of lent.now).references t hs.now }
+fn some_alive(references: Looked, t: u32, hs: &[Handle]) -> bool
+    ensures { RowsLed references.entry → result ≡ some_alive (table_of references.entry) t hs.now }
 {
-    hs.iter().any(|h| looked_up(lent, true, t, *h).there)
+    hs.iter().any(|h| looked_up(references, true, t, *h).there)
 }
 
-pub fn enter(lent: &Lent, t: u32, env: Handle, hs: &[Handle]) -> EnterSight
-    ensures { Led lent.now → result ≡ enter_sight (tables_of lent.now) t env hs.now }
+pub fn enter(references: Looked, book: &[u64], t: u32, env: Handle, hs: &[Handle]) -> EnterSight
+    ensures { RowsLed references.entry → (P : Table) (cs : List ℕ) → result ≡ enter_sight (with_all (table_of references.entry) P book.now cs) t env hs.now }
 {
-    let own = book::env_of(lent.book, t);
-    let elsewhere = book::env_elsewhere(lent.book, t, env);
-    let alive = some_alive(lent, t, hs);
-    let room = rows::references::room(lent.rows, lent.marks);
-    let used = used_rows(lent);
-    let frames = book::frames_of(lent.book, t);
+    let own = book::env_of(book, t);
+    let elsewhere = book::env_elsewhere(book, t, env);
+    let alive = some_alive(references, t, hs);
+    let room = rows::references::room(references.rows, references.marks);
+    let used = used_rows(references);
+    let frames = book::frames_of(book, t);
     EnterSight {
         env: own,
         elsewhere,

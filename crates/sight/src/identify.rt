@@ -1,9 +1,10 @@
 // M: what its refusals look at, and the place of the identity.
-ghost use Rattle.std.specs.Prelude.{◌≡◌};
-ghost use Rattle.tables.specs.Lent.{tables_of};
+ghost use Rattle.std.specs.Prelude.{◌≡◌, List, ℕ};
+ghost use Rattle.rows.specs.Table.{Table};
+ghost use Rattle.tables.specs.Looked.{with_all};
 ghost use Rattle.sight.specs.Sights.{identify_sight};
 
-use tables::Lent;
+use rows::Number;
 use words::Handle;
 
 // The class is declared or reserved, the place where the identity stands or can be put, and whether that is one of the room.
@@ -15,12 +16,12 @@ pub struct IdentifySight {
     pub fits: bool,
 }
 
-pub fn identify(lent: &Lent, x: Handle, c: u32) -> IdentifySight
-    ensures { result ≡ identify_sight (tables_of lent.now) x c }
+pub fn identify(classes: &[Number], x: Handle, c: u32) -> IdentifySight
+    ensures { (R P : Table) (b : List ℕ) → result ≡ identify_sight (with_all R P b classes.now) x c }
 {
-    let known = classes::is_known(lent.classes, c);
-    let place = classes::identities::place_of(lent.classes, x);
-    let room = classes::identities::room(lent.classes);
+    let known = classes::is_known(classes, c);
+    let place = classes::identities::place_of(classes, x);
+    let room = classes::identities::room(classes);
     IdentifySight {
         known,
         place,

@@ -1,11 +1,11 @@
 // X: what its findings look at.
-ghost use Rattle.std.specs.Prelude.{◌≡◌};
-ghost use Rattle.tables.specs.Lent.{tables_of, Led};
+ghost use Rattle.std.specs.Prelude.{◌≡◌, List, ℕ};
+ghost use Rattle.tables.specs.Looked.{table_of, with_all, RowsLed, PinsLed};
 ghost use Rattle.sight.specs.Sights.{leave_sight};
 
 use crate::seen::in_critical;
 use crate::spot::{Spot, handle};
-use tables::Lent;
+use tables::Looked;
 use words::Handle;
 
 #[derive(Clone, Copy)]
@@ -14,11 +14,11 @@ pub struct LeaveSight {
     pub result: Spot,
 }
 
-pub fn leave(lent: &Lent, t: u32, res: Handle) -> LeaveSight
-    ensures { Led lent.now → result ≡ leave_sight (tables_of lent.now) t res }
+pub fn leave(references: Looked, pins: Looked, t: u32, res: Handle) -> LeaveSight
+    ensures { RowsLed references.entry × PinsLed pins.entry → (b cs : List ℕ) → result ≡ leave_sight (with_all (table_of references.entry) (table_of pins.entry) b cs) t res }
 {
-    let critical = in_critical(lent, t);
-    let at = handle(lent, t, res);
+    let critical = in_critical(pins, t);
+    let at = handle(references, t, res);
     LeaveSight {
         critical,
         result: at,

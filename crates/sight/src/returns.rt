@@ -1,13 +1,13 @@
 // R: what its refusals and its finding look at, and the row that its result will take.
-ghost use Rattle.std.specs.Prelude.{◌≡◌};
-ghost use Rattle.tables.specs.Lent.{tables_of, Led};
+ghost use Rattle.std.specs.Prelude.{◌≡◌, List, ℕ};
+ghost use Rattle.tables.specs.Looked.{table_of, with_all, RowsLed};
 ghost use Rattle.sight.specs.Returns.{nothing_made, handle_made, buffer_made, made_sight, over_capacity, overflows_in, return_sight};
 
 use crate::seen::{alive_in, lowest_free};
 use crate::spot::looked_up;
 use facts::Result;
 use facts::results::{is_buffer_result, is_handle_result, is_local_result};
-use tables::Lent;
+use tables::Looked;
 use words::Handle;
 
 // What is made: whether it is alive already, the lowest free row of its table, and whether that is one of the room.
@@ -37,12 +37,12 @@ fn nothing_made() -> Made
     }
 }
 
-fn handle_made(lent: &Lent, local: bool, t: u32, h: Handle) -> Made
-    ensures { Led lent.now → result ≡ handle_made local (tables_of lent.now).references t h }
+fn handle_made(references: Looked, local: bool, t: u32, h: Handle) -> Made
+    ensures { RowsLed references.entry → result ≡ handle_made local (table_of references.entry) t h }
 {
-    let at = looked_up(lent, local, t, h);
-    let row = lowest_free(lent);
-    let room = rows::references::room(lent.rows, lent.marks);
+    let at = looked_up(references, local, t, h);
+    let row = lowest_free(references);
+    let room = rows::references::room(references.rows, references.marks);
     Made {
         alive: at.there,
         row,
@@ -50,11 +50,11 @@ fn handle_made(lent: &Lent, local: bool, t: u32, h: Handle) -> Made
     }
 }
 
-fn buffer_made(lent: &Lent) -> Made
-    ensures { result ≡ buffer_made (tables_of lent.now).pins }
+fn buffer_made(pins: Looked) -> Made
+    ensures { result ≡ buffer_made (table_of pins.entry) }
 {
-    let row = rows::pins::lowest_free(lent.pins, lent.pinmarks);
-    let room = rows::pins::room(lent.pins, lent.pinmarks);
+    let row = rows::pins::lowest_free(pins.rows, pins.marks);
+    let room = rows::pins::room(pins.rows, pins.marks);
     Made {
         alive: false,
         row,
@@ -62,47 +62,54 @@ fn buffer_made(lent: &Lent) -> Made
     }
 }
 
-fn what_is_made(lent: &Lent, kind: Result, t: u32, h: Handle) -> Made
-    ensures { Led lent.now → result ≡ made_sight (tables_of lent.now).references (tables_of lent.now).pins kind t h }
+fn what_is_made(references: Looked, pins: Looked, kind: Result, t: u32, h: Handle) -> Made
+    ensures { RowsLed references.entry → result ≡ made_sight (table_of references.entry) (table_of pins.entry) kind t h }
 {
     if h == 0 {
         return nothing_made();
     }
     if is_handle_result(kind) {
-        return handle_made(lent, is_local_result(kind), t, h);
+        return handle_made(references, is_local_result(kind), t, h);
     }
     if is_buffer_result(kind) {
-        return buffer_made(lent);
+        return buffer_made(pins);
     }
     nothing_made()
 }
 
 // One local more is more than the top frame's capacity.
-fn over_capacity(lent: &Lent, t: u32) -> bool
-    ensures { Led lent.now → result ≡ over_capacity (tables_of lent.now).references lent.now.book.now t }
+fn over_capacity(references: Looked, book: &[u64], t: u32) -> bool
+    ensures { RowsLed references.entry → result ≡ over_capacity (table_of references.entry) book.now t }
 {
-    let d = book::frames_of(lent.book, t);
-    let held = alive_in(lent, t, d) as u64;
-    (0 < d) & (book::top_capacity(lent.book, t) <= held)
+    let d = book::frames_of(book, t);
+    let held = alive_in(references, t, d) as u64;
+    (0 < d) & (book::top_capacity(book, t) <= held)
 }
 
 // A local that is made is more than the top frame's capacity.
-fn overflows(lent: &Lent, kind: Result, t: u32, h: Handle) -> bool
-    ensures { Led lent.now → result ≡ overflows_in (tables_of lent.now).references lent.now.book.now kind t h }
+fn overflows(references: Looked, book: &[u64], kind: Result, t: u32, h: Handle) -> bool
+    ensures { RowsLed references.entry → result ≡ overflows_in (table_of references.entry) book.now kind t h }
 {
     if is_local_result(kind) & (h != 0) {
-        return over_capacity(lent, t);
+        return over_capacity(references, book, t);
     }
     false
 }
 
-pub fn returns(lent: &Lent, t: u32, f: u32, h: Handle) -> ReturnSight
-    ensures { Led lent.now → result ≡ return_sight (tables_of lent.now) t f h }
+pub fn returns(
+    references: Looked,
+    pins: Looked,
+    book: &[u64],
+    t: u32,
+    f: u32,
+    h: Handle,
+) -> ReturnSight
+    ensures { RowsLed references.entry → (cs : List ℕ) → result ≡ return_sight (with_all (table_of references.entry) (table_of pins.entry) book.now cs) t f h }
 {
     let kind = facts::result_of(f);
-    let new = what_is_made(lent, kind, t, h);
-    let frames = book::frames_of(lent.book, t);
-    let over = overflows(lent, kind, t, h);
+    let new = what_is_made(references, pins, kind, t, h);
+    let frames = book::frames_of(book, t);
+    let over = overflows(references, book, kind, t, h);
     ReturnSight {
         kind,
         made: new,

@@ -6,10 +6,10 @@ ghost use Rattle.rows.specs.Pins.{pins, is_buffer};
 ghost use Rattle.history.specs.Handles.{in_frame};
 ghost use Rattle.history.specs.Buffers.{critical_of};
 ghost use Rattle.tables.specs.Tables.{handles_in, buffers_in};
-ghost use Rattle.tables.specs.Lent.{tables_of, Led};
+ghost use Rattle.tables.specs.Looked.{table_of, RowsLed, PinsLed};
 
 use rows::Number;
-use tables::Lent;
+use tables::Looked;
 use words::Handle;
 
 // The guides have a number for each frame to this one of each thread to this one.
@@ -18,20 +18,20 @@ const THREADS: u32 = 16;
 const FRAMES: u32 = 64;
 
 // The lowest row of handle h in thread t, or the room.
-pub(crate) fn row_of(lent: &Lent, t: u32, h: Handle) -> usize
-    ensures { Led lent.now → result ≡ found references (is_handle t h) (tables_of lent.now).references }
+pub(crate) fn row_of(rows: Looked, t: u32, h: Handle) -> usize
+    ensures { RowsLed rows.entry → result ≡ found references (is_handle t h) (table_of rows.entry) }
 {
-    guide::references::find(lent.rows, lent.marks, lent.guide, t as Number, h)
+    guide::references::find(rows.rows, rows.marks, rows.guide, t as Number, h)
 }
 
 // The lowest row of buffer b of family f, of thread t, or the room.
-pub(crate) fn pin_row_of(lent: &Lent, t: u32, f: u32, b: Handle) -> usize
-    ensures { Led lent.now → result ≡ found pins (is_buffer t f b) (tables_of lent.now).pins }
+pub(crate) fn pin_row_of(rows: Looked, t: u32, f: u32, b: Handle) -> usize
+    ensures { PinsLed rows.entry → result ≡ found pins (is_buffer t f b) (table_of rows.entry) }
 {
     guide::pins::find(
-        lent.pins,
-        lent.pinmarks,
-        lent.pinguide,
+        rows.rows,
+        rows.marks,
+        rows.guide,
         t as Number,
         f as Number,
         b,
@@ -39,44 +39,44 @@ pub(crate) fn pin_row_of(lent: &Lent, t: u32, f: u32, b: Handle) -> usize
 }
 
 // How many locals are alive in a frame of the thread.
-pub(crate) fn alive_in(lent: &Lent, t: u32, d: u32) -> usize
-    ensures { Led lent.now → result ≡ handles_in (tables_of lent.now).references (in_frame t d) }
+pub(crate) fn alive_in(rows: Looked, t: u32, d: u32) -> usize
+    ensures { RowsLed rows.entry → result ≡ handles_in (table_of rows.entry) (in_frame t d) }
 {
     if t == 0 {
         return 0;
     }
-    if lent.guide.is_empty() | (THREADS < t) | (FRAMES < d) {
-        return rows::references::count(lent.rows, lent.marks, t as Number, d as Number);
+    if rows.guide.is_empty() | (THREADS < t) | (FRAMES < d) {
+        return rows::references::count(rows.rows, rows.marks, t as Number, d as Number);
     }
-    guide::references::held(lent.guide, t as Number, d as Number) as usize
+    guide::references::held(rows.guide, t as Number, d as Number) as usize
 }
 
 // How many rows are used.
-pub(crate) fn used_rows(lent: &Lent) -> usize
-    ensures { Led lent.now → result ≡ alive references (tables_of lent.now).references }
+pub(crate) fn used_rows(rows: Looked) -> usize
+    ensures { RowsLed rows.entry → result ≡ alive references (table_of rows.entry) }
 {
-    if lent.guide.is_empty() {
-        return rows::references::alive(lent.rows, lent.marks);
+    if rows.guide.is_empty() {
+        return rows::references::alive(rows.rows, rows.marks);
     }
-    guide::references::used(lent.guide) as usize
+    guide::references::used(rows.guide) as usize
 }
 
 // The lowest free row, or the room.
-pub(crate) fn lowest_free(lent: &Lent) -> usize
-    ensures { Led lent.now → result ≡ free_row references (tables_of lent.now).references }
+pub(crate) fn lowest_free(rows: Looked) -> usize
+    ensures { RowsLed rows.entry → result ≡ free_row references (table_of rows.entry) }
 {
-    guide::references::lowest_free(lent.rows, lent.marks, lent.guide)
+    guide::references::lowest_free(rows.rows, rows.marks, rows.guide)
 }
 
 // A critical buffer of the thread is outstanding.
-pub(crate) fn in_critical(lent: &Lent, t: u32) -> bool
-    ensures { Led lent.now → result ≡ ltb 0 (buffers_in (tables_of lent.now).pins (critical_of t)) }
+pub(crate) fn in_critical(rows: Looked, t: u32) -> bool
+    ensures { PinsLed rows.entry → result ≡ ltb 0 (buffers_in (table_of rows.entry) (critical_of t)) }
 {
     if t == 0 {
         return false;
     }
-    if lent.pinguide.is_empty() | (THREADS < t) {
-        return rows::pins::outstanding(lent.pins, lent.pinmarks, t as Number);
+    if rows.guide.is_empty() | (THREADS < t) {
+        return rows::pins::outstanding(rows.rows, rows.marks, t as Number);
     }
-    0 < guide::pins::held(lent.pinguide, t as Number)
+    0 < guide::pins::held(rows.guide, t as Number)
 }

@@ -1,10 +1,12 @@
 // O: what its refusals look at, and the row of the handle.
-ghost use Rattle.std.specs.Prelude.{◌≡◌};
-ghost use Rattle.tables.specs.Lent.{tables_of, Led};
+ghost use Rattle.std.specs.Prelude.{◌≡◌, List, ℕ};
+ghost use Rattle.rows.specs.Table.{Table};
+ghost use Rattle.tables.specs.Looked.{table_of, with_all, RowsLed};
 ghost use Rattle.sight.specs.Sights.{state_sight};
 
 use crate::spot::handle;
-use tables::Lent;
+use rows::Number;
+use tables::Looked;
 use words::Handle;
 
 // The class is declared or reserved, the handle is alive for the thread, and its row.
@@ -16,11 +18,11 @@ pub struct StateSight {
     pub row: usize,
 }
 
-pub fn state(lent: &Lent, t: u32, h: Handle, c: u32) -> StateSight
-    ensures { Led lent.now → result ≡ state_sight (tables_of lent.now) t h c }
+pub fn state(references: Looked, classes: &[Number], t: u32, h: Handle, c: u32) -> StateSight
+    ensures { RowsLed references.entry → (P : Table) (b : List ℕ) → result ≡ state_sight (with_all (table_of references.entry) P b classes.now) t h c }
 {
-    let known = classes::is_known(lent.classes, c);
-    let at = handle(lent, t, h);
+    let known = classes::is_known(classes, c);
+    let at = handle(references, t, h);
     StateSight {
         known,
         alive: at.there,

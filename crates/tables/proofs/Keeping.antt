@@ -1,6 +1,8 @@
 -- Lent rows and their guide: the guide stays one as a row is stored in both, and ended in both. Assumes nothing.
 use mathlib.Core.Path.{◌≡◌, refl, sym, ap, subst, ◌∙◌}
-use mathlib.Core.Bool.{true, false≢true}
+use mathlib.Core.Bool.{Bool, true, false≢true}
+use borrow.Author.Tests.{eqb-true}
+use lib.Dec.{eqb}
 use mathlib.Core.List.{List}
 use Rattle.std.specs.Prelude.{Option, None, Some}
 use Prim.Native.Nat.{ℕ, ◌≤◌, ◌<◌}
@@ -99,6 +101,10 @@ state_led T S G r c (by_guide g) e = by_guide (subst (λ (X : Table). Guides X G
 
 pub lowest_led : (T : Table) (G : List ℕ) (r : ℕ) → Leads T G → r ≡ free_from references T (get_or G low_at 0) → r ≡ free_row references T
 lowest_led T G r g e = e ∙ leads_free T G g
+
+-- where there are no words nothing is led astray, whatever the rows
+pub unguided_leads : (T S : Table) (G : List ℕ) (o : Bool) → Leads T G → o ≡ eqb (length G) 0 → o ≡ true → Leads S G
+unguided_leads T S G o leads e y = scans (eqb-true (length G) 0 (sym e ∙ y))
 
 -- where there are words they are a guide
 pub guide_led : (T : Table) (G : List ℕ) → Leads T G → (length G ≡ 0 → ⊥) → Guides T G

@@ -36,8 +36,12 @@ fn take_row(rows: &mut [Number], marks: &mut [u64], guide: &mut [u64], row: Refe
     ensures left { Leads (table rows.old marks.old) guide.old → table rows.new marks.new ≡ taken references (table rows.old marks.old) row }
     ensures led { Leads (table rows.old marks.old) guide.old → Leads (table rows.new marks.new) guide.new }
 {
-    let r = guide::references::lowest_free(rows, marks, guide);
-    store_row(rows, marks, guide, r, row);
+    if !guide.is_empty() {
+        let r = guide::references::lowest_free(rows, marks, guide);
+        store_row(rows, marks, guide, r, row);
+    } else {
+        rows::references::take(rows, marks, row);
+    }
 }
 
 // Takes the lowest free row.

@@ -19,3 +19,11 @@ pub struct Lent<'a> {
     pub book: &'a mut [u64],
     pub classes: &'a mut [Number],
 }
+
+// A sort of rows as they are looked at, with their guide, which is empty where rows are found by scans. Who looks at rows that he may not write has these.
+#[derive(Clone, Copy)]
+pub struct Looked<'a> {
+    pub rows: &'a [Number],
+    pub marks: &'a [u64],
+    pub guide: &'a [u64],
+}

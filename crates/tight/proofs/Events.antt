@@ -1,12 +1,17 @@
 -- That the promises of a line of each event are tight. Assumes nothing.
-use Rattle.std.specs.Prelude.{None, ⊤}
+use mathlib.Core.List.{[]}
+use Rattle.std.specs.Prelude.{None, ⊤, ◌≤◌, ◌<◌}
 use lib.IntN.{pos}
+use Rattle.lines.specs.Line.{most_handles}
+use Rattle.history.specs.Replies.{most_lines}
+use Rattle.book.specs.Threads.{lines_in}
 use Rattle.tables.specs.Lent.{tables_of, Led, Unguided}
 use Rattle.tables.proofs.Lending.{unguided_led}
+use Rattle.events.specs.Event.{slots_named}
 use Rattle.events.proofs as events
 use Rattle.events.specs.contracts as of_events
 use Rattle.tight.specs.Tight.{Tight, TightBut, held_of}
-use Rattle.tight.proofs.Shapes.{by_reply, by_outcome, by_held}
+use Rattle.tight.proofs.Shapes.{by_reply, by_slice, by_outcome, by_held}
 
 pub attach_tight : TightBut of_events.attach.attach.ended (λ κs args w. tables_of w.0) (λ κs args. Led args.0.now) events.attach.attach.Reads.Asked events.attach.attach.Reads.Learnt
 attach_tight κs args = (tt, λ led x y p q. by_outcome x y (p.0 led) (q.0 led))
@@ -70,3 +75,15 @@ state_tight κs args = (tt, λ led x y p q. by_outcome x y (p.0 led 0 None 0) (q
 
 pub state_unguided : TightBut of_events.state.state.ended (λ κs args w. held_of w.0) (λ κs args. Unguided args.0.now) events.state.state.Reads.Asked events.state.state.Reads.Learnt
 state_unguided κs args = (tt, λ u x y p q. by_held x y p.1.0 q.1.0 u ((state_tight κs args).1 (unguided_led u) x y p q))
+
+pub thread_of_tight : Tight of_events.items.thread_of.ended events.items.thread_of.Reads.Asked events.items.thread_of.Reads.Learnt
+thread_of_tight κs args = (tt, by_reply)
+
+pub move_item_tight : Tight of_events.items.move_item.ended events.items.move_item.Reads.Asked events.items.move_item.Reads.Learnt
+move_item_tight κs args = (tt, λ x y p q. by_slice x y (p []) (q []))
+
+pub on_event_tight : TightBut of_events.heard.on_event.ended (λ κs args w. tables_of w.0) (λ κs args. Led args.0.now × (lines_in args.0.now.book.now < most_lines) × (slots_named args.1.0 ≤ most_handles)) events.heard.on_event.Reads.Asked events.heard.on_event.Reads.Learnt
+on_event_tight κs args = (tt, λ fit x y p q. by_outcome x y (p.0 fit.0 fit.1 fit.2) (q.0 fit.0 fit.1 fit.2))
+
+pub on_event_unguided : TightBut of_events.heard.on_event.ended (λ κs args w. held_of w.0) (λ κs args. Unguided args.0.now × (lines_in args.0.now.book.now < most_lines) × (slots_named args.1.0 ≤ most_handles)) events.heard.on_event.Reads.Asked events.heard.on_event.Reads.Learnt
+on_event_unguided κs args = (tt, λ u x y p q. by_held x y p.1.0 q.1.0 u.0 ((on_event_tight κs args).1 (unguided_led u.0, u.1, u.2) x y p q))

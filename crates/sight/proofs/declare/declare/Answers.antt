@@ -3,4 +3,4 @@ use Rattle.sight.proofs.SightLaws.{declare_seen}
 use Rattle.sight.proofs.declare.declare.Goals as goal
 
 pub returns : goal.returns
-returns c = declare_seen _ _ _ _ _ c.is_known-known.ensures c.is_known-under.ensures
+returns c = λ R P b. declare_seen _ _ _ _ _ c.is_known-known.ensures c.is_known-under.ensures

@@ -3,4 +3,4 @@ use Rattle.sight.proofs.SightLaws.{end_seen}
 use Rattle.sight.proofs.end.end.Goals as goal
 
 pub returns : goal.returns
-returns c = end_seen _ _ _ _ c.buffers-out.ensures c.monitors-held.ensures c.handles-alive.ensures
+returns c = λ cs. end_seen _ _ _ _ c.buffers-out.ensures c.monitors-held.ensures c.handles-alive.ensures

@@ -10,4 +10,4 @@ pub returns-then-is_empty-t : goal.returns-then-is_empty-t
 returns-then-is_empty-t c = λ led. frame_counted _ _ _ _ c.if-t-eq0.false c.count.ensures
 
 pub returns : goal.returns
-returns c = λ led. frame_counted _ _ _ _ c.if-t-eq0.false (frame_held _ _ _ _ _ _ c.is_empty.ensures led.references c.if-is_empty-t.false c.held.ensures)
+returns c = λ led. frame_counted _ _ _ _ c.if-t-eq0.false (frame_held _ _ _ _ _ _ c.is_empty.ensures led c.if-is_empty-t.false c.held.ensures)

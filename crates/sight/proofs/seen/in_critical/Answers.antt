@@ -10,4 +10,4 @@ pub returns-then-is_empty-t : goal.returns-then-is_empty-t
 returns-then-is_empty-t c = λ led. critical_found _ _ _ c.if-t-eq0.false c.outstanding.ensures
 
 pub returns : goal.returns
-returns c = λ led. critical_found _ _ _ c.if-t-eq0.false (thread_held _ _ _ _ _ c.is_empty.ensures led.pins c.if-is_empty-t.false c.held.ensures)
+returns c = λ led. critical_found _ _ _ c.if-t-eq0.false (thread_held _ _ _ _ _ c.is_empty.ensures led c.if-is_empty-t.false c.held.ensures)

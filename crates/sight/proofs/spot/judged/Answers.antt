@@ -3,7 +3,7 @@ use Rattle.sight.proofs.SpotLaws.{unjudged_at, judged_at}
 use Rattle.sight.proofs.spot.judged.Goals as goal
 
 pub returns-then-fixed-at : goal.returns-then-fixed-at
-returns-then-fixed-at c = λ led. unjudged_at _ _ _ _ _ (c.handle-at.ensures led) c.if-fixed-at.true
+returns-then-fixed-at c = λ led P b. unjudged_at _ _ _ _ _ (c.handle-at.ensures led P b _) c.if-fixed-at.true
 
 pub returns : goal.returns
-returns c = λ led. judged_at _ _ _ _ _ (c.handle-at.ensures led) _ _ c.if-fixed-at.false c.class_at-stated.ensures c.fits-fits.ensures
+returns c = λ led P b. judged_at _ _ _ _ _ (c.handle-at.ensures led P b _) _ _ c.if-fixed-at.false c.class_at-stated.ensures c.fits-fits.ensures

@@ -1,7 +1,7 @@
--- `judge::on_event` meets its contract. Assumes nothing.
+-- `events::heard::on_event` meets its contract. Assumes nothing.
 use Rattle.events.proofs.Outcomes.{given_back}
-use Rattle.judge.proofs.Moving.{said_accepted, said_refused}
-use Rattle.judge.proofs.on_event.Goals as goal
+use Rattle.events.proofs.Moving.{said_accepted, said_refused}
+use Rattle.events.proofs.heard.on_event.Goals as goal
 
 pub returns-in_err-found-clause-outcome : goal.returns-in_err-found-clause-outcome
 returns-in_err-found-clause-outcome c = λ led room few.

@@ -11,8 +11,8 @@ use Rattle.lines.specs.declared.Event.{Event}
 use Rattle.history.specs.Items.{Item}
 use Rattle.tables.specs.Tables.{Tables}
 use Rattle.events.specs.Outcome.{Outcome, line_outcome}
-use Rattle.judge.specs.Event.{read_as}
-use Rattle.judge.specs.Outcome.{read_outcome, event_outcome}
+use Rattle.events.specs.Event.{read_as}
+use Rattle.events.specs.Heard.{read_outcome, event_outcome}
 
 module _ (line : ℕ) (ev : Event) (hs : List ℕ) (top : Option Item) (many : ℕ) (T : Tables) (o : Outcome) where
   of_read : {r : Event} → ev ≡ r → o ≡ read_outcome line (read_as r hs) top many T → o ≡ event_outcome line ev hs top many T

@@ -1,10 +1,10 @@
--- `judge::items::move_item` meets its contract. Assumes nothing.
+-- `events::items::move_by` meets its contract. Assumes nothing.
 use mir.Syntax.{w32}
 use borrow.Author.Rules.{rules}
 use mathlib.Core.Path.{refl}
 use mir.Facts.{to_z-of_z}
-use Rattle.judge.proofs.Moving.{native_opened, native_closed, call_opened, call_closed, attached_opened, attached_closed, none_declared, none_stated, none_identified, none_at_end}
-use Rattle.judge.proofs.items.move_item.Goals as goal
+use Rattle.events.proofs.Moving.{native_opened, native_closed, call_opened, call_closed, attached_opened, attached_closed, none_declared, none_stated, none_identified, none_at_end}
+use Rattle.events.proofs.items.move_by.Goals as goal
 
 pub returns-in-Enter : goal.returns-in-Enter
 returns-in-Enter c = native_opened _ _ _ c.in-Enter.is c.push_item.ensures

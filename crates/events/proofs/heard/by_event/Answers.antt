@@ -1,4 +1,4 @@
--- `judge::by_event` meets its contract. Assumes nothing.
+-- `events::heard::by_event` meets its contract. Assumes nothing.
 use mir.Syntax.{w32}
 use borrow.Author.Rules.{rules}
 use native.Mathlib.Omega.{arith}
@@ -10,9 +10,9 @@ use Rattle.lines.specs.Line.{N}
 use Rattle.book.specs.Threads.{top_is}
 use Rattle.tables.specs.Lent.{tables_of}
 use Rattle.events.specs.Outcome.{line_outcome}
-use Rattle.judge.proofs.Reading.{few_named}
-use Rattle.judge.proofs.Dispatch.{of_enter, of_leave, of_call, of_return, of_attach, of_detach, of_declare, of_state, of_identify, of_end}
-use Rattle.judge.proofs.by_event.Goals as goal
+use Rattle.events.proofs.Few.{few_named}
+use Rattle.events.proofs.Dispatch.{of_enter, of_leave, of_call, of_return, of_attach, of_detach, of_declare, of_state, of_identify, of_end}
+use Rattle.events.proofs.heard.by_event.Goals as goal
 
 pub returns-in-Enter-clause-outcome : goal.returns-in-Enter-clause-outcome
 returns-in-Enter-clause-outcome c = λ led few.

@@ -1,4 +1,4 @@
--- `report::findings_width` meets its contract. The loop keeps that the bytes counted and those to come are all of them. Assumes nothing.
+-- `report::width_of` meets its contract. The loop keeps that the bytes counted and those to come are all of them. Assumes nothing.
 use mathlib.Core.Path.{ap}
 use native.Mathlib.Omega.{arith}
 use lib.ListN.{length}
@@ -6,7 +6,7 @@ use Rattle.words.specs.Lists.{joined}
 use Rattle.history.specs.Report.{shown_finding}
 use Rattle.report.specs.Shown.{shown_findings}
 use Rattle.report.proofs.Parts.{rest_end}
-use Rattle.report.proofs.findings_width.Goals as goal
+use Rattle.report.proofs.width_of.Goals as goal
 
 pub returns : goal.returns
 unfolding shown_findings

@@ -1,9 +1,11 @@
 -- What an event that was read and its slots stand for. Assumes nothing.
-use Rattle.std.specs.Prelude.{ℕ, List, take}
+use Rattle.std.specs.Prelude.{ℕ, List, take, Result, Ok, Err}
 use Rattle.lines.specs.Line.{N, X, C, R, A, D, Z, K, O, M, states}
 use Rattle.lines.specs.Reading.{Read, says, refused}
 use Rattle.lines.specs.Events.{result_in_line}
+use Rattle.lines.specs.Numbered.{number_of}
 use Rattle.lines.specs.declared.Event.{Event}
+use Rattle.lines.specs.declared.refusal.Refusal.{Refusal}
 use Rattle.tables.specs.Acting.{items_moved}
 
 abbrev pub read_as : Event → List ℕ → Read
@@ -43,6 +45,15 @@ slots_named (Event.Declare c s) = 0
 slots_named (Event.State t h c) = 0
 slots_named (Event.Identify x sort c static final) = 0
 slots_named Event.End = 0
+
+-- what was read, or was refused
+abbrev pub thread_read : Result Event Refusal → ℕ
+thread_read (Ok x) = thread_named x
+thread_read (Err k) = 0
+
+abbrev pub read_from : Result Event Refusal → List ℕ → Read
+read_from (Ok x) hs = read_as x hs
+read_from (Err k) hs = refused (number_of k)
 
 -- the open items after what was read
 abbrev pub items_after : Read → List ℕ → List ℕ

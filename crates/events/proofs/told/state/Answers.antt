@@ -1,0 +1,11 @@
+-- `events::told::state` meets its contract. Assumes nothing.
+use mathlib.Core.Path.{ap, ◌∙◌}
+use Rattle.rows.specs.Table.{Table}
+use Rattle.tables.specs.Lent.{tables_of, with_references}
+use Rattle.tables.proofs.Lending.{rows_led}
+use Rattle.sight.specs.Sights.{state_sight}
+use Rattle.events.proofs.told.state.Goals as goal
+
+pub returns : goal.returns
+returns c = λ led. c.state.ensures (rows_led led c.references.ensures) _ _
+    ∙ ap (λ (R : Table). state_sight (with_references (tables_of c.args.lent.now) R) c.args.t c.args.h c.args.c) c.references.ensures.0
