@@ -1,4 +1,4 @@
-// A line of each event: weighed, and where it is accepted, what it does. Its thread's open items are told, and left as they are.
+// A line of each event: weighed, and where it is accepted, what it does. `heard` tells it its thread's open items, which it leaves as they are, and moves them when it was accepted.
 #![tactic(auto)]
 
 pub mod attach;
